@@ -1,0 +1,12 @@
+pub mod Carry
+pub mod Exponent
+pub mod Jam
+pub mod Nearest
+pub mod Order
+pub mod Pack
+pub mod Patterns
+pub mod Reading
+pub mod RootLaws
+pub mod RootValues
+pub mod Rounding
+pub mod Sums

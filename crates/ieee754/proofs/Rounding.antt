@@ -1,0 +1,112 @@
+-- What `round` sees of a number n over 2 ^ (u + low f): its digits as far down as half of the last one that it keeps, and below them only whether all are 0. So a number that was cut short by `jam` rounds as
+-- the whole number does, provided enough digits are kept. In n's own scale the format's smallest value is 2 ^ u. Assumes nothing.
+use mathlib.Core.Path.{_≡_, sym, ap, _∙_, subst}
+use mathlib.Core.Logic.{_↔_, _⊎_, inl, inr, ⊎-elim}
+use Prim.Native.Nat.{ℕ, suc, _+_, _-_, _*_, _/_, _%_, _^_, _≤_, _<_, min}
+use native.Mathlib.Nat.{lt-of-lt-of-le, mul-assoc, mul-comm, mul-pos, div-lt-iff-lt-mul, div-add-mod', mod-lt, add-mul, zero-mul, pow-succ', suc-add}
+use native.Mathlib.Omega.{arith}
+use mathlib.Core.Bool.{Bool}
+use lib.Arith.{lt-one}
+use lib.Pow.{pow-add, pow-pos, pow-mono, shr-lt, shl-lt, high}
+use lib.Ieee.{Format, prec, low, size, units, round}
+use lib.Ieee.Digits.{size-lt, size-le}
+use lib.Ieee.Fits.{round-is}
+use lib.Ieee.Nearest.{closest, closest-same, div-same}
+use Rattle.ieee754.specs.inner.Jam.{jam}
+use Rattle.ieee754.proofs.Jam.{jam-is, jam-exact}
+use Rattle.ieee754.proofs.Nearest.{closest-sees}
+use Rattle.ieee754.proofs.Order.{lt-or-ge}
+
+-- ---- how many digits a number has once some are cut off
+pub size-shr : (n j : ℕ) → size (n / 2 ^ j) ≡ size n - j
+size-shr n j =
+    let m = n / 2 ^ j in
+    let a : m < 2 ^ (size n - j) = shr-lt (size n - j) j (lt-of-lt-of-le (size-lt n) (pow-mono (omega arith))) in
+    let b : n < 2 ^ (size m + j) = subst (λ (x : ℕ). n < x) (sym (pow-add 2 (size m) j)) (div-lt-iff-lt-mul (pow-pos j) .0 (size-lt m)) in
+    omega (arith, size-le m (size n - j) a, size-le n (size m + j) b)
+
+-- a number of no less than 2 ^ j has more than j digits
+pub size-gt : (n j : ℕ) → 2 ^ j ≤ n → j < size n
+size-gt n j h = ⊎-elim (λ (l : j < size n). l) (λ (g : size n ≤ j). absurd (let a = size-lt n in let b = pow-mono g in omega arith)) (lt-or-ge j (size n))
+
+-- ---- `round` in n's own scale
+
+-- how many digits of n / 2 ^ u the format drops
+abbrev pub dropped : Format → ℕ → ℕ → ℕ
+dropped f u n = size (n / 2 ^ u) - prec f
+
+pub round-at : (f : Format) (s : Bool) (u n : ℕ) → round f s n (2 ^ (u + low f)) ≡ units f s (closest n (2 ^ (u + dropped f u n))) (dropped f u n)
+round-at f s u n =
+    let l = low f in
+    let d = dropped f u n in
+    let e : n * 2 ^ l * 2 ^ u ≡ n * 2 ^ (u + l) = mul-assoc n (2 ^ l) (2 ^ u) ∙ ap (λ (x : ℕ). n * x) (mul-comm (2 ^ l) (2 ^ u) ∙ sym (pow-add 2 u l)) in
+    let k : size (n * 2 ^ l / 2 ^ (u + l)) - prec f ≡ d = ap (λ (x : ℕ). size x - prec f) (div-same (n * 2 ^ l) (2 ^ (u + l)) n (2 ^ u) (pow-pos (u + l)) (pow-pos u) e) in
+    let g : n * 2 ^ l * 2 ^ (u + d) ≡ n * (2 ^ (u + l) * 2 ^ d) = ap (λ (x : ℕ). n * 2 ^ l * x) (pow-add 2 u d) ∙ sym (mul-assoc (n * 2 ^ l) (2 ^ u) (2 ^ d)) ∙ ap (λ (x : ℕ). x * 2 ^ d) e ∙ mul-assoc n (2 ^ (u + l)) (2 ^ d) in
+    round-is f s n (2 ^ (u + l))
+    ∙ ap (λ (z : ℕ). units f s (closest (n * 2 ^ l) (2 ^ (u + l) * 2 ^ z)) z) k
+    ∙ ap (λ (z : ℕ). units f s z d) (closest-same (n * 2 ^ l) (2 ^ (u + l) * 2 ^ d) n (2 ^ (u + d)) (mul-pos (pow-pos (u + l)) (pow-pos d)) (pow-pos (u + d)) g)
+
+-- ---- a number whose digits from 2 ^ g on are h
+
+-- enough digits are known: 2 ^ g is below the smallest value, or h has more digits than the format
+abbrev Enough : Format → ℕ → ℕ → ℕ → Type 0
+Enough f u g h = (g < u) ⊎ (2 ^ prec f ≤ h)
+
+-- then h alone says how many are dropped, and half of the last one that is kept is 2 ^ g or more
+dropped-block : (f : Format) (u g h r : ℕ) → r < 2 ^ g → Enough f u g h → dropped f u (h * 2 ^ g + r) ≡ size h + g - u - prec f
+dropped-block f u g h r l k =
+    let n = h * 2 ^ g + r in
+    let a = size-shr n u in
+    let b : size h ≡ size n - g = ap size (sym (high h g l)) ∙ size-shr n g in
+    ⊎-elim (λ (x : g < u). omega arith) (λ (x : 2 ^ prec f ≤ h). omega (arith, size-gt h (prec f) x)) k
+
+half-unit : (f : Format) (u g h : ℕ) → Enough f u g h → suc (u + (size h + g - u - prec f) - suc g) + g ≡ u + (size h + g - u - prec f)
+half-unit f u g h k = ⊎-elim (λ (x : g < u). omega arith) (λ (x : 2 ^ prec f ≤ h). omega (arith, size-gt h (prec f) x)) k
+
+-- two such numbers round alike, if the rest of both is 0 or of neither
+pub round-sees : (f : Format) (s : Bool) (u g h r t : ℕ) → r < 2 ^ g → t < 2 ^ g → ((r ≡ 0) ↔ (t ≡ 0)) → Enough f u g h → round f s (h * 2 ^ g + r) (2 ^ (u + low f)) ≡ round f s (h * 2 ^ g + t) (2 ^ (u + low f))
+round-sees f s u g h r t l m z k = at r l ∙ ap (λ (x : ℕ). units f s x d) same ∙ sym (at t m)
+  where
+    d : ℕ
+    d = size h + g - u - prec f
+
+    at : (x : ℕ) → x < 2 ^ g → round f s (h * 2 ^ g + x) (2 ^ (u + low f)) ≡ units f s (closest (h * 2 ^ g + x) (2 ^ (u + d))) d
+    at x y = round-at f s u (h * 2 ^ g + x) ∙ ap (λ (e : ℕ). units f s (closest (h * 2 ^ g + x) (2 ^ (u + e))) e) (dropped-block f u g h x y k)
+
+    same : closest (h * 2 ^ g + r) (2 ^ (u + d)) ≡ closest (h * 2 ^ g + t) (2 ^ (u + d))
+    same = subst (λ (e : ℕ). closest (h * 2 ^ g + r) (2 ^ e) ≡ closest (h * 2 ^ g + t) (2 ^ e)) (half-unit f u g h k) (closest-sees (u + d - suc g) g h r t l m z)
+
+-- ---- the sticky law: a number that was cut short rounds as the whole number
+
+-- a number is 0 exactly if its mark is, whatever the two count
+marked : (r a b : ℕ) → 0 < a → 0 < b → (r * a ≡ 0) ↔ (min 1 r * b ≡ 0)
+marked r a b A B =
+    ⊎-elim (λ (l : r < 1). let z = lt-one l in (λ x. rw z (zero-mul b), λ x. rw z (zero-mul a)))
+    (λ (g : 1 ≤ r). (
+      λ x. let p = mul-pos g A in omega arith,
+      λ x. let p : 0 < min 1 r * b = mul-pos (omega arith) B in omega arith,
+    )) (lt-or-ge r 1)
+
+cut-short : (f : Format) (s : Bool) (u e k n : ℕ) → Enough f u (suc k + e) (n / 2 ^ suc k) → round f s (jam k n * 2 ^ (k + e)) (2 ^ (u + low f)) ≡ round f s (n * 2 ^ e) (2 ^ (u + low f))
+cut-short f s u e k n x =
+    let h = n / 2 ^ suc k in
+    let r = n % 2 ^ suc k in
+    let full : h * 2 ^ (suc k + e) + r * 2 ^ e ≡ n * 2 ^ e = rw (pow-add 2 (suc k) e, ← mul-assoc h (2 ^ suc k) (2 ^ e), ← add-mul (h * 2 ^ suc k) r (2 ^ e), div-add-mod' n (2 ^ suc k)) in
+    let short : h * 2 ^ (suc k + e) + min 1 r * 2 ^ (k + e) ≡ jam k n * 2 ^ (k + e) = rw (suc-add k e, pow-succ' 2 (k + e), ← mul-assoc h 2 (2 ^ (k + e)), ← add-mul (h * 2) (min 1 r) (2 ^ (k + e)), jam-is k n) in
+    let small : min 1 r * 2 ^ (k + e) < 2 ^ (suc k + e) = subst (λ (y : ℕ). min 1 r * 2 ^ (k + e) < 2 ^ y) (omega arith) (shl-lt {a = min 1 r} 1 (k + e) (omega arith)) in
+    ap (λ (y : ℕ). round f s y (2 ^ (u + low f))) (sym short)
+    ∙ sym (round-sees f s u (suc k + e) h (r * 2 ^ e) (min 1 r * 2 ^ (k + e)) (shl-lt (suc k) e (mod-lt n (pow-pos (suc k)))) small (marked r (2 ^ e) (2 ^ (k + e)) (pow-pos e) (pow-pos (k + e))) x)
+    ∙ ap (λ (y : ℕ). round f s y (2 ^ (u + low f))) full
+
+-- what is cut off lies below half of the smallest value; or two digits more than the format has are left; or nothing is cut off
+pub data Kept (f : Format) (u e k n : ℕ) : Type 0 where
+  fine : suc k + e < u → Kept f u e k n
+  long : 2 ^ suc (prec f) ≤ jam k n → Kept f u e k n
+  exact : n % 2 ^ suc k ≡ 0 → Kept f u e k n
+
+pub round-jam : (f : Format) (s : Bool) (u e k n : ℕ) → Kept f u e k n → round f s (jam k n * 2 ^ (k + e)) (2 ^ (u + low f)) ≡ round f s (n * 2 ^ e) (2 ^ (u + low f))
+round-jam f s u e k n (fine x) = cut-short f s u e k n (inl x)
+round-jam f s u e k n (long x) = cut-short f s u e k n (inr (omega (arith, jam-is k n, pow-succ' 2 (prec f))))
+round-jam f s u e k n (exact x) =
+    ap (λ (y : ℕ). round f s y (2 ^ (u + low f)))
+    (ap (λ (y : ℕ). jam k n * y) (pow-add 2 k e) ∙ sym (mul-assoc (jam k n) (2 ^ k) (2 ^ e)) ∙ ap (λ (y : ℕ). y * 2 ^ e) (jam-exact k n x))

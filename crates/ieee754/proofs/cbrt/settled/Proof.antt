@@ -1,0 +1,104 @@
+-- `settled` meets its contract: the cubes say on which side of q - 1 / 2 and q + 1 / 2 the root lies. Assumes nothing.
+use Prim.Native.Nat.{ℕ, _+_, _-_, _*_, _^_, _≤_, _<_}
+use mathlib.Core.Path.{_≡_, ap, _∙_, sym}
+use native.Mathlib.Nat.{le-trans, le-of-eq, lt-of-le-of-lt}
+use native.Mathlib.Omega.{arith}
+use borrow.Author.Needs.{needs}
+use Rattle.ieee754.specs.inner.Nearest.{IsNearest, cubeTop}
+use Rattle.ieee754.proofs.cbrt.Cubes.{nearest-cube}
+use Rattle.ieee754.proofs.cbrt.settled.Statement.{statement}
+use Rattle.ieee754.proofs.cbrt.settled.Tie as tie
+
+-- from what two calls of `cube_top` gave
+between : (n q : ℕ) {a b x y : ℕ} → a ≡ cubeTop x → b ≡ cubeTop y → x ≡ 2 * q - 1 → y ≡ 2 * q + 1 → a < n → n ≤ b → IsNearest 3 (n * 2 ^ 104) q
+between n q e f g h l r = nearest-cube n q (lt-of-le-of-lt (le-of-eq (sym (e ∙ ap cubeTop g))) l) (le-trans r (le-of-eq (f ∙ ap cubeTop h)))
+
+mul-cube-top : tie.Need-mul-cube-top
+mul-cube-top c = search needs
+
+add-cube-top : tie.Need-add-cube-top
+add-cube-top c = search needs
+
+cube-top-requires : tie.Need-cube-top-requires
+cube-top-requires c κs = search needs
+
+mul-cube-top-2 : tie.Need-mul-cube-top-2
+mul-cube-top-2 c = search needs
+
+add-cube-top-2 : tie.Need-add-cube-top-2
+add-cube-top-2 c = search needs
+
+cube-top-requires-2 : tie.Need-cube-top-requires-2
+cube-top-requires-2 c κs = search needs
+
+add-result : tie.Need-add-result
+add-result c = search needs
+
+returns : tie.Need-returns
+returns c =
+    λ _.
+    let s = c .before .before .before .before in
+    between (s .args .n) (s .args .q + 1) (c .before .before .before .cube-top .ensures) (c .before .cube-top2 .ensures) (omega arith) (omega arith) (c .before .before .if1 .taken) (c .if2 .taken)
+
+returns-2 : tie.Need-returns-2
+returns-2 c = search needs
+
+mul-cube-top-3 : tie.Need-mul-cube-top-3
+mul-cube-top-3 c = search needs
+
+sub-cube-top : tie.Need-sub-cube-top
+sub-cube-top c = search needs
+
+cube-top-requires-3 : tie.Need-cube-top-requires-3
+cube-top-requires-3 c κs = search needs
+
+returns-3 : tie.Need-returns-3
+returns-3 c =
+    λ _.
+    let s = c .before .before .before .before in
+    between (s .args .n) (s .args .q) (c .before .cube-top3 .ensures) (c .before .before .before .cube-top .ensures) (omega arith) (omega arith) (c .if3 .taken) (c .before .before .if1 .left)
+
+mul-cube-top-4 : tie.Need-mul-cube-top-4
+mul-cube-top-4 c = omega (arith, c .before .before .before .before .pre)
+
+sub-cube-top-2 : tie.Need-sub-cube-top-2
+sub-cube-top-2 c = omega (arith, c .before .before .before .before .pre)
+
+cube-top-requires-4 : tie.Need-cube-top-requires-4
+cube-top-requires-4 c κs = omega (arith, c .before .before .before .before .pre)
+
+sub-result : tie.Need-sub-result
+sub-result c = omega (arith, c .before .before .before .before .before .before .pre)
+
+returns-4 : tie.Need-returns-4
+returns-4 c =
+    λ _.
+    let s = c .before .before .before .before .before .before in
+    between (s .args .n) (s .args .q - 1) (c .before .cube-top4 .ensures) (c .before .before .before .cube-top3 .ensures) (omega (arith, s .pre)) (omega (arith, s .pre)) (c .if4 .taken) (c .before .before .if3 .left)
+
+returns-5 : tie.Need-returns-5
+returns-5 c = search needs
+
+pub settled-spec : {M : Type 1} → statement M
+settled-spec =
+    tie.close
+    (tie.spec
+    mul-cube-top
+    add-cube-top
+    cube-top-requires
+    mul-cube-top-2
+    add-cube-top-2
+    cube-top-requires-2
+    add-result
+    returns
+    returns-2
+    mul-cube-top-3
+    sub-cube-top
+    cube-top-requires-3
+    returns-3
+    mul-cube-top-4
+    sub-cube-top-2
+    cube-top-requires-4
+    sub-result
+    returns-4
+    returns-5)

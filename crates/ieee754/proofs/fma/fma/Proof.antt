@@ -1,0 +1,85 @@
+-- `ieee754::fma` meets its contract: what is left beside `fma_finite` are the definition's clauses for infinities and NaNs. Assumes nothing.
+use borrow.Author.Needs.{needs}
+use mathlib.Core.Path.{_≡_, refl, sym, _∙_, subst}
+use mathlib.Core.Logic.{⊎-elim}
+use mathlib.Core.Bool.{Bool, true, false, not, _&&_}
+use lib.Dec.{T}
+use lib.Ieee.{Float, nan, inf, fin, binary64, add, mul}
+use lib.Ieee.Scale.{finite}
+use Rattle.ieee754.specs.Fma.{fma}
+use Rattle.ieee754.proofs.fma.fma.Statement.{statement}
+use Rattle.ieee754.proofs.fma.fma.Tie as tie
+
+-- an addend that is not finite
+addend : (x y z : Float) → T (finite x) → T (finite y) → T (not (finite z)) → z ≡ fma x y z
+unfolding fma
+addend nan y z a b c = absurd a
+addend (inf s) y z a b c = absurd a
+addend (fin s m e) nan z a b c = absurd b
+addend (fin s m e) (inf t) z a b c = absurd b
+addend (fin s m e) (fin t n d) nan a b c = refl
+addend (fin s m e) (fin t n d) (inf u) a b c = refl
+addend (fin s m e) (fin t n d) (fin u k g) a b c = absurd c
+
+-- a factor that is not finite
+factor : (x y z : Float) → T (not (finite x && finite y)) → add binary64 (mul binary64 x y) z ≡ fma x y z
+unfolding fma mul add
+factor nan y z a = refl
+factor (inf s) y z a = refl
+factor (fin s m e) nan z a = refl
+factor (fin s m e) (inf t) z a = refl
+factor (fin s m e) (fin t n d) z a = absurd a
+
+-- what a call of `is_finite` answered, r
+yes-finite : {r b : Bool} → r ≡ b → r ≡ true → T b
+yes-finite e t = subst T (sym t ∙ e) tt
+
+no-finite : {r b : Bool} → r ≡ b → r ≡ false → T (not b)
+no-finite e t = subst (λ (b : Bool). T (not b)) (sym t ∙ e) tt
+
+first : (a b : Bool) → T (not a) → T (not (a && b))
+first true b h = absurd h
+first false b h = tt
+
+second : (a b : Bool) → T (not b) → T (not (a && b))
+second true b h = h
+second false b h = tt
+
+is-finite-requires : tie.Need-is-finite-requires
+is-finite-requires c κs = search needs
+
+is-finite-requires-2 : tie.Need-is-finite-requires-2
+is-finite-requires-2 c κs = search needs
+
+is-finite-requires-3 : tie.Need-is-finite-requires-3
+is-finite-requires-3 c κs = search needs
+
+-- what is known where all three were asked
+x-finite : (c : tie.After-is-finite3) → T (finite (c .before .before .before .before .before .args .x))
+x-finite c = yes-finite (c .before .before .before .before .is-finite .ensures) (c .before .before .before .if1 .taken)
+
+y-finite : (c : tie.After-is-finite3) → T (finite (c .before .before .before .before .before .args .y))
+y-finite c = yes-finite (c .before .before .is-finite2 .ensures) (c .before .if2 .taken)
+
+fma-finite-requires : tie.Need-fma-finite-requires
+fma-finite-requires c κs = (x-finite (c .before), (y-finite (c .before), yes-finite (c .before .is-finite3 .ensures) (c .if3 .taken)))
+
+returns : tie.Need-returns
+returns c = search needs
+
+returns-2 : tie.Need-returns-2
+returns-2 c =
+    let s = c .before .before .before .before .before .before in
+    addend (s .args .x) (s .args .y) (s .args .z) (x-finite (c .before)) (y-finite (c .before)) (no-finite (c .before .is-finite3 .ensures) (c .if3 .left))
+
+returns-3 : tie.Need-returns-3
+returns-3 c =
+    let s = c .before .before in
+    let x = s .args .x in
+    let y = s .args .y in
+    factor x y (s .args .z)
+    (⊎-elim (λ w. second (finite x) (finite y) (no-finite (w .1 .ensures) (w .2 .left)))
+    (λ w. first (finite x) (finite y) (no-finite (c .before .is-finite .ensures) (w .left))) (c .if1 .came))
+
+pub fma-spec : {M : Type 1} → statement M
+fma-spec = tie.close (tie.spec is-finite-requires is-finite-requires-2 is-finite-requires-3 fma-finite-requires returns returns-2 returns-3)

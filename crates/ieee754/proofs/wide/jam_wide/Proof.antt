@@ -1,0 +1,69 @@
+-- `ieee754::wide::jam_wide` meets its contract: a cut of less than a word, and a cut of a word and then of the rest. Assumes nothing.
+use borrow.Author.Needs.{needs}
+use mathlib.Core.Path.{_≡_, sym, ap, _∙_, subst}
+use Prim.Native.Nat.{ℕ, _+_, _-_, _*_, _/_, _%_, _^_, _≤_, _<_}
+use native.Mathlib.Nat.{add-sub-of-le}
+use native.Mathlib.Omega.{arith}
+use mir.Syntax.{w64}
+use mir.Val.{Fits}
+use mir.Facts.{fits-bits}
+use Rattle.ieee754.specs.inner.Jam.{jam}
+use Rattle.ieee754.proofs.Jam.{jam-none, jam-jam, jam-words, jam-word-lt}
+use Rattle.ieee754.proofs.wide.jam_wide.Statement.{statement}
+use Rattle.ieee754.proofs.wide.jam_wide.Tie as tie
+
+whole : (k n : ℕ) → k ≡ 0 → n ≡ jam k n
+whole k n e = sym (ap (λ (x : ℕ). jam x n) e ∙ jam-none n)
+
+-- r is the low word cut short
+low-fits : (k h l r : ℕ) → k < 64 → l < 2 ^ 64 → r ≡ jam k l → Fits w64 (h * 2 ^ (64 - k) % 2 ^ 64 + r)
+low-fits k h l r b c e = fits-bits 64 tt (subst (λ (x : ℕ). h * 2 ^ (64 - k) % 2 ^ 64 + x < 2 ^ 64) (sym e) (jam-word-lt 64 (64 - k) k (omega arith) (omega arith) h l c))
+
+words : (k h l r : ℕ) → k < 64 → r ≡ jam k l → h / 2 ^ k * 2 ^ 64 + (h * 2 ^ (64 - k) % 2 ^ 64 + r) ≡ jam k (h * 2 ^ 64 + l)
+words k h l r b e = ap (λ (x : ℕ). h / 2 ^ k * 2 ^ 64 + (h * 2 ^ (64 - k) % 2 ^ 64 + x)) e ∙ jam-words 64 (64 - k) k (omega arith) (omega arith) h l
+
+-- r is the high word t, with the mark of the low one, cut short
+top : (k n t r : ℕ) → 64 ≤ k → t ≡ jam 64 n → r ≡ jam (k - 64) t → 0 * 2 ^ 64 + r ≡ jam k n
+top k n t r b d e = omega (arith, e, ap (jam (k - 64)) d, jam-jam 64 (k - 64) n, ap (λ (x : ℕ). jam x n) (add-sub-of-le b))
+
+shr-t7 : tie.Need-shr-t7
+shr-t7 c = search needs
+
+sub-t8 : tie.Need-sub-t8
+sub-t8 c = search needs
+
+shl-t9 : tie.Need-shl-t9
+shl-t9 c = search needs
+
+jam-requires : tie.Need-jam-requires
+jam-requires c κs = search needs
+
+add-t11 : tie.Need-add-t11
+add-t11 c =
+    let t = c .before .before .before in
+    let s = t .before .before in
+    low-fits (s .args .k) (s .args .v .hi) (s .args .v .lo) (c .jam .result) (t .if2 .taken) (c .before .before .struct-known .given .1 .0 .fits) (c .jam .ensures)
+
+jam-top-requires : tie.Need-jam-top-requires
+jam-top-requires c κs = search needs
+
+jam-requires-2 : tie.Need-jam-requires-2
+jam-requires-2 c κs = search needs
+
+returns : tie.Need-returns
+returns c = let v = c .before .args .v in whole (c .before .args .k) (v .hi * 2 ^ 64 + v .lo) (c .if1 .taken)
+
+returns-2 : tie.Need-returns-2
+returns-2 c =
+    let t = c .before .before .before in
+    let s = t .before .before in
+    words (s .args .k) (s .args .v .hi) (s .args .v .lo) (c .jam .result) (t .if2 .taken) (c .jam .ensures)
+
+returns-3 : tie.Need-returns-3
+returns-3 c =
+    let t = c .before .before in
+    let s = t .before .before in
+    top (s .args .k) (s .args .v .hi * 2 ^ 64 + s .args .v .lo) (c .before .jam-top .result) (c .jam2 .result) (t .if2 .left) (c .before .jam-top .ensures) (c .jam2 .ensures)
+
+pub jam-wide-spec : {M : Type 1} → statement M
+jam-wide-spec = tie.close (tie.spec shr-t7 sub-t8 shl-t9 jam-requires add-t11 jam-top-requires jam-requires-2 returns returns-2 returns-3)

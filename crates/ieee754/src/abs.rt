@@ -1,0 +1,16 @@
+// Rust's f64::abs.
+ghost use mathlib.Core.Path.{_≡_};
+ghost use Rattle.ieee754.specs.Magnitude as Magnitude;
+
+// The weight of the sign in a bit pattern.
+const SIGN: u64 = 0x8000_0000_0000_0000;
+
+// x with the sign cleared.
+pub fn abs(x: f64) -> f64
+    ensures { λ r. ⌜ r ≡ Magnitude.abs x ⌝ }
+{
+    if x != x {
+        return x;
+    }
+    f64::from_bits(f64::to_bits(x) % SIGN)
+}

@@ -1,0 +1,24 @@
+// Rust's f64::copysign.
+ghost use mathlib.Core.Path.{_≡_};
+ghost use Rattle.ieee754.specs.CopySign as CopySign;
+use super::abs::abs;
+
+// The weight of the sign in a bit pattern.
+const SIGN: u64 = 0x8000_0000_0000_0000;
+
+// Whether the sign of y is set, of a zero too; a NaN has none.
+pub fn negative(y: f64) -> bool
+    ensures { λ r. ⌜ r ≡ CopySign.negative y ⌝ }
+{
+    if y != y {
+        return false;
+    }
+    SIGN <= f64::to_bits(y)
+}
+
+// The magnitude of x with the sign of y.
+pub fn copysign(x: f64, y: f64) -> f64
+    ensures { λ r. ⌜ r ≡ CopySign.copysign x y ⌝ }
+{
+    if negative(y) { -abs(x) } else { abs(x) }
+}
