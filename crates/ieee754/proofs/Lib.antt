@@ -9,4 +9,5 @@ pub mod Reading
 pub mod RootLaws
 pub mod RootValues
 pub mod Rounding
+pub mod Sign
 pub mod Sums

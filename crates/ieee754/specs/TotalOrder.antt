@@ -7,7 +7,7 @@ use Rattle.ieee754.specs.declared.total_cmp.Order.the-variants.{Less, Eq
 
 -- x is at or below y: it is less, or it is equal and is not plus zero where y is minus zero
 unfoldable pub totalOrder : Float → Float → Bool
-totalOrder x y = isNan y || (not (isNan x) && (lt x y || (eq x y && (negative x || not (negative y)))))
+totalOrder x y = isNan y || (lt x y || (eq x y && (negative x || not (negative y))))
 
 unfoldable pub totalCmp : Float → Float → Order
 totalCmp x y = cond (totalOrder x y) (cond (totalOrder y x) Equal Less) Greater
