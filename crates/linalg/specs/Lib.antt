@@ -1,0 +1,4 @@
+-- nalgebra's operations on vectors and matrices of three doubles a side, each with its order of operations.
+pub mod Vectors
+pub mod Matrices
+pub mod VectorScaling
