@@ -11,3 +11,9 @@ pub mod RootValues
 pub mod Rounding
 pub mod Sign
 pub mod Sums
+pub mod Powers
+pub mod RoundScale
+pub mod Laws
+pub mod Degrees
+pub mod RegularNormal
+pub mod MinPositive

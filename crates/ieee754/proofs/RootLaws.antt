@@ -19,11 +19,11 @@ use Rattle.ieee754.specs.inner.Nearest.{IsNearest}
 
 -- ---- powers
 
-mul-pow : (a b p : ℕ) → (a * b) ^ p ≡ a ^ p * b ^ p
+pub mul-pow : (a b p : ℕ) → (a * b) ^ p ≡ a ^ p * b ^ p
 mul-pow a b zero = simp (pow-zero, mul-one)
 mul-pow a b (suc p) = simp (pow-suc, mul-pow a b p, mul-mul-mul-comm)
 
-pow-mul : (b k p : ℕ) → (b ^ k) ^ p ≡ b ^ (p * k)
+pub pow-mul : (b k p : ℕ) → (b ^ k) ^ p ≡ b ^ (p * k)
 pow-mul b k zero = pow-zero (b ^ k) ∙ sym (ap (λ (x : ℕ). b ^ x) (omega arith) ∙ pow-zero b)
 pow-mul b k (suc p) = pow-suc (b ^ k) p ∙ ap (λ (x : ℕ). x * b ^ k) (pow-mul b k p) ∙ sym (pow-add b (p * k) k) ∙ ap (λ (x : ℕ). b ^ x) (sym (suc-mul p k))
 
@@ -32,10 +32,10 @@ zero-pow zero h = omega arith
 zero-pow (suc p) h = pow-suc 0 p ∙ omega arith
 
 -- a power is below another only if its base is
-base-lt : (p x y : ℕ) → x ^ p < y ^ p → x < y
+pub base-lt : (p x y : ℕ) → x ^ p < y ^ p → x < y
 base-lt p x y h = lt-of-not-le (λ (g : y ≤ x). not-le-of-lt h (pow-le-pow-left g p))
 
-pow-back : (p u x y : ℕ) → x ^ p * u < y ^ p * u → x < y
+pub pow-back : (p u x y : ℕ) → x ^ p * u < y ^ p * u → x < y
 pow-back p u x y h = base-lt p x y (lt-of-mul-lt-mul-right u h)
 
 -- ---- the whole part of a root
@@ -182,7 +182,7 @@ chosen p n u q w Ordering·gt c r h =
     omega (arith, pow-back p u (2 * w + 1) (2 * q + 1) (lt-trans c (h .1)), pow-back p u (2 * q - 1) (2 * suc w) (lt-trans (h .0) (r .1)))
 
 -- what is chosen is near
-chosen-near : (p n u w : ℕ) (o : Ordering) → Compared o (2 ^ p * n) ((2 * w + 1) ^ p * u) → Whole p n u w → Near p n u (nearest w o)
+pub chosen-near : (p n u w : ℕ) (o : Ordering) → Compared o (2 ^ p * n) ((2 * w + 1) ^ p * u) → Whole p n u w → Near p n u (nearest w o)
 chosen-near p n u w o c r = go o c
   where
     raise : {x y : ℕ} → x ≤ y → x ^ p * u ≤ y ^ p * u
@@ -202,7 +202,7 @@ split-pow p a k den = simp (mul-add, pow-add, mul-assoc, mul-comm, mul-left-comm
 pub quotient-lt : (p : ℕ) (f : Format) (n den k : ℕ) → 0 < den → n < 2 ^ (p * (prec f + k)) * den → n / (den * 2 ^ (p * k)) < 2 ^ (p * prec f)
 quotient-lt p f n den k D h = div-lt-iff-lt-mul (mul-pos D (pow-pos (p * k))) .1 (lt-of-lt-of-le h (le-of-eq (split-pow p (prec f) k den)))
 
-root-whole : (p : ℕ) (f : Format) (n den k : ℕ) → 0 < p → 0 < den → n < 2 ^ (p * (prec f + k)) * den
+pub root-whole : (p : ℕ) (f : Format) (n den k : ℕ) → 0 < p → 0 < den → n < 2 ^ (p * (prec f + k)) * den
     → let u = den * 2 ^ (p * k) in Whole p n u (root p (prec f) (n / u))
 root-whole p f n den k P D h =
     let u = den * 2 ^ (p * k) in

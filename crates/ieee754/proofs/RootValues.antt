@@ -31,7 +31,7 @@ compare-is a b o c = same (compare a b) o (compared a b) c
     same Ordering·gt Ordering·eq x y = absurd (omega arith)
     same Ordering·gt Ordering·gt x y = refl
 
-compare-mul : (a b c : ℕ) → 0 < c → compare (a * c) (b * c) ≡ compare a b
+pub compare-mul : (a b c : ℕ) → 0 < c → compare (a * c) (b * c) ≡ compare a b
 compare-mul a b c C = compare-is (a * c) (b * c) (compare a b) (times (compare a b) (compared a b))
   where
     times : (o : Ordering) → Compared o a b → Compared o (a * c) (b * c)
@@ -40,7 +40,7 @@ compare-mul a b c C = compare-is (a * c) (b * c) (compare a b) (times (compare a
     times Ordering·gt h = mul-lt-mul-of-pos-right h C
 
 -- n / b and m / d are the same, so each is above x / y or below it as the other is
-compare-same : (t x n b m d : ℕ) → 0 < b → 0 < d → n * d ≡ m * b → compare (t * n) (x * b) ≡ compare (t * m) (x * d)
+pub compare-same : (t x n b m d : ℕ) → 0 < b → 0 < d → n * d ≡ m * b → compare (t * n) (x * b) ≡ compare (t * m) (x * d)
 compare-same t x n b m d B D e =
     sym (compare-mul (t * n) (x * b) d D)
     ∙ ap (λ (z : ℕ). compare z (x * b * d)) (mul-assoc t n d ∙ ap (λ (z : ℕ). t * z) e ∙ sym (mul-assoc t m b))
