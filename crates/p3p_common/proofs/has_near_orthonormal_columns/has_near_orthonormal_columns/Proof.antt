@@ -1,3 +1,4 @@
+-- `p3p_common::has_near_orthonormal_columns::has_near_orthonormal_columns` meets its contract. Assumes nothing.
 use borrow.Author.Needs.{needs}
 use Rattle.p3p_common.specs.NearOrthonormal.{hasNearOrthonormalColumns}
 use Rattle.p3p_common.proofs.has_near_orthonormal_columns.has_near_orthonormal_columns.Statement.{
@@ -13,67 +14,51 @@ use Rattle.linalg.proofs.matrix3.Matrix3.column2.Reads as column2-reads
 use Rattle.linalg.proofs.vector3.Vector3.dot.Reads as dot-reads
 use Rattle.linalg.proofs.vector3.Vector3.norm_squared.Reads as norm-squared-reads
 
--- src/has_near_orthonormal_columns.rt:12:9
 column0-requires : tie.Need-column0-requires
 column0-requires c κs = search needs
 
--- src/has_near_orthonormal_columns.rt:13:9
 column1-requires : tie.Need-column1-requires
 column1-requires c κs = search needs
 
--- src/has_near_orthonormal_columns.rt:14:9
 column2-requires : tie.Need-column2-requires
 column2-requires c κs = search needs
 
--- src/has_near_orthonormal_columns.rt:15:23
 norm-squared-requires : tie.Need-norm-squared-requires
 norm-squared-requires c κs = search needs
 
--- src/has_near_orthonormal_columns.rt:15:9
 abs-requires : tie.Need-abs-requires
 abs-requires c κs = search needs
 
--- src/has_near_orthonormal_columns.rt:16:23
 norm-squared-requires-2 : tie.Need-norm-squared-requires-2
 norm-squared-requires-2 c κs = search needs
 
--- src/has_near_orthonormal_columns.rt:16:9
 abs-requires-2 : tie.Need-abs-requires-2
 abs-requires-2 c κs = search needs
 
--- src/has_near_orthonormal_columns.rt:17:23
 norm-squared-requires-3 : tie.Need-norm-squared-requires-3
 norm-squared-requires-3 c κs = search needs
 
--- src/has_near_orthonormal_columns.rt:17:9
 abs-requires-3 : tie.Need-abs-requires-3
 abs-requires-3 c κs = search needs
 
--- src/has_near_orthonormal_columns.rt:18:23
 dot-requires : tie.Need-dot-requires
 dot-requires c κs = search needs
 
--- src/has_near_orthonormal_columns.rt:18:9
 abs-requires-4 : tie.Need-abs-requires-4
 abs-requires-4 c κs = search needs
 
--- src/has_near_orthonormal_columns.rt:19:23
 dot-requires-2 : tie.Need-dot-requires-2
 dot-requires-2 c κs = search needs
 
--- src/has_near_orthonormal_columns.rt:19:9
 abs-requires-5 : tie.Need-abs-requires-5
 abs-requires-5 c κs = search needs
 
--- src/has_near_orthonormal_columns.rt:20:23
 dot-requires-3 : tie.Need-dot-requires-3
 dot-requires-3 c κs = search needs
 
--- src/has_near_orthonormal_columns.rt:20:9
 abs-requires-6 : tie.Need-abs-requires-6
 abs-requires-6 c κs = search needs
 
--- src/has_near_orthonormal_columns.rt:9:1
 returns : tie.Need-returns
 unfolding hasNearOrthonormalColumns
 returns c = cc

@@ -1,3 +1,4 @@
+-- `p3p_common::input::input_finite` meets its contract. Assumes nothing.
 use borrow.Author.Needs.{needs}
 use Rattle.p3p_common.specs.Input.{inputFinite}
 use Rattle.p3p_common.proofs.input.input_finite.Statement.{statement}
@@ -6,31 +7,24 @@ use Rattle.p3p_common.proofs.input.input_finite.Reads as reads
 use Rattle.p3p_common.proofs.input.input_finite.Lts as lts
 use Rattle.linalg.proofs.vector3.Vector3.all_finite.Reads as all-finite-reads
 
--- src/input.rt:29:9
 all-finite-requires : tie.Need-all-finite-requires
 all-finite-requires c κs = search needs
 
--- src/input.rt:30:9
 all-finite-requires-2 : tie.Need-all-finite-requires-2
 all-finite-requires-2 c κs = search needs
 
--- src/input.rt:31:9
 all-finite-requires-3 : tie.Need-all-finite-requires-3
 all-finite-requires-3 c κs = search needs
 
--- src/input.rt:32:9
 all-finite-requires-4 : tie.Need-all-finite-requires-4
 all-finite-requires-4 c κs = search needs
 
--- src/input.rt:33:9
 all-finite-requires-5 : tie.Need-all-finite-requires-5
 all-finite-requires-5 c κs = search needs
 
--- src/input.rt:34:9
 all-finite-requires-6 : tie.Need-all-finite-requires-6
 all-finite-requires-6 c κs = search needs
 
--- src/input.rt:24:1
 returns : tie.Need-returns
 unfolding inputFinite
 returns c = cc

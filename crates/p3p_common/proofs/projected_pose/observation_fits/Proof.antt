@@ -1,3 +1,4 @@
+-- `p3p_common::projected_pose::observation_fits` meets its contract. Assumes nothing.
 use borrow.Author.Needs.{needs}
 use Rattle.p3p_common.specs.ProjectedPose.{observationFits, cameraPoint}
 use Rattle.p3p_common.proofs.projected_pose.observation_fits.Statement.{statement}
@@ -8,19 +9,15 @@ use Rattle.linalg.proofs.matrix3.Matrix3.mul_vector.Reads as mul-vector-reads
 use Rattle.linalg.proofs.vector3.Vector3.add.Reads as add-reads
 use Rattle.p3p_common.proofs.ray_fits.ray_fits.Reads as ray-fits-reads
 
--- src/projected_pose.rt:18:18
 mul-vector-requires : tie.Need-mul-vector-requires
 mul-vector-requires c κs = search needs
 
--- src/projected_pose.rt:18:9
 add-requires : tie.Need-add-requires
 add-requires c κs = search needs
 
--- src/projected_pose.rt:19:5
 ray-fits-requires : tie.Need-ray-fits-requires
 ray-fits-requires c κs = search needs
 
--- src/projected_pose.rt:10:1
 returns : tie.Need-returns
 unfolding observationFits cameraPoint
 returns c = cc

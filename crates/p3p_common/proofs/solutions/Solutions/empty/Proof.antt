@@ -1,3 +1,4 @@
+-- `p3p_common::solutions::Solutions::empty` meets its contract. Assumes nothing.
 use borrow.Author.Needs.{needs}
 use Rattle.p3p_common.specs.Slots.{empty}
 use Rattle.p3p_common.proofs.solutions.Solutions.empty.Statement.{statement}
@@ -6,14 +7,12 @@ use Rattle.p3p_common.proofs.solutions.Solutions.empty.Reads as reads
 use Rattle.p3p_common.proofs.solutions.Solutions.empty.Lts as lts
 use Rattle.linalg.proofs.pose.Pose.zeros.Reads as zeros-reads
 
--- src/solutions.rt:16:13
 zeros-requires : tie.Need-zeros-requires
 zeros-requires c κs = search needs
 
--- src/solutions.rt:13:5
 returns : tie.Need-returns
 unfolding empty
-returns c = ?
+returns c = cc
 
 pub empty-spec : {M : Type 1} → statement M
 empty-spec = tie.close (tie.spec zeros-requires returns)
