@@ -1,5 +1,6 @@
 -- `p3p_common::refine_depths::refine_depths` meets its contract: what is left of the loop gives what the whole does. Assumes nothing.
 use borrow.Author.Needs.{needs}
+use native.Mathlib.Nat.{sub-zero}
 use native.Mathlib.Omega.{arith}
 use Prim.Native.Nat.{_-_, _≤_}
 use mathlib.Core.Path.{_≡_, refl, sym, _∙_}
@@ -26,7 +27,7 @@ max-requires-2 : tie.Need-max-requires-2 Inv-loop μ-loop
 max-requires-2 c κs = search needs
 
 loop-holds : tie.Need-loop-holds Inv-loop μ-loop
-loop-holds c = (search needs, refl)
+loop-holds c = (search needs, rw (sub-zero (c .before .before .args .iterations)))
 
 depth-step-requires : tie.Need-depth-step-requires Inv-loop μ-loop
 depth-step-requires c κs = search needs
