@@ -11,3 +11,9 @@ pub mod Sign
 pub mod RootLaws
 pub mod RootValues
 pub mod Exponent
+pub mod Powers
+pub mod RoundScale
+pub mod Laws
+pub mod Degrees
+pub mod RegularNormal
+pub mod MinPositive
