@@ -10,6 +10,7 @@ use ieee754::max::max;
 use ieee754::sqrt::sqrt;
 
 const EPSILON: f64 = 2.220446049250313e-16;
+
 const MIN_POSITIVE: f64 = 2.2250738585072014e-308;
 
 // Stable real roots of x^2 + b*x + c = 0.

@@ -1,51 +1,57 @@
+-- `polynomial::cubic::polished_cubic_root` meets its contract. Assumes nothing.
 use borrow.Author.Needs.{needs}
+use Rattle.polynomial.specs.PolishedRoot.{polishedCubicRoot}
 use Rattle.polynomial.proofs.cubic.polished_cubic_root.Statement.{statement}
 use Rattle.polynomial.proofs.cubic.polished_cubic_root.Tie as tie
-use Rattle.polynomial.proofs.cubic.polished_cubic_root.Reads as reads
-use Rattle.polynomial.proofs.cubic.polished_cubic_root.Lts as lts
-use Rattle.ieee754.proofs.is_finite.is_finite.Reads as is-finite-reads
-use Rattle.polynomial.proofs.cubic.polished_root.Reads as polished-root-reads
-use Rattle.polynomial.proofs.cubic_scale.all_zero.Reads as all-zero-reads
 
--- src/cubic.rt:41:9
 is-finite-requires : tie.Need-is-finite-requires
 is-finite-requires c κs = search needs
 
--- src/cubic.rt:42:9
 returns : tie.Need-returns
-returns c = ?
+unfolding polishedCubicRoot
+returns c = rw (← c .before .is-finite .ensures, c .if1 .taken)
 
--- src/cubic.rt:44:9
 is-finite-requires-2 : tie.Need-is-finite-requires-2
 is-finite-requires-2 c κs = search needs
 
--- src/cubic.rt:45:9
 returns-2 : tie.Need-returns-2
-returns-2 c = ?
+unfolding polishedCubicRoot
+returns-2 c =
+    let e1 = c .before .before in
+    rw (← e1 .before .is-finite .ensures, e1 .if1 .left, ← c .before .is-finite2 .ensures, c .if2 .taken)
 
--- src/cubic.rt:47:9
 is-finite-requires-3 : tie.Need-is-finite-requires-3
 is-finite-requires-3 c κs = search needs
 
--- src/cubic.rt:48:9
 returns-3 : tie.Need-returns-3
-returns-3 c = ?
+unfolding polishedCubicRoot
+returns-3 c =
+    let e2 = c .before .before in
+    let e1 = e2 .before .before in
+    rw (← e1 .before .is-finite .ensures, e1 .if1 .left, ← e2 .before .is-finite2 .ensures, e2 .if2 .left, ← c .before .is-finite3 .ensures, c .if3 .taken)
 
--- src/cubic.rt:50:8
 all-zero-requires : tie.Need-all-zero-requires
 all-zero-requires c κs = search needs
 
--- src/cubic.rt:51:9
 returns-4 : tie.Need-returns-4
-returns-4 c = ?
+unfolding polishedCubicRoot
+returns-4 c =
+    let e3 = c .before .before in
+    let e2 = e3 .before .before in
+    let e1 = e2 .before .before in
+    rw (← e1 .before .is-finite .ensures, e1 .if1 .left, ← e2 .before .is-finite2 .ensures, e2 .if2 .left, ← e3 .before .is-finite3 .ensures, e3 .if3 .left, ← c .before .all-zero .ensures, c .if4 .taken)
 
--- src/cubic.rt:53:5
 polished-root-requires : tie.Need-polished-root-requires
 polished-root-requires c κs = search needs
 
--- src/cubic.rt:38:1
 returns-5 : tie.Need-returns-5
-returns-5 c = ?
+unfolding polishedCubicRoot
+returns-5 c =
+    let e4 = c .before in
+    let e3 = e4 .before .before in
+    let e2 = e3 .before .before in
+    let e1 = e2 .before .before in
+    rw (← e1 .before .is-finite .ensures, e1 .if1 .left, ← e2 .before .is-finite2 .ensures, e2 .if2 .left, ← e3 .before .is-finite3 .ensures, e3 .if3 .left, ← e4 .before .all-zero .ensures, e4 .if4 .left, ← c .polished-root .ensures)
 
 pub polished-cubic-root-spec : {M : Type 1} → statement M
 polished-cubic-root-spec =

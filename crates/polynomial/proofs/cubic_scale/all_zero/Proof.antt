@@ -1,19 +1,23 @@
+-- `polynomial::cubic_scale::all_zero` meets its contract. Assumes nothing.
+use Rattle.polynomial.specs.CubicScale.{allZero}
 use Rattle.polynomial.proofs.cubic_scale.all_zero.Statement.{statement}
 use Rattle.polynomial.proofs.cubic_scale.all_zero.Tie as tie
-use Rattle.polynomial.proofs.cubic_scale.all_zero.Reads as reads
-use Rattle.polynomial.proofs.cubic_scale.all_zero.Lts as lts
 
--- src/cubic_scale.rt:10:1
 returns : tie.Need-returns
-returns c = ?
+unfolding allZero
+returns c =
+    let e1 = c .before in
+    rw (e1 .if1 .taken, c .if2 .taken)
 
--- src/cubic_scale.rt:10:1
 returns-2 : tie.Need-returns-2
-returns-2 c = ?
+unfolding allZero
+returns-2 c =
+    let e1 = c .before in
+    rw (e1 .if1 .taken, c .if2 .left)
 
--- src/cubic_scale.rt:10:1
 returns-3 : tie.Need-returns-3
-returns-3 c = ?
+unfolding allZero
+returns-3 c = rw (c .if1 .left)
 
 pub all-zero-spec : {M : Type 1} → statement M
 all-zero-spec = tie.close (tie.spec returns returns-2 returns-3)

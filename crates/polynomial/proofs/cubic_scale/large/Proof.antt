@@ -1,33 +1,34 @@
+-- `polynomial::cubic_scale::large` meets its contract. Assumes nothing.
 use borrow.Author.Needs.{needs}
+use Rattle.polynomial.specs.CubicScale.{large}
 use Rattle.polynomial.proofs.cubic_scale.large.Statement.{statement}
 use Rattle.polynomial.proofs.cubic_scale.large.Tie as tie
-use Rattle.polynomial.proofs.cubic_scale.large.Reads as reads
-use Rattle.polynomial.proofs.cubic_scale.large.Lts as lts
-use Rattle.ieee754.proofs.abs.abs.Reads as abs-reads
 
--- src/cubic_scale.rt:23:8
 abs-requires : tie.Need-abs-requires
 abs-requires c κs = search needs
 
--- src/cubic_scale.rt:24:9
 returns : tie.Need-returns
-returns c = ?
+unfolding large
+returns c = rw (← c .before .abs .ensures, c .if1 .taken)
 
--- src/cubic_scale.rt:26:8
 abs-requires-2 : tie.Need-abs-requires-2
 abs-requires-2 c κs = search needs
 
--- src/cubic_scale.rt:27:9
 returns-2 : tie.Need-returns-2
-returns-2 c = ?
+unfolding large
+returns-2 c =
+    let e1 = c .before .before in
+    rw (← e1 .before .abs .ensures, e1 .if1 .left, ← c .before .abs2 .ensures, c .if2 .taken)
 
--- src/cubic_scale.rt:29:5
 abs-requires-3 : tie.Need-abs-requires-3
 abs-requires-3 c κs = search needs
 
--- src/cubic_scale.rt:20:1
 returns-3 : tie.Need-returns-3
-returns-3 c = ?
+unfolding large
+returns-3 c =
+    let e2 = c .before in
+    let e1 = e2 .before .before in
+    rw (← e1 .before .abs .ensures, e1 .if1 .left, ← e2 .before .abs2 .ensures, e2 .if2 .left, ← c .abs3 .ensures)
 
 pub large-spec : {M : Type 1} → statement M
 large-spec =

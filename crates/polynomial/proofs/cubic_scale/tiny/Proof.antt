@@ -1,33 +1,34 @@
+-- `polynomial::cubic_scale::tiny` meets its contract. Assumes nothing.
 use borrow.Author.Needs.{needs}
+use Rattle.polynomial.specs.CubicScale.{tiny}
 use Rattle.polynomial.proofs.cubic_scale.tiny.Statement.{statement}
 use Rattle.polynomial.proofs.cubic_scale.tiny.Tie as tie
-use Rattle.polynomial.proofs.cubic_scale.tiny.Reads as reads
-use Rattle.polynomial.proofs.cubic_scale.tiny.Lts as lts
-use Rattle.ieee754.proofs.abs.abs.Reads as abs-reads
 
--- src/cubic_scale.rt:35:8
 abs-requires : tie.Need-abs-requires
 abs-requires c κs = search needs
 
--- src/cubic_scale.rt:36:12
 abs-requires-2 : tie.Need-abs-requires-2
 abs-requires-2 c κs = search needs
 
--- src/cubic_scale.rt:37:20
 abs-requires-3 : tie.Need-abs-requires-3
 abs-requires-3 c κs = search needs
 
--- src/cubic_scale.rt:37:13
 returns : tie.Need-returns
-returns c = ?
+unfolding tiny
+returns c =
+    let e2 = c .before in
+    let e1 = e2 .before .before in
+    rw (← e1 .before .abs .ensures, e1 .if1 .taken, ← e2 .before .abs2 .ensures, e2 .if2 .taken, ← c .abs3 .ensures)
 
--- src/cubic_scale.rt:32:1
 returns-2 : tie.Need-returns-2
-returns-2 c = ?
+unfolding tiny
+returns-2 c =
+    let e1 = c .before .before in
+    rw (← e1 .before .abs .ensures, e1 .if1 .taken, ← c .before .abs2 .ensures, c .if2 .left)
 
--- src/cubic_scale.rt:32:1
 returns-3 : tie.Need-returns-3
-returns-3 c = ?
+unfolding tiny
+returns-3 c = rw (← c .before .abs .ensures, c .if1 .left)
 
 pub tiny-spec : {M : Type 1} → statement M
 tiny-spec =

@@ -1,34 +1,30 @@
+-- `polynomial::cubic_start::right_start` meets its contract. Assumes nothing.
 use borrow.Author.Needs.{needs}
+use Rattle.polynomial.specs.CubicStart.{rightStart}
 use Rattle.polynomial.proofs.cubic_start.right_start.Statement.{statement}
 use Rattle.polynomial.proofs.cubic_start.right_start.Tie as tie
-use Rattle.polynomial.proofs.cubic_start.right_start.Reads as reads
-use Rattle.polynomial.proofs.cubic_start.right_start.Lts as lts
-use Rattle.polynomial.proofs.cubic_start.cubic_value.Reads as cubic-value-reads
-use Rattle.polynomial.proofs.cubic_start.turning_offset.Reads as turning-offset-reads
 
--- src/cubic_start.rt:51:55
 cubic-value-requires : tie.Need-cubic-value-requires
 cubic-value-requires c κs = search needs
 
--- src/cubic_start.rt:51:30
 turning-offset-requires : tie.Need-turning-offset-requires
 turning-offset-requires c κs = search needs
 
--- src/cubic_start.rt:51:20
 enum-known-offset : tie.Need-enum-known-offset
 enum-known-offset c = search needs
 
--- src/cubic_start.rt:52:9
 enum-told : tie.Need-enum-told
 enum-told c = search needs
 
--- src/cubic_start.rt:52:9
 returns : tie.Need-returns
-returns c = ?
+unfolding rightStart
+returns c = rw (← c .before .before .before .cubic-value .ensures, ← c .before .before .turning-offset .ensures, c .enum-told .given .1)
 
--- src/cubic_start.rt:46:1
 returns-2 : tie.Need-returns-2
-returns-2 c = ?
+unfolding rightStart
+returns-2 c =
+    let offset = c .before in
+    rw (← offset .before .before .before .cubic-value .ensures, ← offset .before .before .turning-offset .ensures, offset .offset .given .1)
 
 pub right-start-spec : {M : Type 1} → statement M
 right-start-spec =

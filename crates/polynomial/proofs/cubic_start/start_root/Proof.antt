@@ -1,30 +1,33 @@
+-- `polynomial::cubic_start::start_root` meets its contract. Assumes nothing.
 use borrow.Author.Needs.{needs}
+use Rattle.polynomial.specs.CubicStart.{startRoot}
 use Rattle.polynomial.proofs.cubic_start.start_root.Statement.{statement}
 use Rattle.polynomial.proofs.cubic_start.start_root.Tie as tie
-use Rattle.polynomial.proofs.cubic_start.start_root.Reads as reads
-use Rattle.polynomial.proofs.cubic_start.start_root.Lts as lts
-use Rattle.polynomial.proofs.cardano.cardano_single_real.Reads as cardano-single-real-reads
-use Rattle.polynomial.proofs.cubic_start.turning_start.Reads as turning-start-reads
 
--- src/cubic_start.rt:85:27
 cardano-single-real-requires : tie.Need-cardano-single-real-requires
 cardano-single-real-requires c κs = search needs
 
--- src/cubic_start.rt:85:9
 returns : tie.Need-returns
-returns c = ?
+unfolding startRoot
+returns c =
+    let e1 = c .before in
+    rw (e1 .if1 .taken, ← c .cardano-single-real .ensures)
 
--- src/cubic_start.rt:88:9
 turning-start-requires : tie.Need-turning-start-requires
 turning-start-requires c κs = search needs
 
--- src/cubic_start.rt:88:9
 returns-2 : tie.Need-returns-2
-returns-2 c = ?
+unfolding startRoot
+returns-2 c =
+    let e2 = c .before in
+    let e1 = e2 .before in
+    rw (e1 .if1 .left, e2 .if2 .taken, ← c .turning-start .ensures)
 
--- src/cubic_start.rt:73:1
 returns-3 : tie.Need-returns-3
-returns-3 c = ?
+unfolding startRoot
+returns-3 c =
+    let e1 = c .before in
+    rw (e1 .if1 .left, c .if2 .left)
 
 pub start-root-spec : {M : Type 1} → statement M
 start-root-spec =

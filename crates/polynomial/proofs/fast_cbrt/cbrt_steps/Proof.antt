@@ -1,64 +1,58 @@
+-- `polynomial::fast_cbrt::cbrt_steps` meets its contract. Assumes nothing.
 use borrow.Author.Needs.{needs}
+use Rattle.polynomial.specs.FastCbrt.{cbrtSteps}
 use Rattle.polynomial.proofs.fast_cbrt.cbrt_steps.Statement.{statement}
 use Rattle.polynomial.proofs.fast_cbrt.cbrt_steps.Tie as tie
-use Rattle.polynomial.proofs.fast_cbrt.cbrt_steps.Reads as reads
-use Rattle.polynomial.proofs.fast_cbrt.cbrt_steps.Lts as lts
-use Rattle.ieee754.proofs.cbrt.cbrt.Reads as cbrt-reads
-use Rattle.ieee754.proofs.copysign.copysign.Reads as copysign-reads
-use Rattle.polynomial.proofs.fast_cbrt.cbrt_start.Reads as cbrt-start-reads
-use Rattle.polynomial.proofs.fast_cbrt.cbrt_step.Reads as cbrt-step-reads
 
--- src/fast_cbrt.rt:43:50
 cbrt-start-requires : tie.Need-cbrt-start-requires
 cbrt-start-requires c κs = search needs
 
--- src/fast_cbrt.rt:43:29
 cbrt-step-requires : tie.Need-cbrt-step-requires
 cbrt-step-requires c κs = search needs
 
--- src/fast_cbrt.rt:43:20
 enum-known-first : tie.Need-enum-known-first
 enum-known-first c = search needs
 
--- src/fast_cbrt.rt:44:9
 enum-told : tie.Need-enum-told
 enum-told c = search needs
 
--- src/fast_cbrt.rt:44:9
 cbrt-requires : tie.Need-cbrt-requires
 cbrt-requires c κs = search needs
 
--- src/fast_cbrt.rt:44:9
 returns : tie.Need-returns
-returns c = ?
+unfolding cbrtSteps
+returns c =
+    let enum-told = c .before in
+    rw (← enum-told .before .before .before .cbrt-start .ensures, ← enum-told .before .before .cbrt-step .ensures, enum-told .enum-told .given .1, ← c .cbrt .ensures)
 
--- src/fast_cbrt.rt:46:30
 cbrt-step-requires-2 : tie.Need-cbrt-step-requires-2
 cbrt-step-requires-2 c κs = search needs
 
--- src/fast_cbrt.rt:46:20
 enum-known-second : tie.Need-enum-known-second
 enum-known-second c = search needs
 
--- src/fast_cbrt.rt:47:9
 enum-told-2 : tie.Need-enum-told-2
 enum-told-2 c = search needs
 
--- src/fast_cbrt.rt:47:9
 cbrt-requires-2 : tie.Need-cbrt-requires-2
 cbrt-requires-2 c κs = search needs
 
--- src/fast_cbrt.rt:47:9
 returns-2 : tie.Need-returns-2
-returns-2 c = ?
+unfolding cbrtSteps
+returns-2 c =
+    let enum-told2 = c .before in
+    let first = enum-told2 .before .before .before .before in
+    rw (← first .before .before .before .cbrt-start .ensures, ← first .before .before .cbrt-step .ensures, first .first .given .1, ← enum-told2 .before .before .cbrt-step2 .ensures, enum-told2 .enum-told2 .given .1, ← c .cbrt2 .ensures)
 
--- src/fast_cbrt.rt:49:5
 copysign-requires : tie.Need-copysign-requires
 copysign-requires c κs = search needs
 
--- src/fast_cbrt.rt:39:1
 returns-3 : tie.Need-returns-3
-returns-3 c = ?
+unfolding cbrtSteps
+returns-3 c =
+    let second = c .before .before in
+    let first = second .before .before .before .before in
+    rw (← first .before .before .before .cbrt-start .ensures, ← first .before .before .cbrt-step .ensures, first .first .given .1, ← second .before .before .cbrt-step2 .ensures, second .second .given .1, ← c .copysign .ensures)
 
 pub cbrt-steps-spec : {M : Type 1} → statement M
 cbrt-steps-spec =

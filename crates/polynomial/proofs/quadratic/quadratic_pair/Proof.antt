@@ -1,30 +1,30 @@
+-- `polynomial::quadratic::quadratic_pair` meets its contract. Assumes nothing.
 use borrow.Author.Needs.{needs}
+use Rattle.polynomial.specs.Quadratic.{quadraticPair}
 use Rattle.polynomial.proofs.quadratic.quadratic_pair.Statement.{statement}
 use Rattle.polynomial.proofs.quadratic.quadratic_pair.Tie as tie
-use Rattle.polynomial.proofs.quadratic.quadratic_pair.Reads as reads
-use Rattle.polynomial.proofs.quadratic.quadratic_pair.Lts as lts
-use Rattle.ieee754.proofs.copysign.copysign.Reads as copysign-reads
-use Rattle.ieee754.proofs.sqrt.sqrt.Reads as sqrt-reads
 
--- src/quadratic.rt:50:9
 returns : tie.Need-returns
-returns c = ?
+unfolding quadraticPair
+returns c = rw (c .if1 .taken)
 
--- src/quadratic.rt:52:34
 sqrt-requires : tie.Need-sqrt-requires
 sqrt-requires c κs = search needs
 
--- src/quadratic.rt:52:25
 copysign-requires : tie.Need-copysign-requires
 copysign-requires c κs = search needs
 
--- src/quadratic.rt:54:9
 returns-2 : tie.Need-returns-2
-returns-2 c = ?
+unfolding quadraticPair
+returns-2 c =
+    let e1 = c .before .before .before in
+    rw (e1 .if1 .left, ← c .before .before .sqrt .ensures, ← c .before .copysign .ensures, c .if2 .taken)
 
--- src/quadratic.rt:45:1
 returns-3 : tie.Need-returns-3
-returns-3 c = ?
+unfolding quadraticPair
+returns-3 c =
+    let e1 = c .before .before .before in
+    rw (e1 .if1 .left, ← c .before .before .sqrt .ensures, ← c .before .copysign .ensures, c .if2 .left)
 
 pub quadratic-pair-spec : {M : Type 1} → statement M
 quadratic-pair-spec =

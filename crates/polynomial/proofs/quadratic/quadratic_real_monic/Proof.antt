@@ -1,22 +1,18 @@
+-- `polynomial::quadratic::quadratic_real_monic` meets its contract. Assumes nothing.
 use borrow.Author.Needs.{needs}
+use Rattle.polynomial.specs.Quadratic.{quadraticRealMonic}
 use Rattle.polynomial.proofs.quadratic.quadratic_real_monic.Statement.{statement}
 use Rattle.polynomial.proofs.quadratic.quadratic_real_monic.Tie as tie
-use Rattle.polynomial.proofs.quadratic.quadratic_real_monic.Reads as reads
-use Rattle.polynomial.proofs.quadratic.quadratic_real_monic.Lts as lts
-use Rattle.ieee754.proofs.abs.abs.Reads as abs-reads
-use Rattle.polynomial.proofs.quadratic.quadratic_real_monic_computed.Reads as quadratic-real-monic-computed-reads
 
--- src/quadratic.rt:19:41
 abs-requires : tie.Need-abs-requires
 abs-requires c κs = search needs
 
--- src/quadratic.rt:19:5
 quadratic-real-monic-computed-requires : tie.Need-quadratic-real-monic-computed-requires
 quadratic-real-monic-computed-requires c κs = search needs
 
--- src/quadratic.rt:16:1
 returns : tie.Need-returns
-returns c = ?
+unfolding quadraticRealMonic
+returns c = rw (← c .before .abs .ensures, ← c .quadratic-real-monic-computed .ensures)
 
 pub quadratic-real-monic-spec : {M : Type 1} → statement M
 quadratic-real-monic-spec =
