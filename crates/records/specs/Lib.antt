@@ -1,0 +1,2 @@
+-- The definitions that the contracts of this crate and its theorems cite.
+pub mod Format
