@@ -2,3 +2,5 @@
 // and 24 doubles, all big-endian.
 mod big_endian;
 mod double;
+pub mod frame;
+pub mod record;

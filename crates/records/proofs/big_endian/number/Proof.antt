@@ -75,12 +75,11 @@ loop-less c = omega arith
 
 -- src/big_endian.rt:21:5
 loop-again : tie.Need-loop-again Inv-loop μ-loop
-loop-again c =
-    (
-      omega arith,
-      cc (part-next (S c) (A c) (I c) (omega arith), c .before .before .before .loop .inv .1, c .widened .ensures),
-      next-lt (I c) (N c) (c .widened .result) (c .before .before .before .loop .inv .2) (small c),
-    )
+loop-again c = (
+  omega arith,
+  cc (part-next (S c) (A c) (I c) (omega arith), c .before .before .before .loop .inv .1, c .widened .ensures),
+  next-lt (I c) (N c) (c .widened .result) (c .before .before .before .loop .inv .2) (small c),
+)
 
 -- src/big_endian.rt:14:1
 returns : tie.Need-returns Inv-loop μ-loop
