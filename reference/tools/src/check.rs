@@ -81,3 +81,12 @@ fn parse_answer(name: &str, answer: &str) -> Vec<u64> {
     result.resize(table::find(name).gives, 0);
     result
 }
+
+/// The inputs of one function in a text of vectors, with their labels.
+pub fn inputs(text: &str, name: &str) -> Vec<(String, Vec<u64>)> {
+    text.lines()
+        .filter_map(|line| line.split(" -> ").next()?.split_once(' '))
+        .filter(|(label, _)| FUNCTIONS.iter().map(|f| f.name).find(|n| n == label).unwrap_or("frame") == name)
+        .map(|(label, words)| (label.to_string(), parse_input(name, words)))
+        .collect()
+}

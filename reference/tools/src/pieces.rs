@@ -12,7 +12,17 @@ fn words(list: &[f64]) -> Input {
 
 /// The inputs stored for a function.
 pub fn inputs(name: &str, r: &mut Random) -> Vec<Input> {
-    let (made, count, random): (Vec<Input>, usize, fn(&mut Random) -> Input) = match name {
+    let (made, count, random) = kinds(name);
+    made.into_iter().chain((0..count).map(|_| random(r))).collect()
+}
+
+pub fn random(name: &str, r: &mut Random) -> Input {
+    kinds(name).2(r)
+}
+
+/// Hand-made inputs, how many random ones are stored, and what makes those.
+fn kinds(name: &str) -> (Vec<Input>, usize, fn(&mut Random) -> Input) {
+    match name {
         "quadratic" => (hand_quadratics(), 1400, quadratic),
         "cubic" => (hand_cubics(), 1400, cubic),
         "fast_cbrt" => (hand_cube_roots(), 1400, cube_root),
@@ -32,9 +42,8 @@ pub fn inputs(name: &str, r: &mut Random) -> Vec<Input> {
         "copysign" | "totalorder" => (every_two(), 100, two),
         "max" => (every_two(), 100, two),
         "clamp" => (vec![], 160, clamp),
-        _ => (vec![], 0, two),
-    };
-    made.into_iter().chain((0..count).map(|_| random(r))).collect()
+        _ => panic!("no function {name}"),
+    }
 }
 
 const SPECIAL: [f64; 14] = [
@@ -189,11 +198,18 @@ fn cubic(r: &mut Random) -> Input {
             of_roots(p, p, r.whole(-9, 9))
         }
         4 => {
-            let p = if r.chance(2) { r.whole(-99, 99) } else { r.range(-3.0, 3.0) };
+            // Near a triple root.
+            let p = match r.below(3) {
+                0 => r.whole(-99, 99),
+                1 => r.range(-3.0, 3.0),
+                _ => r.scaled(-20, 40),
+            };
+            let all = r.chance(2);
             let mut c = of_roots(p, p, p);
-            let at = r.index();
-            if c[at] != 0.0 {
-                c[at] = nudge(c[at], r.between(-3, 3));
+            for x in &mut c {
+                if *x != 0.0 && (all || r.chance(3)) {
+                    *x = nudge(*x, r.between(-3, 3));
+                }
             }
             c
         }
@@ -543,6 +559,12 @@ fn hand_eig() -> Vec<Input> {
         m([1e-170, 0.0, 0.0, -1e-170, 0.0, 0.0]), m([f64::NAN, 0.0, 0.0, 1.0, 0.0, 0.0]),
         m([1.0, 2.0, f64::INFINITY, 1.0, 0.0, 0.0]), m([1e100, 0.0, 0.0, -1e100, 0.0, 0.0]),
         m([1e80, 1e79, 0.0, -1e80, 1e78, 0.0]), m([1e-80, 1e-81, 0.0, -1e-80, 1e-82, 0.0]),
+        // Not symmetric, as no frame's matrix is: both eigenvalues zero; a denominator that is not a number.
+        words(&[0.0, 1.0, 2.0, 0.0, 0.0, 3.0, 0.0, 0.0, 0.0]),
+        words(&[
+            1.125 * power(512), 0.1875 * power(524), 0.0, 1.125 * power(500), 0.1875 * power(512),
+            power(-100), 0.0, 0.0, 0.0,
+        ]),
     ]
 }
 
@@ -576,6 +598,16 @@ fn eig_matrix(r: &mut Random) -> [f64; 9] {
 }
 
 fn eig(r: &mut Random) -> Input {
+    if r.chance(12) {
+        // Entries of any magnitude, symmetric or not.
+        let (low, high) = r.pick(&[(-540, 511), (-60, 60), (400, 511), (-540, -400)]);
+        let mut m: [f64; 9] =
+            std::array::from_fn(|_| if r.chance(3) { 0.0 } else { r.scaled(low, high) });
+        if r.chance(2) {
+            (m[3], m[6], m[7]) = (m[1], m[2], m[5]);
+        }
+        return words(&m);
+    }
     words(&eig_matrix(r))
 }
 

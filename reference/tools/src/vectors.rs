@@ -27,17 +27,22 @@ fn random(part: u64) -> Random {
     Random::new(mixed.word())
 }
 
-pub fn kept() -> Vec<(String, Frame)> {
-    let lines = KEPT.lines().filter(|line| !line.is_empty() && !line.starts_with('#'));
-    lines
-        .map(|line| {
-            let mut words = line.split(' ');
-            let kind = words.next().unwrap().to_string();
-            let frame: Vec<f64> =
-                words.map(|word| f64::from_bits(u64::from_str_radix(word, 16).unwrap())).collect();
-            (kind, frame.try_into().unwrap_or_else(|_| panic!("24 words: {line}")))
-        })
-        .collect()
+/// Inputs of other functions, found by search. A line: function, words.
+const PIECES: &str = include_str!("../../inputs/pieces.txt");
+
+fn lines(text: &'static str) -> impl Iterator<Item = (&'static str, Vec<u64>)> {
+    text.lines().filter(|line| !line.is_empty() && !line.starts_with('#')).map(|line| {
+        let mut words = line.split(' ');
+        let label = words.next().unwrap();
+        (label, words.map(|word| u64::from_str_radix(word, 16).unwrap()).collect())
+    })
+}
+
+fn kept() -> impl Iterator<Item = (String, Frame)> {
+    lines(KEPT).map(|(kind, words)| {
+        let frame: Vec<f64> = words.into_iter().map(f64::from_bits).collect();
+        (kind.to_string(), frame.try_into().expect("24 words"))
+    })
 }
 
 /// Every stored frame with its kind. The realistic kinds come first, and each of their
@@ -58,17 +63,23 @@ pub fn frames() -> Vec<(String, Frame)> {
     list
 }
 
+/// Every stored input of a function.
+fn inputs(name: &str) -> Vec<Vec<u64>> {
+    if name == "frame" {
+        return frames().iter().map(|(_, frame)| frame.map(f64::to_bits).to_vec()).collect();
+    }
+    let index = FUNCTIONS.iter().position(|function| function.name == name).unwrap();
+    let mut list = pieces::inputs(name, &mut random(index as u64));
+    list.extend(lines(PIECES).filter(|(label, _)| *label == name).map(|(_, words)| words));
+    list
+}
+
 pub fn write(folder: &Path) -> Result<(), String> {
     std::fs::create_dir_all(folder).map_err(|e| format!("{}: {e}", folder.display()))?;
     println!("seed {SEED:016x}");
     let mut total = 0;
-    for (index, function) in FUNCTIONS.iter().enumerate() {
-        let inputs: Vec<Vec<u64>> = if function.name == "frame" {
-            frames().iter().map(|(_, frame)| frame.map(f64::to_bits).to_vec()).collect()
-        } else {
-            pieces::inputs(function.name, &mut random(index as u64))
-        };
-        let records: Vec<Vec<u64>> = inputs
+    for function in FUNCTIONS {
+        let records: Vec<Vec<u64>> = inputs(function.name)
             .into_iter()
             .map(|input| {
                 let answer = table::second::answer(function.name, &input);
@@ -77,7 +88,14 @@ pub fn write(folder: &Path) -> Result<(), String> {
             })
             .collect();
         let size = stored::write(folder, function, &records)?;
-        println!("{}.bin: {} records, {size} bytes; {}", function.name, records.len(), summary(function.name, &records));
+        let differ = records
+            .iter()
+            .filter(|record| table::asis::answer(function.name, &record[..function.takes]) != record[function.takes..])
+            .count();
+        println!(
+            "{}.bin: {} records, {size} bytes; the unchanged copy differs on {differ}{}",
+            function.name, records.len(), summary(function.name, &records)
+        );
         total += size;
     }
     println!("{total} bytes in all");
@@ -105,12 +123,12 @@ fn summary(name: &str, records: &[Vec<u64>]) -> String {
             }
             let updates: Vec<String> =
                 updates.iter().enumerate().map(|(value, count)| format!("{value}: {count}")).collect();
-            format!("refusals {}; poses {}; best {}; updates {}", tally(0), tally(1), tally(2), updates.join(", "))
+            format!("; refusals {}; poses {}; best {}; updates {}", tally(0), tally(1), tally(2), updates.join(", "))
         }
-        "quadratic" | "cubic" => format!("numbers {}", tally(0)),
-        "refine" => format!("updates {}", tally(0)),
-        "choice" => format!("numbers {}; best {}", tally(0), tally(1)),
-        "ray_fits" | "near" | "project" | "basis" | "eig" | "row_crosses" => format!("answers {}", tally(0)),
+        "quadratic" | "cubic" => format!("; numbers {}", tally(0)),
+        "refine" => format!("; updates {}", tally(0)),
+        "choice" => format!("; numbers {}; best {}", tally(0), tally(1)),
+        "ray_fits" | "near" | "project" | "basis" | "eig" | "row_crosses" => format!("; answers {}", tally(0)),
         _ => String::new(),
     }
 }
@@ -135,24 +153,41 @@ fn kinds() {
     }
 }
 
-/// Random frames that reach an outcome which fewer than `enough` stored frames reach;
-/// lines for inputs/frames.txt.
-pub fn search(seed: u64, count: u64, enough: usize) {
+/// Inputs that reach an outcome which fewer than `enough` stored vectors of that function
+/// reach: random ones, or those of a file. Lines for inputs/.
+pub fn search(name: &str, source: Source, enough: usize) {
     let mut counts = Counts::default();
-    for (_, frame) in frames() {
-        counts.run("frame", &frame.map(f64::to_bits));
+    for input in inputs(name) {
+        counts.run(name, &input);
     }
-    let mut r = Random::new(seed);
-    for _ in 0..count {
-        let (kind, _, make) = r.pick(frames::KINDS);
-        let frame = make(&mut r);
-        let input = frame.map(f64::to_bits);
-        let mut one = Counts::default();
-        let reached = one.run("frame", &input);
+    let mut consider = |label: &str, input: Vec<u64>| {
+        let reached = Counts::default().run(name, &input);
         if reached.iter().any(|(label, outcome)| counts.of(label, *outcome) < enough) {
-            counts.run("frame", &input);
-            let words: Vec<String> = input.iter().map(|word| format!("{word:016x}")).collect();
-            println!("found-{kind} {}", words.join(" "));
+            counts.run(name, &input);
+            println!("{label} {}", input.iter().map(|word| format!("{word:016x}")).collect::<Vec<_>>().join(" "));
+        }
+    };
+    match source {
+        Source::Random { seed, count } => {
+            let mut r = Random::new(seed);
+            for _ in 0..count {
+                if name == "frame" {
+                    let (kind, _, make) = r.pick(frames::KINDS);
+                    consider(&format!("found-{kind}"), make(&mut r).map(f64::to_bits).to_vec());
+                } else {
+                    consider(name, pieces::random(name, &mut r));
+                }
+            }
+        }
+        Source::Text(text) => {
+            for (label, input) in crate::check::inputs(&text, name) {
+                consider(&label, input);
+            }
         }
     }
+}
+
+pub enum Source {
+    Random { seed: u64, count: u64 },
+    Text(String),
 }
