@@ -1,0 +1,20 @@
+-- The cubic's part in the scaling rule: its coefficients are of degree 0, so both runs solve the same cubic (`cubic-scales`). Assumes nothing.
+use mathlib.Core.Path.{_≡_, refl}
+use lib.IntN.{ℤ, pos}
+use lib.Ieee.{Float}
+use Rattle.ieee754.specs.Scaling.{Both, At}
+use Rattle.ieee754.proofs.Degrees.{same, at-zero}
+use Rattle.polynomial.specs.PolishedRoot.{polishedCubicRoot}
+use Rattle.polynomial.specs.RootScaling.{AtRoots, two-at, one-at, refused-at}
+use Rattle.polynomial.specs.declared.Roots.{Roots}
+use Rattle.polynomial.specs.declared.Roots.the-variants.{Two, One, Refused}
+
+module _ {k : ℤ} where
+  -- an answer beside itself, at degree 0
+  pub roots-same : (r : Roots) → AtRoots k (pos 0) r r
+  roots-same (Two x y) = two-at (same x) (same y)
+  roots-same (One x) = one-at (same x)
+  roots-same (Refused n) = refused-at n
+
+  pub cubic-scales : {b b' c c' d d' : Float} → At k (pos 0) b b' → At k (pos 0) c c' → At k (pos 0) d d' → Both (AtRoots k (pos 0)) (polishedCubicRoot b c d) (polishedCubicRoot b' c' d')
+  cubic-scales {b} {b'} {c} {c'} {d} {d'} B C D = rw (← at-zero B, ← at-zero C, ← at-zero D) (record { results = λ r r'. roots-same _ })

@@ -1,0 +1,2 @@
+pub mod QuadraticScaling
+pub mod CubicScaling

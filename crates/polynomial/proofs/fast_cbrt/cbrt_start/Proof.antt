@@ -1,0 +1,37 @@
+-- `polynomial::fast_cbrt::cbrt_start` meets its contract: the pattern of no number is above minus infinity's, a third of which and the constant stay below infinity's. Assumes nothing.
+use borrow.Author.Needs.{needs}
+use native.Mathlib.Omega.{arith}
+use Prim.Native.Nat.{_+_, _/_, _%_, _<_, _≤_}
+use mathlib.Core.Path.{refl, sym, subst}
+use lib.Dec.{T}
+use lib.Ieee.{binary64, fits, toBits}
+use lib.Ieee.Bits.{toBits-lt}
+use Rattle.ieee754.proofs.Reading.{in-range, no-nan}
+use Rattle.polynomial.specs.FastCbrt.{cbrtStart}
+use Rattle.polynomial.proofs.fast_cbrt.cbrt_start.Statement.{statement}
+use Rattle.polynomial.proofs.fast_cbrt.cbrt_start.Tie as tie
+
+held : (c : tie.Start) → T (fits binary64 (c .args .magnitude))
+held c = subst T (sym (c .good .0 .1)) tt
+
+float-to-bits-result : tie.Need-float-to-bits-result
+float-to-bits-result c = search needs
+
+add-result : tie.Need-add-result
+add-result c =
+    let bound : toBits binary64 (c .args .magnitude) < 0x1_0000_0000_0000_0000 = toBits-lt binary64 (c .args .magnitude) (held c) in
+    omega arith
+
+float-from-bits-result : tie.Need-float-from-bits-result
+float-from-bits-result c =
+    let bound : toBits binary64 (c .args .magnitude) < 0x1_0000_0000_0000_0000 = toBits-lt binary64 (c .args .magnitude) (held c) in
+    let number : toBits binary64 (c .args .magnitude) % 0x8000_0000_0000_0000 ≤ 0x7ff0_0000_0000_0000 = in-range binary64 (c .args .magnitude) (held c) (c .pre) in
+    let below : toBits binary64 (c .args .magnitude) / 3 + 0x2a9f_7625_3119_d328 ≤ 0x7ff0_0000_0000_0000 = omega arith in
+    no-nan binary64 _ below
+
+returns : tie.Need-returns
+unfolding cbrtStart
+returns c = refl
+
+pub cbrt-start-spec : {M : Type 1} → statement M
+cbrt-start-spec = tie.close (tie.spec float-to-bits-result add-result float-from-bits-result returns)

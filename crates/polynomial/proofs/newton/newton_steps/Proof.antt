@@ -1,0 +1,79 @@
+-- `polynomial::newton::newton_steps` meets its contract. The loop's invariant: what is left of the four steps leads from the present root to where four steps lead from the start.
+-- The measure is the number of steps that are left. Assumes nothing.
+use borrow.Author.Needs.{needs}
+use native.Mathlib.Omega.{arith}
+use Prim.Native.Nat.{ℕ, suc, _-_, _+_, _≤_, _<_}
+use mathlib.Core.Path.{_≡_, refl, sym, _∙_}
+use lib.Ieee.{Float}
+use Rattle.polynomial.specs.Newton.{newtonStep, newtonSteps}
+use Rattle.polynomial.specs.declared.Monic.{Monic}
+use Rattle.polynomial.specs.declared.Step.the-variants.{Next, Stop}
+use Rattle.polynomial.proofs.newton.newton_steps.Statement.{statement}
+use Rattle.polynomial.proofs.newton.newton_steps.Tie as tie
+
+-- the definition at one turn, after fewer than four steps, where the next one stops or goes on; and at the end
+module _ (p : Monic) (root : Float) (steps : ℕ) where
+  stops : steps < 4 → newtonStep p root .value ≡ Stop → root ≡ newtonSteps (4 - steps) p root .value
+  unfolding newtonSteps
+  stops h e = let left : 4 - steps ≡ suc (4 - (steps + 1)) = omega arith in rw (left, e)
+
+  goes : (next : Float) → steps < 4 → newtonStep p root .value ≡ Next next → newtonSteps (4 - (steps + 1)) p next .value ≡ newtonSteps (4 - steps) p root .value
+  unfolding newtonSteps
+  goes next h e = let left : 4 - steps ≡ suc (4 - (steps + 1)) = omega arith in rw (left, e)
+
+  ends : 4 ≤ steps → root ≡ newtonSteps (4 - steps) p root .value
+  unfolding newtonSteps
+  ends h = let left : 4 - steps ≡ 0 = omega arith in rw left
+
+abbrev Inv-loop : tie.InvT-loop
+Inv-loop p start root₀ steps₀ root steps = (steps ≤ 4) × (newtonSteps (4 - steps) p root .value ≡ newtonSteps 4 p start .value)
+
+abbrev μ-loop : tie.MeasureT-loop
+μ-loop p start root₀ steps₀ root steps = 4 - steps
+
+loop-holds : tie.Need-loop-holds Inv-loop μ-loop
+loop-holds c = (search needs, refl)
+
+newton-step-requires : tie.Need-newton-step-requires Inv-loop μ-loop
+newton-step-requires c κs = search needs
+
+enum-known-next : tie.Need-enum-known-next Inv-loop μ-loop
+enum-known-next c = search needs
+
+enum-told : tie.Need-enum-told Inv-loop μ-loop
+enum-told c = search needs
+
+returns : tie.Need-returns Inv-loop μ-loop
+returns c =
+    let loop = c .before .before .before .before .loop in
+    stops _ (loop .root) (loop .steps) (c .before .before .before .loop-test .taken) (sym (c .before .before .newton-step .ensures) ∙ c .enum-told .given .1) ∙ loop .inv .1
+
+add-steps : tie.Need-add-steps Inv-loop μ-loop
+add-steps c = search needs
+
+loop-less : tie.Need-loop-less Inv-loop μ-loop
+loop-less c = omega arith
+
+loop-again : tie.Need-loop-again Inv-loop μ-loop
+loop-again c =
+    let loop = c .before .before .before .before .before .loop in
+    (search needs, goes _ (loop .root) (loop .steps) _ (c .before .before .before .before .loop-test .taken) (sym (c .before .before .before .newton-step .ensures) ∙ c .before .next .given .1) ∙ loop .inv .1)
+
+returns-2 : tie.Need-returns-2 Inv-loop μ-loop
+returns-2 c = ends _ (c .before .loop .root) (c .before .loop .steps) (c .loop-test .left) ∙ c .before .loop .inv .1
+
+pub newton-steps-spec : {M : Type 1} → statement M
+newton-steps-spec =
+    tie.close
+    (tie.spec
+    Inv-loop
+    μ-loop
+    loop-holds
+    newton-step-requires
+    enum-known-next
+    enum-told
+    returns
+    add-steps
+    loop-less
+    loop-again
+    returns-2)

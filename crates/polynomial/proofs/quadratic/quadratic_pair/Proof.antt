@@ -1,0 +1,31 @@
+-- `polynomial::quadratic::quadratic_pair` meets its contract. Assumes nothing.
+use borrow.Author.Needs.{needs}
+use Rattle.polynomial.specs.Quadratic.{quadraticPair}
+use Rattle.polynomial.proofs.quadratic.quadratic_pair.Statement.{statement}
+use Rattle.polynomial.proofs.quadratic.quadratic_pair.Tie as tie
+
+returns : tie.Need-returns
+unfolding quadraticPair
+returns c = rw (c .if1 .taken)
+
+sqrt-requires : tie.Need-sqrt-requires
+sqrt-requires c κs = search needs
+
+copysign-requires : tie.Need-copysign-requires
+copysign-requires c κs = search needs
+
+returns-2 : tie.Need-returns-2
+unfolding quadraticPair
+returns-2 c =
+    let e1 = c .before .before .before in
+    rw (e1 .if1 .left, ← c .before .before .sqrt .ensures, ← c .before .copysign .ensures, c .if2 .taken)
+
+returns-3 : tie.Need-returns-3
+unfolding quadraticPair
+returns-3 c =
+    let e1 = c .before .before .before in
+    rw (e1 .if1 .left, ← c .before .before .sqrt .ensures, ← c .before .copysign .ensures, c .if2 .left)
+
+pub quadratic-pair-spec : {M : Type 1} → statement M
+quadratic-pair-spec =
+    tie.close (tie.spec returns sqrt-requires copysign-requires returns-2 returns-3)

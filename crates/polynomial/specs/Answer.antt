@@ -1,0 +1,40 @@
+-- What the enums of this crate stand for. An answer, `Roots`, holds two roots, one root, or the number by which document 01 names a refusal ("Questions, in order").
+-- A `Step` is the Rust's Option<f64>: a value to go on with, or a stop.
+use Prim.Native.Nat.{ℕ}
+use mathlib.Core.List.{List, [], _∷_}
+use lib.Ieee.{Float}
+use Rattle.ieee754.specs.Traced.{Traced}
+use Rattle.polynomial.specs.declared.Roots.{Roots}
+use Rattle.polynomial.specs.declared.Roots.the-variants.{Two, One, Refused}
+use Rattle.polynomial.specs.declared.Step.{Step}
+use Rattle.polynomial.specs.declared.Step.the-variants.{Next, Stop}
+
+-- ---- the refusals of the root finders
+
+-- a coefficient is not finite
+abbrev pub notFinite : Roots
+notFinite = Refused 4
+
+-- the quadratic's discriminant is not finite, or is below minus the band
+abbrev pub noRealRoots : Roots
+noRealRoots = Refused 5
+
+-- `polished_cubic_root` gives no root
+abbrev pub noRoot : Roots
+noRoot = Refused 6
+
+-- ---- an answer's number, 0 where nothing is refused, and its values in their order
+abbrev pub number : Roots → ℕ
+number (Two x y) = 0
+number (One x) = 0
+number (Refused n) = n
+
+abbrev pub values : Roots → List Float
+values (Two x y) = x ∷ y ∷ []
+values (One x) = x ∷ []
+values (Refused n) = []
+
+-- ---- what follows a step: `none` at a stop, and else what `k` makes of the value
+abbrev pub after : {A : Type 0} → Step → Traced A → (Float → Traced A) → Traced A
+after Stop none k = none
+after (Next x) none k = k x

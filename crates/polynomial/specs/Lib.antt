@@ -1,0 +1,11 @@
+-- The definitions that the contracts of this crate cite, in reading order.
+pub mod Literal
+pub mod Answer
+pub mod Quadratic
+pub mod FastCbrt
+pub mod Cardano
+pub mod CubicScale
+pub mod CubicStart
+pub mod Newton
+pub mod PolishedRoot
+pub mod RootScaling

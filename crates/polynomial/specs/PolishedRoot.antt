@@ -1,0 +1,38 @@
+-- `polished_cubic_root` of polynomial.rs: one real root of x^3 + b*x^2 + c*x + d. Document 01, module 3.
+use mathlib.Core.Bool.{not}
+use lib.Ieee.{Float}
+use lib.Ieee.Scale.{finite}
+use Rattle.ieee754.specs.Traced.{Traced, pure, _>>=_, if_then_else_, !_, _⊗_}
+use Rattle.polynomial.specs.Literal.{zero}
+use Rattle.polynomial.specs.Answer.{notFinite, noRoot, after}
+use Rattle.polynomial.specs.CubicScale.{allZero, cubicVariableScale, normalised}
+use Rattle.polynomial.specs.CubicStart.{startRoot}
+use Rattle.polynomial.specs.Newton.{newtonSteps}
+use Rattle.polynomial.specs.declared.Monic.{Monic}
+use Rattle.polynomial.specs.declared.Roots.{Roots}
+use Rattle.polynomial.specs.declared.Roots.the-variants.{One}
+
+-- at most four Newton steps from the start, and back to the scale of the coefficients
+unfoldable pub rescaledRoot : Monic → Float → Float → Traced Roots
+rescaledRoot p variableScale start = do
+  polished ← newtonSteps 4 p start
+  -- let root = root * variable_scale;
+  root ← ! polished ⊗ ! variableScale
+  if finite root then pure (One root)
+      else pure noRoot
+
+-- for finite coefficients of which one is not zero
+unfoldable pub polishedRoot : Float → Float → Float → Traced Roots
+polishedRoot b c d = do
+  variableScale ← cubicVariableScale b c d
+  p ← normalised b c d variableScale
+  start ← startRoot p
+  after start (pure noRoot) (λ root. rescaledRoot p variableScale root)
+
+unfoldable pub polishedCubicRoot : Float → Float → Float → Traced Roots
+polishedCubicRoot b c d =
+    if not (finite b) then pure notFinite
+    else if not (finite c) then pure notFinite
+    else if not (finite d) then pure notFinite
+    else if allZero b c d then pure (One zero)
+    else polishedRoot b c d

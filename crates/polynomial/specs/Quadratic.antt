@@ -1,0 +1,48 @@
+-- `quadratic_real_monic` and `quadratic_real_monic_computed` of polynomial.rs: the real roots of x^2 + b*x + c. Document 01, module 2.
+use mathlib.Core.Bool.{not}
+use lib.Ieee.{Float, neg, lt, eq}
+use lib.Ieee.Scale.{finite}
+use Rattle.ieee754.specs.Literal.{epsilon, minPositive}
+use Rattle.ieee754.specs.Magnitude.{abs}
+use Rattle.ieee754.specs.CopySign.{copysign}
+use Rattle.ieee754.specs.Maximum.{max}
+use Rattle.ieee754.specs.Traced.{Traced, pure, _>>=_, if_then_else_, !_, ⊝_, √_, _⊗_, _⊘_, _⊕_, mulAdd}
+use Rattle.polynomial.specs.Literal.{zero, half, four, thirtyTwo}
+use Rattle.polynomial.specs.Answer.{notFinite, noRealRoots}
+use Rattle.polynomial.specs.declared.Roots.{Roots}
+use Rattle.polynomial.specs.declared.Roots.the-variants.{Two}
+
+-- the roots where the discriminant is in the band or above it; a negative one counts as zero
+unfoldable pub quadraticPair : Float → Float → Float → Traced Roots
+quadraticPair b c discriminant =
+    if eq discriminant zero then (do
+      -- Some([-0.5 * b; 2])
+      root ← ⊝ ! half ⊗ ! b
+      pure (Two root root))
+    else do
+      -- let q = -0.5 * (b + discriminant.sqrt().copysign(b));
+      root ← √ ! discriminant
+      q ← ⊝ ! half ⊗ (! b ⊕ ! (copysign root b))
+      if eq q zero then pure (Two zero zero)
+          else do
+            -- Some([q, c / q])
+            other ← ! c ⊘ ! q
+            pure (Two q other)
+
+unfoldable pub quadraticRealMonicComputed : Float → Float → Float → Traced Roots
+quadraticRealMonicComputed b c cScale =
+    if not (finite b) then pure notFinite
+    else if not (finite c) then pure notFinite
+    else do
+      -- let discriminant = b.mul_add(b, -4.0 * c);
+      discriminant ← mulAdd (! b) (! b) (⊝ ! four ⊗ ! c)
+      -- let discriminant_scale = b * b + 4.0 * c_scale;
+      discriminantScale ← ! b ⊗ ! b ⊕ ! four ⊗ ! cScale
+      -- let tolerance = 32.0 * f64::EPSILON * discriminant_scale.max(f64::MIN_POSITIVE);
+      tolerance ← ! thirtyTwo ⊗ ! epsilon ⊗ ! (max discriminantScale minPositive)
+      if lt discriminant (neg tolerance) then pure noRealRoots
+          else if not (finite discriminant) then pure noRealRoots
+          else quadraticPair b c (max discriminant zero)
+
+unfoldable pub quadraticRealMonic : Float → Float → Traced Roots
+quadraticRealMonic b c = quadraticRealMonicComputed b c (abs c)

@@ -1,0 +1,54 @@
+// One real root of a monic cubic.
+ghost use mathlib.Core.Path.{_≡_};
+ghost use Rattle.polynomial.specs.PolishedRoot.{rescaledRoot, polishedRoot, polishedCubicRoot};
+use crate::Monic;
+use crate::Roots;
+use crate::Step;
+use crate::cubic_scale::all_zero;
+use crate::cubic_scale::cubic_variable_scale;
+use crate::cubic_scale::normalised;
+use crate::cubic_start::start_root;
+use crate::newton::newton_steps;
+use ieee754::is_finite::is_finite;
+
+// Polished, and back to the scale of the coefficients.
+fn rescaled_root(p: Monic, variable_scale: f64, start: f64) -> Roots
+    ensures { λ r. ⌜ r ≡ rescaledRoot p «variable_scale» start .value ⌝ }
+{
+    let root = newton_steps(p, start) * variable_scale;
+    if is_finite(root) {
+        return Roots::One(root);
+    }
+    Roots::Refused(6)
+}
+
+fn polished_root(b: f64, c: f64, d: f64) -> Roots
+    ensures { λ r. ⌜ r ≡ polishedRoot b c d .value ⌝ }
+{
+    let variable_scale = cubic_variable_scale(b, c, d);
+    let p = normalised(b, c, d, variable_scale);
+    let Step::Next(start) = start_root(p) else {
+        return Roots::Refused(6);
+    };
+    rescaled_root(p, variable_scale, start)
+}
+
+// One polished real root of x^3 + b*x^2 + c*x + d = 0. Where it has three, the start outside the nearest turning point
+// finds the branch that the conic-pencil reduction of the three-point pose problem needs.
+pub fn polished_cubic_root(b: f64, c: f64, d: f64) -> Roots
+    ensures { λ r. ⌜ r ≡ polishedCubicRoot b c d .value ⌝ }
+{
+    if !is_finite(b) {
+        return Roots::Refused(4);
+    }
+    if !is_finite(c) {
+        return Roots::Refused(4);
+    }
+    if !is_finite(d) {
+        return Roots::Refused(4);
+    }
+    if all_zero(b, c, d) {
+        return Roots::One(0.0);
+    }
+    polished_root(b, c, d)
+}

@@ -1,0 +1,40 @@
+-- `words::byte` meets its contract. Assumes nothing.
+use borrow.Author.Needs.{needs}
+use native.Mathlib.Omega.{arith}
+use Prim.Native.Nat.{ℕ, _+_, _≤_}
+use mathlib.Core.Path.{_≡_, refl, sym}
+use mathlib.Core.List.{List}
+use lib.ListN.{length, getD, List·getD-eq-default}
+use Rattle.words.proofs.byte.Statement.{statement}
+use Rattle.words.proofs.byte.Tie as tie
+use Rattle.words.proofs.byte.Reads as reads
+use Rattle.words.proofs.byte.Lts as lts
+
+sub-if2 : tie.Need-sub-if2
+sub-if2 c = search needs
+
+add-result : tie.Need-add-result
+add-result c = search needs
+
+shared-slice-read-result : tie.Need-shared-slice-read-result
+shared-slice-read-result c = search needs
+
+cast-result : tie.Need-cast-result
+cast-result c = let a = c .before .before .before .args in omega (arith, c .shared-slice-known .given (a .at + a .i))
+
+returns : tie.Need-returns
+returns c = let a = c .before .before .before .args in (refl, omega (arith, c .shared-slice-known .given (a .at + a .i)))
+
+past : (s : List ℕ) (i : ℕ) → length s ≤ i → 0 ≡ getD s i 0
+past s i h = sym (List·getD-eq-default s 0 h)
+
+returns-2 : tie.Need-returns-2
+returns-2 c = let a = c .before .before .args in (past (a .s .now) (a .at + a .i) (omega arith), omega arith)
+
+returns-3 : tie.Need-returns-3
+returns-3 c = let a = c .before .args in (past (a .s .now) (a .at + a .i) (omega arith), omega arith)
+
+pub byte-spec : {M : Type 1} → statement M
+byte-spec =
+    tie.close
+    (tie.spec sub-if2 add-result shared-slice-read-result cast-result returns returns-2 returns-3)

@@ -1,0 +1,66 @@
+// Vectors of doubles, for the programs that replay them: files of 64-bit words, most significant byte first, each a number
+// or the bit pattern of a double.
+ghost use mathlib.Core.Path.{_≡_};
+ghost use Prim.Native.Nat.{_+_, _<_, _≤_};
+ghost use lib.Dec.{eqb};
+ghost use lib.Ieee.{binary64, ofBits, toBits};
+ghost use lib.ListN.{getD};
+ghost use Rattle.words.specs.Words.{halfAt, wordAt};
+
+pub mod report;
+
+// The byte i places after `at`, or 0 past the end.
+fn byte(s: &[u8], at: usize, i: usize) -> u64
+    ensures { λ r. ⌜ (r ≡ getD (now (s .entry)) (at + i) 0) × (r < 256) ⌝ }
+{
+    if at < s.len() {
+        if i < s.len() - at {
+            return s[at + i] as u64;
+        }
+    }
+    0
+}
+
+// The number of the four bytes from i places after `at` on.
+fn half(s: &[u8], at: usize, i: usize) -> u64
+    requires { ⌜ i ≤ 4 ⌝ }
+    ensures { λ r. ⌜ (r ≡ halfAt (now (s .entry)) at i) × (r < 0x1_0000_0000) ⌝ }
+{
+    let high = byte(s, at, i) * 256 + byte(s, at, i + 1);
+    let low = byte(s, at, i + 2) * 256 + byte(s, at, i + 3);
+    high * 0x1_0000 + low
+}
+
+// The word of the eight bytes from `at` on.
+pub fn word(s: &[u8], at: usize) -> u64
+    ensures { λ r. ⌜ r ≡ wordAt (now (s .entry)) at ⌝ }
+{
+    half(s, at, 0) * 0x1_0000_0000 + half(s, at, 4)
+}
+
+// The double of a bit pattern, a NaN for every NaN's.
+pub fn float(bits: u64) -> f64
+    ensures { λ r. ⌜ r ≡ ofBits binary64 bits ⌝ }
+{
+    if 0x7ff0_0000_0000_0000 < bits % 0x8000_0000_0000_0000 {
+        return 0.0 / 0.0;
+    }
+    f64::from_bits(bits)
+}
+
+// The bit pattern of a double, 7ff8000000000000 for a NaN.
+pub fn pattern(x: f64) -> u64
+    ensures { λ r. ⌜ r ≡ toBits binary64 x ⌝ }
+{
+    if x != x {
+        return 0x7ff8_0000_0000_0000;
+    }
+    f64::to_bits(x)
+}
+
+// Whether x has the bit pattern w.
+pub fn agrees(x: f64, w: u64) -> bool
+    ensures { λ r. ⌜ r ≡ eqb (toBits binary64 x) w ⌝ }
+{
+    pattern(x) == w
+}
