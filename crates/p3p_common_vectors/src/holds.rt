@@ -63,6 +63,15 @@ fn flag(b: bool) -> u64 {
     if b { 1 } else { 0 }
 }
 
+// A word as a count, the largest count for a word beyond it.
+fn narrow(w: u64) -> u32 {
+    if w <= 0xffff_ffff {
+        w as u32
+    } else {
+        0xffff_ffff
+    }
+}
+
 // Depths, squared edges, cosines and the limit; the updates and the depths.
 fn refine_holds(s: &[u8; 192]) -> bool {
     let depths = vector_at(s, 0);
@@ -76,11 +85,7 @@ fn refine_holds(s: &[u8; 192]) -> bool {
         m02: float(word(s, 56)),
         m12: float(word(s, 64)),
     };
-    let limit = word(s, 72);
-    if 0xffff_ffff < limit {
-        return false;
-    }
-    let refined = refine_depths(depths, edges, cosines, limit as u32);
+    let refined = refine_depths(depths, edges, cosines, narrow(word(s, 72)));
     let after = refined.depths;
     refined.updates as u64 == word(s, 80) && vector_agrees(after, s, 88)
 }
