@@ -1,4 +1,4 @@
--- The cases of document 01, "Checked by hand", that are marked P and speak of the refinement and of the rays, as rows of a table: numbers by their bit patterns.
+-- The cases of document 01, "Checked by hand", that are marked P and speak of the refinement and of the rays, as rows of a table: numbers by their bit patterns. The whole table, and the theorem over its rows, are in the crate lambdatwist.
 use Prim.Native.Nat.{ℕ}
 use mathlib.Core.Bool.{Bool, true, false, _&&_, Bool·beq}
 use mathlib.Core.List.{List, [], _∷_}
@@ -7,8 +7,6 @@ use lib.Ieee.{Float, binary64, toBits}
 use Rattle.ieee754.specs.Literal.{num}
 use Rattle.linalg.specs.Vectors.{vector}
 use Rattle.linalg.specs.declared.vector3.Vector3.{Vector3}
-use Rattle.p3p_common.specs.declared.refine_depths.SquaredEdges.{SquaredEdges}
-use Rattle.p3p_common.specs.declared.refine_depths.Cosines.{Cosines}
 use Rattle.p3p_common.specs.declared.refine_depths.Refined.{Refined}
 use Rattle.p3p_common.specs.RefineDepths.{refineDepths}
 use Rattle.p3p_common.specs.RayFits.{rayFits}
@@ -47,8 +45,3 @@ poseCases =
     -- (2^-20 + 2^-72, 0, 1) does not
     ∷ ray 0x3eb0_0000_0000_0001 0 0x3ff0_0000_0000_0000 0 0 0x3ff0_0000_0000_0000 false
     ∷ []
-
--- every row of a table holds
-unfoldable pub every : {A : Type 0} → (A → Bool) → List A → Bool
-every holds [] = true
-every holds (row ∷ rows) = holds row && every holds rows

@@ -1,4 +1,5 @@
 -- The definitions that the contracts of this crate cite, in the order of a solve, and the relations of the scaling rule between two runs.
+pub mod Literal
 pub mod Input
 pub mod RefineDepths
 pub mod WorldBasisInverse
