@@ -1,24 +1,34 @@
--- From the digits of a root and the exponent to the double, said once for every degree p. Assumes nothing.
+-- The root of a significand times a power of two: its digits and its exponent, said once for every degree p. Assumes nothing.
 use Prim.Native.Nat.{ℕ, zero, suc, _+_, _-_, _*_, _/_, _%_, _^_, _≤_, _<_}
 use mathlib.Core.Path.{_≡_, sym, ap, _∙_, subst}
-use mathlib.Core.Logic.{inr}
-use mathlib.Core.Bool.{Bool, cond}
-use native.Mathlib.Nat.{le-trans, le-of-eq, lt-of-lt-of-le, lt-of-le-of-lt, mul-assoc, mul-comm, mul-left-comm, mul-le-mul-right, le-mul-of-pos-right, mul-pos, eq-of-mul-eq-mul-right, mod-lt, mod-eq-of-lt, div-add-mod, pow-zero, pow-suc, pow-succ'}
+use mathlib.Core.Bool.{Bool}
+use native.Mathlib.Nat.{le-trans, le-of-eq, lt-of-lt-of-le, mul-assoc, mul-comm, mul-left-comm, mul-le-mul-right, le-mul-of-pos-right, mul-pos, eq-of-mul-eq-mul-right, mod-lt, mod-eq-of-lt, div-add-mod, pow-zero, pow-suc, pow-succ'}
 use native.Mathlib.Omega.{arith}
 use lib.Dec.{lit<}
-use lib.Pow.{pow-add, pow-pos, pow-mono, pow-lt, shl-lt}
-use lib.Ieee.{binary64, top, ofBits}
+use lib.Pow.{pow-add, pow-pos, pow-mono, shl-lt}
+use lib.Ieee.{Float, binary64, units}
+use lib.Ieee.Exact.{HasValue}
 use Rattle.ieee754.specs.Root.{roundRoot}
 use Rattle.ieee754.proofs.RootLaws.{dropped, drops-dropped, drops-times, roundRoot-at, nearest-ge, nearest-le}
 use Rattle.ieee754.specs.inner.Nearest.{IsNearest}
-use Rattle.ieee754.proofs.Patterns.{units-bits}
+use Rattle.ieee754.specs.inner.Normal.{IsNormal}
+use Rattle.ieee754.specs.declared.normal.Scaled.{Scaled}
+use Rattle.ieee754.proofs.Reading.{times}
 
 -- a significand of 53 digits, moved up by less than p
-pub moved : (p m t : ℕ) → 2 ^ 52 ≤ m → m < 2 ^ 53 → t < p → (2 ^ 52 ≤ m * 2 ^ t) × (m * 2 ^ t < 2 ^ (52 + p))
+moved : (p m t : ℕ) → 2 ^ 52 ≤ m → m < 2 ^ 53 → t < p → (2 ^ 52 ≤ m * 2 ^ t) × (m * 2 ^ t < 2 ^ (52 + p))
 moved p m t l h o = (le-trans l (le-mul-of-pos-right m (pow-pos t)), lt-of-lt-of-le (shl-lt 53 t h) (pow-mono (omega arith)))
 
-pub kept : (p m t : ℕ) → 2 ^ 52 ≤ m → m < 2 ^ 53 → t < p → p ≤ 12 → m * 2 ^ t % 2 ^ 64 ≡ m * 2 ^ t
+kept : (p m t : ℕ) → 2 ^ 52 ≤ m → m < 2 ^ 53 → t < p → p ≤ 12 → m * 2 ^ t % 2 ^ 64 ≡ m * 2 ^ t
 kept p m t l h o w = mod-eq-of-lt (lt-of-lt-of-le (moved p m t l h o .1) (pow-mono {j = 64} (omega arith)))
+
+-- so in a word it loses no digit
+module _ (p m t : ℕ) (low : 2 ^ 52 ≤ m) (high : m < 2 ^ 53) (less : t < p) (room : p ≤ 12) where
+  pub moved-range : let n = m * 2 ^ t % 2 ^ 64 in (2 ^ 52 ≤ n) × (n < 2 ^ (52 + p))
+  moved-range = subst (λ (n : ℕ). (2 ^ 52 ≤ n) × (n < 2 ^ (52 + p))) (sym (kept p m t low high less room)) (moved p m t low high less)
+
+  pub moved-nearest : {q : ℕ} → IsNearest p (m * 2 ^ t % 2 ^ 64 * 2 ^ (52 * (p - 1))) q → IsNearest p (m * 2 ^ t * 2 ^ (52 * (p - 1))) q
+  moved-nearest {q} h = subst (λ (n : ℕ). IsNearest p (n * 2 ^ (52 * (p - 1))) q) (kept p m t low high less room) h
 
 -- times 2 ^ (52 * (p - 1)) it has as many digits as makes 53 digits of its root
 digits-ge : (p n : ℕ) → 0 < p → 2 ^ 52 ≤ n → 2 ^ (p * 52) ≤ n * 2 ^ (52 * (p - 1))
@@ -88,19 +98,23 @@ module _ (p bias m e : ℕ) (P : 0 < p) (gap : p * 1074 ≡ bias + (52 * (p - 1)
       (subst (λ (x : ℕ). 2 ^ p * x ≡ (2 * w + 1) ^ p * (2 ^ 1126 * 2 ^ (p * dropped p binary64 x (2 ^ 1126)))) radicand h)))
 
   -- the digits q of the root
-  module _ (s : Bool) (q : ℕ) (room : 53 + (e + bias) / p < 2098) (near : IsNearest p (m * 2 ^ ((e + bias) % p) * 2 ^ (52 * (p - 1))) q) where
-    q-ge : 2 ^ 52 ≤ q
+  module _ (q : ℕ) (near : IsNearest p (m * 2 ^ ((e + bias) % p) * 2 ^ (52 * (p - 1))) q) where
+    pub root-ge : 2 ^ 52 ≤ q
     unfolding n
-    q-ge = nearest-ge p 52 n q ge near
+    root-ge = nearest-ge p 52 n q ge near
 
-    pub q-le : q ≤ 2 ^ 53
+    pub root-le : q ≤ 2 ^ 53
     unfolding n
-    q-le = nearest-le p 53 n q lt near
+    root-le = nearest-le p 53 n q lt near
 
-    fits : q * 2 ^ k < 2 ^ 2098
-    unfolding k
-    fits = lt-of-le-of-lt (mul-le-mul-right (2 ^ k) q-le) (lt-of-le-of-lt (le-of-eq (sym (pow-add 2 53 k))) (pow-lt room))
-
-    pub result : roundRoot p binary64 s (m * 2 ^ e) (2 ^ 1126) ≡ ofBits binary64 (cond s (top binary64) 0 + ((e + bias) / p * 2 ^ 52 + q))
+    pub root-scaled : (s : Bool) → roundRoot p binary64 s (m * 2 ^ e) (2 ^ 1126) ≡ units binary64 s q ((e + bias) / p)
     unfolding n k
-    result = roundRoot-at p binary64 s (m * 2 ^ e) (2 ^ 1126) k n q P (lit< tt) radicand ge lt near ∙ units-bits binary64 s q k q-le (inr q-ge) fits
+    root-scaled s = roundRoot-at p binary64 s (m * 2 ^ e) (2 ^ 1126) k n q P (lit< tt) radicand ge lt near
+
+-- ---- the value of a double with the significand that `normalise` gives
+module _ (x : Float) (s : Bool) (sig exp : ℕ) (r : Scaled) (is : HasValue x s (sig * 2 ^ exp) (2 ^ 1074)) (h : IsNormal sig exp r) where
+  pub normal-value : HasValue x s (r .sig * 2 ^ r .exp) (2 ^ 1126)
+  normal-value = subst (λ (a : ℕ). HasValue x s a (2 ^ 1126)) (sym (h .same)) (times x s (sig * 2 ^ exp) (2 ^ 1074) (2 ^ 52) is)
+
+  pub normal-pos : 0 < r .sig * 2 ^ r .exp
+  normal-pos = mul-pos (lt-of-lt-of-le (lit< tt) (h .low)) (pow-pos (r .exp))

@@ -12,7 +12,7 @@ use lib.Ieee.Digits.{minus-val}
 use lib.Ieee.Fits.{up-pos, down-pos}
 use Rattle.ieee754.specs.Scaling.{moved}
 use Rattle.ieee754.proofs.Order.{scaled-test}
-use Rattle.ieee754.proofs.RootValues.{compare-mul}
+use Rattle.ieee754.proofs.Nearest.{compare-mul}
 use Rattle.ieee754.proofs.Sums.{sub-mul}
 
 -- ---- exponents

@@ -8,14 +8,15 @@ use mathlib.Core.Bool.{Bool, true, false, not, cond}
 use native.Mathlib.Nat.{le-trans, le-of-eq, le-of-lt, lt-trans, lt-of-lt-of-le, lt-of-le-of-lt, lt-of-not-le, not-le-of-lt, zero-add, mul-one, mul-comm, mul-assoc, mul-left-comm, mul-mul-mul-comm, mul-add, suc-mul, pow-zero, pow-suc, pow-le-pow-left, mul-pos, mul-le-mul-left, mul-le-mul-right, mul-lt-mul-of-pos-left, mul-lt-mul-of-pos-right, lt-of-mul-lt-mul-right, le-of-suc-le-suc, eq-zero-or-pos, div-lt-iff-lt-mul, le-div-iff-mul-le, lt-div-mul-add}
 use native.Mathlib.Numerals.{add-one}
 use native.Mathlib.Omega.{arith}
-use lib.Dec.{T, isLe, isEq, leb, eqb, leb→le, nleb→lt, eqb→eq, eqb-refl}
-use lib.Arith.{lt-of-le-ne}
+use lib.Dec.{T, leb, leb→le, nleb→lt}
 use lib.Pow.{pow-add, pow-pos, pow-mono}
 use lib.Ieee.{Float, Format, prec, low, up, size, nearest, units}
 use lib.Ieee.Digits.{size-lt, size-le, size-reaches}
 use lib.Ieee.Fits.{two}
 use Rattle.ieee754.specs.Root.{digits, root, roundRoot}
 use Rattle.ieee754.specs.inner.Nearest.{IsNearest}
+pub use Rattle.ieee754.proofs.Nearest.{Compared, compared}
+use Rattle.ieee754.proofs.Sizes.{size-gt}
 
 -- ---- powers
 
@@ -95,9 +96,6 @@ ceil-gt : (p z w : ℕ) → 0 < p → p * w < z → w < (z + (p - 1)) / p
 ceil-gt p z w P h = le-div-iff-mul-le P .1 (omega (arith, suc-mul w p))
 
 -- the digits of a root are those of its radicand, divided by p and rounded up
-size-gt : (n j : ℕ) → 2 ^ j ≤ n → j < size n
-size-gt n j h = lt-of-not-le (λ (g : size n ≤ j). not-le-of-lt (lt-of-lt-of-le (size-lt n) (pow-mono g)) h)
-
 pub dropped-drops : (p : ℕ) (f : Format) (n den : ℕ) → 0 < p → 0 < den → Drops p f n den (dropped p f n den)
 dropped-drops p f n den P D = (
   div-lt-iff-lt-mul D .0 (lt-of-lt-of-le (size-lt (n / den)) (pow-mono (le-trans (ceil-ge p z P) (mul-le-mul-left p (enough w (prec f)))))),
@@ -131,21 +129,6 @@ drops-dropped p f n den k P D d = go (d .1)
     go (inr l) =
         let over : prec f - 1 + k < w = ceil-gt p (size (n / den)) (prec f - 1 + k) P (size-gt (n / den) (p * (prec f - 1 + k)) (le-div-iff-mul-le D .1 l)) in
         omega (arith, under, two f)
-
--- ---- what `compare` says
-
-abbrev pub Compared : Ordering → ℕ → ℕ → Type 0
-Compared Ordering·lt a b = a < b
-Compared Ordering·eq a b = a ≡ b
-Compared Ordering·gt a b = b < a
-
-pub compared : (a b : ℕ) → Compared (compare a b) a b
-compared a b = go (compare a b) (leb→le a b) (nleb→lt a b) (eqb→eq a b) (λ (e : a ≡ b). subst (λ (x : ℕ). T (eqb a x)) e (eqb-refl a))
-  where
-    go : (o : Ordering) → (T (isLe o) → a ≤ b) → (T (not (isLe o)) → b < a) → (T (isEq o) → a ≡ b) → (a ≡ b → T (isEq o)) → Compared o a b
-    go Ordering·lt h k e n = lt-of-le-ne (h tt) n
-    go Ordering·eq h k e n = e tt
-    go Ordering·gt h k e n = k tt
 
 -- ---- the number that is chosen
 

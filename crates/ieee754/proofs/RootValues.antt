@@ -1,5 +1,5 @@
 -- Laws of `roundRoot`, `sqrt` and `cbrt` as functions of a value: at the degree 1 `roundRoot` is `round` (`roundRoot-one`), only the value of its fraction counts
--- (`roundRoot-same`), and so the root of a double goes by the double's value (`sqrt-of`, `sqrt-negative`, `cbrt-of`, `cbrt-neg`). Assumes nothing.
+-- (`roundRoot-same`), and so the root of a double goes by the double's value (`sqrt-zero`, `sqrt-of`, `sqrt-negative`, `cbrt-zero`, `cbrt-of`, `cbrt-neg`). Assumes nothing.
 use Prim.Native.Nat.{ℕ, zero, suc, _+_, _-_, _*_, _/_, _%_, _^_, _<_, compare, compare·suc-suc, Ordering, Ordering·lt, Ordering·eq, Ordering·gt}
 use mathlib.Core.Path.{_≡_, refl, sym, ap, _∙_}
 use mathlib.Core.Bool.{Bool, true, false, not, cond, true≢false, false≢true}
@@ -9,43 +9,14 @@ use lib.Dec.{ltb}
 use lib.Pow.{pow-pos}
 use lib.IntN.{ℤ}
 use lib.Ieee.{Float, nan, inf, fin, Format, binary64, prec, emax, low, up, down, size, nearest, odd, units, round, neg}
-use lib.Ieee.Fits.{down-pos, round-is}
+use lib.Ieee.Fits.{up-pos, down-pos, round-is}
 use lib.Ieee.Exact.{HasValue}
 use lib.Ieee.Nearest.{div-same}
 use Rattle.ieee754.specs.Root.{root, roundRoot, sqrt, cbrt}
-use Rattle.ieee754.proofs.RootLaws.{Compared, compared, dropped, dropped-drops, core, roundRoot-is, root-is, quotient-lt}
+pub use Rattle.ieee754.proofs.Nearest.{compare-mul, compare-same}
+use Rattle.ieee754.proofs.RootLaws.{dropped, dropped-drops, core, roundRoot-is, root-is, quotient-lt}
 
 -- ---- only the value of the fraction counts
-
-compare-is : (a b : ℕ) (o : Ordering) → Compared o a b → compare a b ≡ o
-compare-is a b o c = same (compare a b) o (compared a b) c
-  where
-    same : (r o : Ordering) → Compared r a b → Compared o a b → r ≡ o
-    same Ordering·lt Ordering·lt x y = refl
-    same Ordering·lt Ordering·eq x y = absurd (omega arith)
-    same Ordering·lt Ordering·gt x y = absurd (omega arith)
-    same Ordering·eq Ordering·lt x y = absurd (omega arith)
-    same Ordering·eq Ordering·eq x y = refl
-    same Ordering·eq Ordering·gt x y = absurd (omega arith)
-    same Ordering·gt Ordering·lt x y = absurd (omega arith)
-    same Ordering·gt Ordering·eq x y = absurd (omega arith)
-    same Ordering·gt Ordering·gt x y = refl
-
-pub compare-mul : (a b c : ℕ) → 0 < c → compare (a * c) (b * c) ≡ compare a b
-compare-mul a b c C = compare-is (a * c) (b * c) (compare a b) (times (compare a b) (compared a b))
-  where
-    times : (o : Ordering) → Compared o a b → Compared o (a * c) (b * c)
-    times Ordering·lt h = mul-lt-mul-of-pos-right h C
-    times Ordering·eq h = ap (λ (x : ℕ). x * c) h
-    times Ordering·gt h = mul-lt-mul-of-pos-right h C
-
--- n / b and m / d are the same, so each is above x / y or below it as the other is
-pub compare-same : (t x n b m d : ℕ) → 0 < b → 0 < d → n * d ≡ m * b → compare (t * n) (x * b) ≡ compare (t * m) (x * d)
-compare-same t x n b m d B D e =
-    sym (compare-mul (t * n) (x * b) d D)
-    ∙ ap (λ (z : ℕ). compare z (x * b * d)) (mul-assoc t n d ∙ ap (λ (z : ℕ). t * z) e ∙ sym (mul-assoc t m b))
-    ∙ ap (λ (z : ℕ). compare (t * m * b) z) (mul-right-comm x b d)
-    ∙ compare-mul (t * m) (x * d) b B
 
 pub roundRoot-same : (p : ℕ) (f : Format) (s : Bool) (a b c d : ℕ) → 0 < b → 0 < d → a * d ≡ c * b → roundRoot p f s a b ≡ roundRoot p f s c d
 roundRoot-same p f s a b c d B D e =
@@ -102,9 +73,22 @@ roundRoot-one f s num den D =
 
 -- ---- the root of a double, by its value
 
--- a value above 0 is no zero
+-- a value above 0 is no zero, and a value of 0 is one
 no-zero : (e : ℤ) (a c : ℕ) → 0 < a → zero * up e * c ≡ a * down e → ⊥
 no-zero e a c A h = omega (arith, h, mul-pos A (down-pos e))
+
+no-digits : (m : ℕ) (e : ℤ) (a c : ℕ) → a ≡ 0 → 0 < c → suc m * up e * c ≡ a * down e → ⊥
+no-digits m e a c A C h = omega (arith, h, ap (λ (x : ℕ). x * down e) A, mul-pos (mul-pos (zero-lt-suc m) (up-pos e)) C)
+
+pub sqrt-zero : (x : Float) (s : Bool) (a c : ℕ) → a ≡ 0 → 0 < c → HasValue x s a c → x ≡ sqrt x
+unfolding sqrt
+sqrt-zero (fin t zero e) s a c A C v = refl
+sqrt-zero (fin t (suc m) e) s a c A C v = absurd (no-digits m e a c A C (v .1))
+
+pub cbrt-zero : (x : Float) (s : Bool) (a c : ℕ) → a ≡ 0 → 0 < c → HasValue x s a c → x ≡ cbrt x
+unfolding cbrt
+cbrt-zero (fin t zero e) s a c A C v = refl
+cbrt-zero (fin t (suc m) e) s a c A C v = absurd (no-digits m e a c A C (v .1))
 
 pub sqrt-of : (x : Float) (a c : ℕ) → 0 < a → 0 < c → HasValue x false a c → sqrt x ≡ roundRoot 2 binary64 false a c
 unfolding sqrt

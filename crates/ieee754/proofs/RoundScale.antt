@@ -18,8 +18,9 @@ use lib.Ieee.Bits.{is-true}
 use Rattle.ieee754.specs.Root.{root, roundRoot}
 use Rattle.ieee754.specs.Traced.{inRange}
 use Rattle.ieee754.specs.Scaling.{scale, moved}
-use Rattle.ieee754.proofs.RootLaws.{mul-pow, pow-mul, pow-back, Drops, dropped, dropped-drops, drops-dropped, Near, core, roundRoot-is, compared, chosen-near, root-whole}
-use Rattle.ieee754.proofs.RootValues.{compare-same, roundRoot-same, roundRoot-one}
+use Rattle.ieee754.proofs.RootLaws.{mul-pow, pow-mul, pow-back, Drops, dropped, dropped-drops, drops-dropped, Near, core, roundRoot-is, chosen-near, root-whole}
+use Rattle.ieee754.proofs.Nearest.{compare-same, compared}
+use Rattle.ieee754.proofs.RootValues.{roundRoot-same, roundRoot-one}
 use Rattle.ieee754.proofs.Sums.{sub-mul}
 use Rattle.ieee754.proofs.Powers.{Ratio, minus-add, ℤ-once, up-negative, down-negative}
 

@@ -2,43 +2,31 @@
 -- the whole number does, provided enough digits are kept. In n's own scale the format's smallest value is 2 ^ u. Assumes nothing.
 use mathlib.Core.Path.{_≡_, sym, ap, _∙_, subst}
 use mathlib.Core.Logic.{_↔_, _⊎_, inl, inr, ⊎-elim}
-use Prim.Native.Nat.{ℕ, suc, _+_, _-_, _*_, _/_, _%_, _^_, _≤_, _<_, min}
-use native.Mathlib.Nat.{lt-of-lt-of-le, mul-assoc, mul-comm, mul-pos, div-lt-iff-lt-mul, div-add-mod', mod-lt, add-mul, zero-mul, pow-succ', suc-add}
+use Prim.Native.Nat.{ℕ, suc, _+_, _-_, _*_, _/_, _%_, _^_, _≤_, _<_, min, compare}
+use native.Mathlib.Nat.{le-trans, le-of-eq, zero-lt-suc, mul-assoc, mul-comm, mul-pos, mul-le-mul-right, le-div-iff-mul-le, div-add-mod', mod-lt, add-mul, zero-mul, pow-succ', suc-add}
 use native.Mathlib.Omega.{arith}
 use mathlib.Core.Bool.{Bool}
 use lib.Arith.{lt-one}
-use lib.Pow.{pow-add, pow-pos, pow-mono, shr-lt, shl-lt, high}
-use lib.Ieee.{Format, prec, low, size, units, round}
-use lib.Ieee.Digits.{size-lt, size-le}
-use lib.Ieee.Fits.{round-is}
-use lib.Ieee.Nearest.{closest, closest-same, div-same}
+use lib.Pow.{pow-add, pow-pos, shr-lt, shl-lt, high}
+use lib.Ieee.{Format, binary64, prec, low, size, units, round}
+use lib.Ieee.Fits.{round-is, nearest-le}
+use lib.Ieee.Nearest.{closest, closest-same, div-same, nearest-ge}
 use Rattle.ieee754.specs.inner.Jam.{jam}
 use Rattle.ieee754.proofs.Jam.{jam-is, jam-exact}
 use Rattle.ieee754.proofs.Nearest.{closest-sees}
 use Rattle.ieee754.proofs.Order.{lt-or-ge}
-
--- ---- how many digits a number has once some are cut off
-pub size-shr : (n j : ℕ) → size (n / 2 ^ j) ≡ size n - j
-size-shr n j =
-    let m = n / 2 ^ j in
-    let a : m < 2 ^ (size n - j) = shr-lt (size n - j) j (lt-of-lt-of-le (size-lt n) (pow-mono (omega arith))) in
-    let b : n < 2 ^ (size m + j) = subst (λ (x : ℕ). n < x) (sym (pow-add 2 (size m) j)) (div-lt-iff-lt-mul (pow-pos j) .0 (size-lt m)) in
-    omega (arith, size-le m (size n - j) a, size-le n (size m + j) b)
-
--- a number of no less than 2 ^ j has more than j digits
-pub size-gt : (n j : ℕ) → 2 ^ j ≤ n → j < size n
-size-gt n j h = ⊎-elim (λ (l : j < size n). l) (λ (g : size n ≤ j). absurd (let a = size-lt n in let b = pow-mono g in omega arith)) (lt-or-ge j (size n))
+use Rattle.ieee754.proofs.Sizes.{size-gt, size-shr, size-drop}
 
 -- ---- `round` in n's own scale
 
 -- how many digits of n / 2 ^ u the format drops
-abbrev pub dropped : Format → ℕ → ℕ → ℕ
-dropped f u n = size (n / 2 ^ u) - prec f
+abbrev drop : Format → ℕ → ℕ → ℕ
+drop f u n = size (n / 2 ^ u) - prec f
 
-pub round-at : (f : Format) (s : Bool) (u n : ℕ) → round f s n (2 ^ (u + low f)) ≡ units f s (closest n (2 ^ (u + dropped f u n))) (dropped f u n)
+round-at : (f : Format) (s : Bool) (u n : ℕ) → round f s n (2 ^ (u + low f)) ≡ units f s (closest n (2 ^ (u + drop f u n))) (drop f u n)
 round-at f s u n =
     let l = low f in
-    let d = dropped f u n in
+    let d = drop f u n in
     let e : n * 2 ^ l * 2 ^ u ≡ n * 2 ^ (u + l) = mul-assoc n (2 ^ l) (2 ^ u) ∙ ap (λ (x : ℕ). n * x) (mul-comm (2 ^ l) (2 ^ u) ∙ sym (pow-add 2 u l)) in
     let k : size (n * 2 ^ l / 2 ^ (u + l)) - prec f ≡ d = ap (λ (x : ℕ). size x - prec f) (div-same (n * 2 ^ l) (2 ^ (u + l)) n (2 ^ u) (pow-pos (u + l)) (pow-pos u) e) in
     let g : n * 2 ^ l * 2 ^ (u + d) ≡ n * (2 ^ (u + l) * 2 ^ d) = ap (λ (x : ℕ). n * 2 ^ l * x) (pow-add 2 u d) ∙ sym (mul-assoc (n * 2 ^ l) (2 ^ u) (2 ^ d)) ∙ ap (λ (x : ℕ). x * 2 ^ d) e ∙ mul-assoc n (2 ^ (u + l)) (2 ^ d) in
@@ -53,8 +41,8 @@ abbrev Enough : Format → ℕ → ℕ → ℕ → Type 0
 Enough f u g h = (g < u) ⊎ (2 ^ prec f ≤ h)
 
 -- then h alone says how many are dropped, and half of the last one that is kept is 2 ^ g or more
-dropped-block : (f : Format) (u g h r : ℕ) → r < 2 ^ g → Enough f u g h → dropped f u (h * 2 ^ g + r) ≡ size h + g - u - prec f
-dropped-block f u g h r l k =
+drop-block : (f : Format) (u g h r : ℕ) → r < 2 ^ g → Enough f u g h → drop f u (h * 2 ^ g + r) ≡ size h + g - u - prec f
+drop-block f u g h r l k =
     let n = h * 2 ^ g + r in
     let a = size-shr n u in
     let b : size h ≡ size n - g = ap size (sym (high h g l)) ∙ size-shr n g in
@@ -64,14 +52,14 @@ half-unit : (f : Format) (u g h : ℕ) → Enough f u g h → suc (u + (size h +
 half-unit f u g h k = ⊎-elim (λ (x : g < u). omega arith) (λ (x : 2 ^ prec f ≤ h). omega (arith, size-gt h (prec f) x)) k
 
 -- two such numbers round alike, if the rest of both is 0 or of neither
-pub round-sees : (f : Format) (s : Bool) (u g h r t : ℕ) → r < 2 ^ g → t < 2 ^ g → ((r ≡ 0) ↔ (t ≡ 0)) → Enough f u g h → round f s (h * 2 ^ g + r) (2 ^ (u + low f)) ≡ round f s (h * 2 ^ g + t) (2 ^ (u + low f))
+round-sees : (f : Format) (s : Bool) (u g h r t : ℕ) → r < 2 ^ g → t < 2 ^ g → ((r ≡ 0) ↔ (t ≡ 0)) → Enough f u g h → round f s (h * 2 ^ g + r) (2 ^ (u + low f)) ≡ round f s (h * 2 ^ g + t) (2 ^ (u + low f))
 round-sees f s u g h r t l m z k = at r l ∙ ap (λ (x : ℕ). units f s x d) same ∙ sym (at t m)
   where
     d : ℕ
     d = size h + g - u - prec f
 
     at : (x : ℕ) → x < 2 ^ g → round f s (h * 2 ^ g + x) (2 ^ (u + low f)) ≡ units f s (closest (h * 2 ^ g + x) (2 ^ (u + d))) d
-    at x y = round-at f s u (h * 2 ^ g + x) ∙ ap (λ (e : ℕ). units f s (closest (h * 2 ^ g + x) (2 ^ (u + e))) e) (dropped-block f u g h x y k)
+    at x y = round-at f s u (h * 2 ^ g + x) ∙ ap (λ (e : ℕ). units f s (closest (h * 2 ^ g + x) (2 ^ (u + e))) e) (drop-block f u g h x y k)
 
     same : closest (h * 2 ^ g + r) (2 ^ (u + d)) ≡ closest (h * 2 ^ g + t) (2 ^ (u + d))
     same = subst (λ (e : ℕ). closest (h * 2 ^ g + r) (2 ^ e) ≡ closest (h * 2 ^ g + t) (2 ^ e)) (half-unit f u g h k) (closest-sees (u + d - suc g) g h r t l m z)
@@ -110,3 +98,29 @@ round-jam f s u e k n (long x) = cut-short f s u e k n (inr (omega (arith, jam-i
 round-jam f s u e k n (exact x) =
     ap (λ (y : ℕ). round f s y (2 ^ (u + low f)))
     (ap (λ (y : ℕ). jam k n * y) (pow-add 2 k e) ∙ sym (mul-assoc (jam k n) (2 ^ k) (2 ^ e)) ∙ ap (λ (y : ℕ). y * 2 ^ e) (jam-exact k n x))
+
+-- ---- a word w of 64 digits, with its top digit set or at the lowest exponent, is rounded to 53 of them
+module _ (s : Bool) (w k : ℕ) (short : w < 2 ^ 64) (full : 0 < k → 2 ^ 63 ≤ w) where
+  drop-word : drop binary64 1092 (w * 2 ^ (k + 1081)) ≡ k
+  drop-word =
+      let n = w * 2 ^ (k + 1081) in
+      let hi : n < 2 ^ (53 + k + 1092) = subst (λ (x : ℕ). n < 2 ^ x) (omega arith) (shl-lt 64 (k + 1081) short) in
+      let lo : 0 < k → 2 ^ (52 + k) ≤ n / 2 ^ 1092 = λ z.
+      le-div-iff-mul-le (pow-pos 1092) .1
+      (le-trans (le-of-eq (sym (pow-add 2 (52 + k) 1092) ∙ ap (λ (x : ℕ). 2 ^ x) (omega arith) ∙ pow-add 2 63 (k + 1081))) (mul-le-mul-right (2 ^ (k + 1081)) (full z))) in
+      size-drop 53 (n / 2 ^ 1092) k (zero-lt-suc 52) (shr-lt (53 + k) 1092 hi) lo
+
+  pub round-word : round binary64 s (w * 2 ^ (k + 1081)) (2 ^ 2166) ≡ units binary64 s (closest w (2 ^ 11)) k
+  round-word =
+      let n = w * 2 ^ (k + 1081) in
+      let e : n * 2 ^ 11 ≡ w * 2 ^ (1092 + k) = mul-assoc w (2 ^ (k + 1081)) (2 ^ 11) ∙ ap (λ (x : ℕ). w * x) (sym (pow-add 2 (k + 1081) 11) ∙ ap (λ (x : ℕ). 2 ^ x) (omega arith)) in
+      round-at binary64 s 1092 n
+      ∙ ap (λ (d : ℕ). units binary64 s (closest n (2 ^ (1092 + d))) d) drop-word
+      ∙ ap (λ (q : ℕ). units binary64 s q k) (closest-same n (2 ^ (1092 + k)) w (2 ^ 11) (pow-pos (1092 + k)) (pow-pos 11) e)
+
+-- what is left of it has 53 digits, or is 2 ^ 53
+pub closest-le : (w : ℕ) → w < 2 ^ 64 → closest w (2 ^ 11) ≤ 2 ^ 53
+closest-le w short = omega (arith, nearest-le (w / 2 ^ 11) (compare (w % 2 ^ 11 * 2) (2 ^ 11)))
+
+pub closest-ge : (w : ℕ) → 2 ^ 63 ≤ w → 2 ^ 52 ≤ closest w (2 ^ 11)
+closest-ge w full = omega (arith, nearest-ge (w / 2 ^ 11) (compare (w % 2 ^ 11 * 2) (2 ^ 11)))

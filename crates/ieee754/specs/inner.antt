@@ -1,7 +1,7 @@
--- What the functions on whole numbers and bit patterns return, from which the single operations are made.
-pub mod Jam
-pub mod Nearest
-pub mod Normal
-pub mod Rounded
-pub mod Unpacked
+-- What the private functions return, on whole numbers and parts of doubles, from which the operations are made.
 pub mod Value
+pub mod Unpacked
+pub mod Nearest
+pub mod Jam
+pub mod Rounded
+pub mod Normal

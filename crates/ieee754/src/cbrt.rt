@@ -1,46 +1,43 @@
-// The cube root. A guess at the root of the significand is checked in integers, and where neither it
-// nor a neighbour is right the root is found by halving an interval.
+// Rust's f64::cbrt, C's cbrt, correctly rounded. From document 01, module 1.
+//
+// A guess at the root of the significand, made with floats, is settled in integers, and where neither it nor a neighbour
+// is right the root is found by halving an interval. So nothing is claimed of the floats.
 ghost use mathlib.Core.Path.{_≡_};
-ghost use mathlib.Core.Bool.{false};
-ghost use Prim.Native.Nat.{_+_, _*_, _^_, _≤_, _<_};
-ghost use lib.Ieee.{binary64, ofBits};
+ghost use Prim.Native.Nat.{_*_, _^_, _≤_, _<_};
+ghost use lib.Dec.{T};
+ghost use lib.Ieee.{binary64};
+ghost use lib.Ieee.Scale.{finite};
 ghost use Rattle.ieee754.specs.Root as Root;
-ghost use Rattle.ieee754.specs.inner.Nearest.{IsNearest, cubeTop};
-use super::normal::INFINITY;
-use super::normal::LEADING;
-use super::normal::normalized;
+ghost use Rattle.ieee754.specs.inner.Nearest.{IsNearest, Settled, cubeTop};
+use crate::format::LEADING;
+use crate::is_finite::is_finite;
+use crate::normal::normalise;
+use crate::pack::pack;
+use crate::unpack::unpack;
+use crate::wide::Wide;
+use crate::wide::add_wide;
+use crate::wide::product;
+use crate::wide::shift_right;
 
-// The weight of the sign in a bit pattern.
-const SIGN: u64 = 0x8000_0000_0000_0000;
-
-// The cube of the number with the digits a, b, c in the base 2^18, divided by 2^107. `carry` is what
-// each place of the product hands up to the next.
-fn product(a: u64, b: u64, c: u64) -> u64
-    requires { ⌜ (a < 2 ^ 18) × (b < 2 ^ 18) × (c < 2 ^ 18) ⌝ }
-    ensures { λ r. ⌜ r ≡ cubeTop (a * 2 ^ 36 + b * 2 ^ 18 + c) ⌝ }
-{
-    let cc = c * c;
-    let ac = a * c;
-    let bb = b * b;
-    let mut carry = c * cc / 0x4_0000 + 3 * b * cc;
-    carry = carry / 0x4_0000 + 3 * c * (ac + bb);
-    carry = carry / 0x4_0000 + b * (6 * ac + bb);
-    carry = carry / 0x4_0000 + 3 * a * (ac + bb);
-    carry = carry / 0x4_0000 + 3 * a * a * b;
-    2 * a * a * a + carry / 0x2_0000
-}
-
-// The cube of h, divided by 2^107.
+// The cube of h, divided by 2^107: the square's digits below 2^54 and those above are multiplied by h one after the
+// other.
 fn cube_top(h: u64) -> u64
     requires { ⌜ h < 2 ^ 54 ⌝ }
     ensures { λ r. ⌜ r ≡ cubeTop h ⌝ }
 {
-    product(h / 0x10_0000_0000, h / 0x4_0000 % 0x4_0000, h % 0x4_0000)
+    let square = product(h, h);
+    let low = product(square.lo % 0x40_0000_0000_0000, h);
+    let high = product(shift_right(square, 54), h);
+    let carry = Wide {
+        hi: 0,
+        lo: shift_right(low, 54),
+    };
+    shift_right(add_wide(high, carry), 53)
 }
 
-// The whole number nearest to the cube root of n * 2^104, which has 53 digits. It is above `low` and
-// at most `high`: the root is above `low` + 1/2 and below `high` + 1/2.
-pub fn by_halving(n: u64) -> u64
+// The whole number nearest to the cube root of n * 2^104, which has 53 digits. It is above `low` and at most `high`: the
+// root is above `low` + 1/2 and below `high` + 1/2.
+fn by_halving(n: u64) -> u64
     requires { ⌜ (2 ^ 52 ≤ n) × (n < 2 ^ 55) ⌝ }
     ensures { λ r. ⌜ IsNearest 3 (n * 2 ^ 104) r ⌝ }
 {
@@ -57,11 +54,10 @@ pub fn by_halving(n: u64) -> u64
     high
 }
 
-// The whole number nearest to the cube root of n * 2^104, if that is q or a neighbour of q, and 0 if
-// not.
+// The whole number nearest to the cube root of n * 2^104, if that is q or a neighbour of q, and 0 if not.
 fn settled(n: u64, q: u64) -> u64
     requires { ⌜ (2 ^ 52 ≤ q) × (q < 0x1f_ffff_ffff_ffff) ⌝ }
-    ensures { λ r. ⌜ ((r ≡ 0 → ⊥) → IsNearest 3 (n * 2 ^ 104) r) ⌝ }
+    ensures { λ r. ⌜ Settled 3 (n * 2 ^ 104) r ⌝ }
 {
     if cube_top(2 * q + 1) < n {
         if n <= cube_top(2 * q + 3) {
@@ -78,9 +74,8 @@ fn settled(n: u64, q: u64) -> u64
     0
 }
 
-// A guess at the cube root of m * 2^t * 2^104: the reciprocal of the root of x = m * 2^t / 2^52 from
-// x's bit pattern, mended by Newton's method, then x times its square, mended once more. Nothing is
-// claimed of it but its range.
+// A guess at the cube root of m * 2^t * 2^104: the reciprocal of the root of x = m * 2^t / 2^52 from x's bit pattern,
+// mended by Newton's method, then x times its square, mended once more. Nothing is claimed of it but its range.
 fn guess(m: u64, t: u64) -> u64
     requires { ⌜ (2 ^ 52 ≤ m) × (m < 2 ^ 53) × (t < 3) ⌝ }
     ensures { λ r. ⌜ (2 ^ 52 ≤ r) × (r < 0x1f_ffff_ffff_ffff) ⌝ }
@@ -113,42 +108,31 @@ fn nearest(m: u64, t: u64) -> u64
     if q == 0 { by_halving(n) } else { q }
 }
 
-// The cube root of m * 2^e / 2^1126. In cubes of the smallest double that is m * 2^y * 2^104.
-fn scaled(m: u64, e: u64) -> f64
-    requires { ⌜ (2 ^ 52 ≤ m) × (m < 2 ^ 53) × (e < 2098) ⌝ }
-    ensures { λ r. ⌜ r ≡ Root.roundRoot 3 binary64 false (m * 2 ^ e) (2 ^ 1126) ⌝ }
+// The cube root of ±sig * 2^exp / 2^1126. In cubes of the smallest double that is sig * 2^y * 2^104.
+fn scaled(negative: bool, sig: u64, exp: u64) -> f64
+    requires { ⌜ (2 ^ 52 ≤ sig) × (sig < 2 ^ 53) × (exp < 2098) ⌝ }
+    ensures { λ r. ⌜ r ≡ Root.roundRoot 3 binary64 negative (sig * 2 ^ exp) (2 ^ 1126) ⌝ }
 {
-    let y = e + 1992;
-    let q = nearest(m, y % 3);
-    f64::from_bits(y / 3 * LEADING + q)
+    let y = exp + 1992;
+    pack(negative, nearest(sig, y % 3), y / 3)
 }
 
-// The cube root of what `bits` stands for, from zero to the infinity.
-fn magnitude(bits: u64) -> f64
-    requires { ⌜ bits ≤ 0x7ff0_0000_0000_0000 ⌝ }
-    ensures { λ r. ⌜ r ≡ Root.cbrt (ofBits binary64 bits) ⌝ }
+// The cube root of a finite x: it has the sign of x, that of a zero too.
+fn cbrt_finite(x: f64) -> f64
+    requires { ⌜ T (finite x) ⌝ }
+    ensures { λ r. ⌜ r ≡ Root.cbrt x ⌝ }
 {
-    if bits == 0 {
-        return f64::from_bits(bits);
+    let a = unpack(x);
+    if a.sig == 0 {
+        return x;
     }
-    if bits == INFINITY {
-        return f64::from_bits(bits);
-    }
-    let x = normalized(bits);
-    scaled(x.m, x.e)
+    let n = normalise(a.sig, a.exp);
+    scaled(a.negative, n.sig, n.exp)
 }
 
-// The cube root of x, correctly rounded.
+// The cube root of x. An infinity and a NaN are their own.
 pub fn cbrt(x: f64) -> f64
     ensures { λ r. ⌜ r ≡ Root.cbrt x ⌝ }
 {
-    if x != x {
-        return x;
-    }
-    let bits = f64::to_bits(x);
-    if bits < SIGN {
-        magnitude(bits)
-    } else {
-        -magnitude(bits - SIGN)
-    }
+    if is_finite(x) { cbrt_finite(x) } else { x }
 }

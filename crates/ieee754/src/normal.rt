@@ -1,36 +1,52 @@
-// A double's bit pattern as a significand and an exponent.
-ghost use Prim.Native.Nat.{_<_};
-ghost use lib.Ieee.{binary64, ofBits};
-ghost use Rattle.ieee754.specs.inner.Normal.{IsNormal};
+// Numbers with their leading digit brought to a fixed place.
+ghost use Prim.Native.Nat.{_≤_, _<_};
+ghost use Rattle.ieee754.specs.inner.Normal.{IsNormal, IsRoundable};
+ghost use Rattle.ieee754.specs.inner.Unpacked.{IsSignificand};
+use crate::format::LEADING;
+use crate::wide::Wide;
+use crate::wide::jam_wide;
 
-// The weight of a significand's leading digit, which the pattern of a normal double leaves out.
-pub const LEADING: u64 = 0x10_0000_0000_0000;
-
-// The pattern of the positive infinity. Those below it are the doubles from zero up.
-pub const INFINITY: u64 = 0x7ff0_0000_0000_0000;
-
-// m * 2^e / 2^1126, with 53 digits in m.
-pub struct Normal {
-    pub m: u64,
-    pub e: u64,
+// sig * 2^exp.
+pub struct Scaled {
+    pub sig: u64,
+    pub exp: u64,
 }
 
-// The double that `bits` stands for, which is above zero and finite. A subnormal one has its digits
-// moved up.
-pub fn normalized(bits: u64) -> Normal
-    requires { ⌜ (0 < bits) × (bits < 0x7ff0_0000_0000_0000) ⌝ }
-    ensures { λ r. ⌜ IsNormal (ofBits binary64 bits) (r .m) (r .e) ⌝ }
+// sig * 2^exp * 2^52, with 53 digits in the significand: those of a subnormal number are moved up.
+pub fn normalise(sig: u64, exp: u64) -> Scaled
+    requires { ⌜ IsSignificand sig exp × (0 < sig) ⌝ }
+    ensures { λ r. ⌜ IsNormal sig exp r ⌝ }
 {
-    if LEADING <= bits {
-        Normal {
-            m: bits % LEADING + LEADING,
-            e: bits / LEADING + 51,
+    if LEADING <= sig {
+        Scaled { sig, exp: exp + 52 }
+    } else {
+        let zeros = u64::leading_zeros(sig);
+        Scaled {
+            sig: sig << (zeros - 11),
+            exp: 63 - zeros as u64,
+        }
+    }
+}
+
+// v * 2^exp, or a number that rounds as it does, with 64 digits in the significand; and zero.
+pub fn normalise_wide(v: Wide, exp: u64) -> Scaled
+    requires { ⌜ (64 ≤ exp) × (exp < 4900) ⌝ }
+    ensures { λ r. ⌜ IsRoundable v exp r ⌝ }
+{
+    if v.hi != 0 {
+        let n = 64 - u64::leading_zeros(v.hi) as u64;
+        let top = jam_wide(v, n);
+        Scaled {
+            sig: top.lo,
+            exp: exp + n,
+        }
+    } else if v.lo != 0 {
+        let n = u64::leading_zeros(v.lo) as u64;
+        Scaled {
+            sig: v.lo << n,
+            exp: exp - n,
         }
     } else {
-        let zeros = u64::leading_zeros(bits);
-        Normal {
-            m: bits << (zeros - 11),
-            e: 63 - zeros as u64,
-        }
+        Scaled { sig: 0, exp: 0 }
     }
 }

@@ -1,24 +1,32 @@
-// The square root. A guess at the root of the significand, made with floats, is settled in integers,
-// and where neither it nor a neighbour is right the digits are found one by one.
+// Rust's f64::sqrt, IEEE 754's squareRoot. From document 01, module 1.
+//
+// A guess at the root of the significand, made with floats, is settled in integers, and where neither it nor a neighbour
+// is right the digits are found one by one. So nothing is claimed of the floats.
 ghost use mathlib.Core.Path.{_≡_};
 ghost use mathlib.Core.Bool.{false};
 ghost use Prim.Native.Nat.{_*_, _^_, _≤_, _<_};
-ghost use lib.Ieee.{binary64, ofBits};
+ghost use lib.Dec.{T};
+ghost use lib.Ieee.{binary64};
+ghost use lib.Ieee.Scale.{finite};
 ghost use Rattle.ieee754.specs.Root as Root;
-ghost use Rattle.ieee754.specs.inner.Nearest.{IsNearest, IsResidue};
-use super::normal::INFINITY;
-use super::normal::LEADING;
-use super::normal::normalized;
+ghost use Rattle.ieee754.specs.inner.Nearest.{IsNearest, Settled, IsResidue};
+use crate::format::LEADING;
+use crate::is_finite::is_finite;
+use crate::normal::normalise;
+use crate::pack::pack;
+use crate::unpack::unpack;
+use crate::wide::Wide;
+use crate::wide::less_wide;
+use crate::wide::product;
+use crate::wide::sub_wide;
 
-const MINUS_ZERO: u64 = 0x8000_0000_0000_0000;
-
-// What `residue` adds.
+// What `residue` adds: 2^55, which is 8 * 2^52.
 const BIAS: u64 = 0x80_0000_0000_0000;
 
-// The whole number nearest to the root of n * 2^52, which has 53 digits. They are found one by one
-// from the top: `root` is what the digits so far come to, `bit` the weight of the last of them, and
-// `rest * bit` what is left of n * 2^52 once the square of `root` is taken off.
-pub fn by_digits(n: u64) -> u64
+// The whole number nearest to the root of n * 2^52, which has 53 digits. They are found one by one from the top: `root`
+// is what the digits so far come to, `bit` the weight of the last of them, and `rest * bit` what is left of n * 2^52
+// once the square of `root` is taken off.
+fn by_digits(n: u64) -> u64
     requires { ⌜ (2 ^ 52 ≤ n) × (n < 2 ^ 54) ⌝ }
     ensures { λ r. ⌜ IsNearest 2 (n * 2 ^ 52) r ⌝ }
 {
@@ -37,9 +45,8 @@ pub fn by_digits(n: u64) -> u64
     if root < rest { root + 1 } else { root }
 }
 
-// A guess at the root of m * 2^odd * 2^52: the reciprocal of the root of x = m * 2^odd / 2^52 from
-// x's bit pattern, mended by Newton's method, then x times that, mended once more. Nothing is
-// claimed of it but that it has 53 digits.
+// A guess at the root of m * 2^odd * 2^52: the reciprocal of the root of x = m * 2^odd / 2^52 from x's bit pattern,
+// mended by Newton's method, then x times that, mended once more. Nothing is claimed of it but that it has 53 digits.
 fn guess(m: u64, odd: u64) -> u64
     requires { ⌜ (2 ^ 52 ≤ m) × (m < 2 ^ 53) × (odd < 2) ⌝ }
     ensures { λ r. ⌜ (2 ^ 52 ≤ r) × (r < 2 ^ 53) ⌝ }
@@ -60,41 +67,33 @@ fn guess(m: u64, odd: u64) -> u64
     }
 }
 
-// n * 2^52 - q * q, plus `BIAS` so that it is no less than 0; and 0 where it is not small. With
-// q = high * 2^26 + low, the square is high * high * 2^52 + high * low * 2^27 + low * low, and these
-// are taken off from the top.
+// n * 2^52 - q * q, plus `BIAS` so that it is no less than 0; and 0 where it is not small.
 fn residue(n: u64, q: u64) -> u64
     requires { ⌜ (n < 2 ^ 54) × (q < 2 ^ 53) ⌝ }
     ensures { λ r. ⌜ IsResidue (n * 2 ^ 52) q r ⌝ }
 {
-    let high = q / 0x400_0000;
-    let low = q % 0x400_0000;
-    let square = high * high;
-    if n < square {
+    let square = product(q, q);
+    let raised = n + 8;
+    let target = Wide {
+        hi: raised / 0x1000,
+        lo: raised % 0x1000 * LEADING,
+    };
+    if less_wide(target, square) {
         return 0;
     }
-    let first = n - square;
-    if 0x2000_0000 <= first {
-        return 0;
+    let rest = sub_wide(target, square);
+    if rest.hi == 0 {
+        if rest.lo < 0x200_0000_0000_0000 {
+            return rest.lo;
+        }
     }
-    let upper = first * 0x200_0000 + 0x1000_0000;
-    let cross = high * low;
-    if upper < cross {
-        return 0;
-    }
-    let second = upper - cross;
-    if 0x4000_0000 <= second {
-        return 0;
-    }
-    let lower = second * 0x800_0000;
-    let last = low * low;
-    if lower < last { 0 } else { lower - last }
+    0
 }
 
 // The whole number nearest to the root of n * 2^52, if that is q or a neighbour of q, and 0 if not.
 fn settled(n: u64, q: u64) -> u64
     requires { ⌜ (n < 2 ^ 54) × (2 ^ 52 ≤ q) × (q < 2 ^ 53) ⌝ }
-    ensures { λ r. ⌜ ((r ≡ 0 → ⊥) → IsNearest 2 (n * 2 ^ 52) r) ⌝ }
+    ensures { λ r. ⌜ Settled 2 (n * 2 ^ 52) r ⌝ }
 {
     let r = residue(n, q);
     if r + 3 * q <= BIAS + 2 {
@@ -122,44 +121,37 @@ fn nearest(m: u64, odd: u64) -> u64
     if q == 0 { by_digits(n) } else { q }
 }
 
-// The root of m * 2^e / 2^1126. In squares of the smallest double that is m * 2^y * 2^52.
-fn scaled(m: u64, e: u64) -> f64
-    requires { ⌜ (2 ^ 52 ≤ m) × (m < 2 ^ 53) × (e < 2098) ⌝ }
-    ensures { λ r. ⌜ r ≡ Root.roundRoot 2 binary64 false (m * 2 ^ e) (2 ^ 1126) ⌝ }
+// The root of sig * 2^exp / 2^1126. In squares of the smallest double that is sig * 2^y * 2^52.
+fn scaled(sig: u64, exp: u64) -> f64
+    requires { ⌜ (2 ^ 52 ≤ sig) × (sig < 2 ^ 53) × (exp < 2098) ⌝ }
+    ensures { λ r. ⌜ r ≡ Root.roundRoot 2 binary64 false (sig * 2 ^ exp) (2 ^ 1126) ⌝ }
 {
-    let y = e + 970;
-    let q = nearest(m, y % 2);
-    f64::from_bits(y / 2 * LEADING + q)
+    let y = exp + 970;
+    pack(false, nearest(sig, y % 2), y / 2)
 }
 
-// The root of the double that the pattern `bits` stands for, which is above zero and finite.
-fn positive(bits: u64) -> f64
-    requires { ⌜ (0 < bits) × (bits < 0x7ff0_0000_0000_0000) ⌝ }
-    ensures { λ r. ⌜ r ≡ Root.sqrt (ofBits binary64 bits) ⌝ }
+// The root of a finite x: a zero keeps its sign, and below zero there is none.
+fn sqrt_finite(x: f64) -> f64
+    requires { ⌜ T (finite x) ⌝ }
+    ensures { λ r. ⌜ r ≡ Root.sqrt x ⌝ }
 {
-    let x = normalized(bits);
-    scaled(x.m, x.e)
+    let a = unpack(x);
+    if a.sig == 0 {
+        return x;
+    }
+    if a.negative {
+        return 0.0 / 0.0;
+    }
+    let n = normalise(a.sig, a.exp);
+    scaled(n.sig, n.exp)
 }
 
-// The square root of x, as IEEE 754 has it.
+// The square root of x.
 pub fn sqrt(x: f64) -> f64
     ensures { λ r. ⌜ r ≡ Root.sqrt x ⌝ }
 {
-    if x != x {
-        return x;
+    if is_finite(x) {
+        return sqrt_finite(x);
     }
-    let bits = f64::to_bits(x);
-    if bits == 0 {
-        return x;
-    }
-    if bits < INFINITY {
-        return positive(bits);
-    }
-    if bits == INFINITY {
-        return x;
-    }
-    if bits == MINUS_ZERO {
-        return x;
-    }
-    0.0 / 0.0
+    if x < 0.0 { 0.0 / 0.0 } else { x }
 }

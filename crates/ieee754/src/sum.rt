@@ -1,7 +1,8 @@
-// The rounded sum of two signed two-word numbers.
+// The rounded sum of two signed two-word numbers, over 2^2166.
 ghost use mathlib.Core.Path.{_≡_};
 ghost use Prim.Native.Nat.{_+_, _*_, _^_, _≤_, _<_};
-ghost use Rattle.ieee754.specs.inner.Rounded.{summed, IsScaled};
+ghost use Rattle.ieee754.specs.inner.Rounded.{summed, IsProduct};
+ghost use Rattle.ieee754.specs.inner.Unpacked.{IsSignificand};
 ghost use Rattle.ieee754.specs.inner.Value.{value};
 use crate::round::round_wide;
 use crate::unpack::Unpacked;
@@ -11,34 +12,25 @@ use crate::wide::jam_wide;
 use crate::wide::less_wide;
 use crate::wide::sub_wide;
 
-// ±a * 2^e / 2^2166 + ±b * 2^e / 2^2166, rounded. A sum of zero is -0 only where both are negative.
-pub fn sum_aligned(a_negative: bool, a: Wide, b_negative: bool, b: Wide, e: u64) -> f64
-    requires { ⌜ (a .hi + b .hi + 1 < 2 ^ 64) × (64 ≤ e) × (e < 4900) ⌝ }
-    ensures { λ r. ⌜ r ≡ summed «a_negative» (value a * 2 ^ e) «b_negative» (value b * 2 ^ e) ⌝ }
+// ±a * 2^exp / 2^2166 + ±b * 2^exp / 2^2166, rounded. A sum of zero is -0 only where both are negative.
+fn sum_aligned(a_negative: bool, a: Wide, b_negative: bool, b: Wide, exp: u64) -> f64
+    requires { ⌜ (a .hi + b .hi + 1 < 2 ^ 64) × (64 ≤ exp) × (exp < 4900) ⌝ }
+    ensures { λ r. ⌜ r ≡ summed «a_negative» (value a * 2 ^ exp) «b_negative» (value b * 2 ^ exp) ⌝ }
 {
     if a_negative == b_negative {
-        round_wide(a_negative, add_wide(a, b), e)
+        round_wide(a_negative, add_wide(a, b), exp)
     } else if less_wide(a, b) {
-        round_wide(b_negative, sub_wide(b, a), e)
+        round_wide(b_negative, sub_wide(b, a), exp)
     } else {
-        round_wide(a_negative & less_wide(b, a), sub_wide(a, b), e)
+        round_wide(a_negative & less_wide(b, a), sub_wide(a, b), exp)
     }
 }
 
-// The exponent e of a product p, and 0 where p is below 2^64: such a product is that of two
-// subnormal numbers, whose exponent is 0, or is zero.
-pub fn product_exp(p: Wide, e: u64) -> u64
-    ensures { λ r. ⌜ (value p < 2 ^ 64 → r ≡ 0) × (2 ^ 64 ≤ value p → r ≡ e) ⌝ }
-{
-    if p.hi == 0 { 0 } else { e }
-}
-
-// ±p * 2^p_exp / 2^2166 + c, rounded. The addend c over 2^2166 is c.sig * 2^9 in the upper word,
-// times 2^(c.exp + 1019), since 9 + 64 + 1019 is 1092. The one with the lower exponent is brought
-// to the other's. It loses digits only where they are too small to be seen, or where the other is
-// larger by far.
+// ±p * 2^p_exp / 2^2166 + c, rounded. The addend c over 2^2166 is c.sig * 2^9 in the upper word, times
+// 2^(c.exp + 1019), since 9 + 64 + 1019 is 1092. The one with the lower exponent is brought to the other's. It loses
+// digits only where they are too small to be seen, or where the other is larger by far.
 pub fn add_scaled(negative: bool, p: Wide, p_exp: u64, c: Unpacked) -> f64
-    requires { ⌜ IsScaled p «p_exp» c ⌝ }
+    requires { ⌜ IsProduct (value p) «p_exp» × IsSignificand (c .sig) (c .exp) ⌝ }
     ensures { λ r. ⌜ r ≡ summed negative (value p * 2 ^ «p_exp») (c .negative) (c .sig * 2 ^ c .exp * 2 ^ 1092) ⌝ }
 {
     let q = Wide {

@@ -1,6 +1,6 @@
-// Numbers below 2^128 as two words of 64 bits.
+// Numbers below 2^128 as two words of 64 bits: sums, differences, products, and what is left when digits are cut off.
 ghost use mathlib.Core.Path.{_≡_};
-ghost use Prim.Native.Nat.{_+_, _*_, _^_, _≤_, _<_};
+ghost use Prim.Native.Nat.{_+_, _*_, _/_, _^_, _≤_, _<_};
 ghost use lib.Dec.{ltb};
 ghost use Rattle.ieee754.specs.inner.Jam.{jam};
 ghost use Rattle.ieee754.specs.inner.Value.{value};
@@ -13,8 +13,7 @@ pub struct Wide {
     pub lo: u64,
 }
 
-// a + b. The low word is the sum modulo 2^64, wrapped on purpose, and there is a carry exactly
-// where it is less than b.
+// a + b. The low word is the sum modulo 2^64, wrapped on purpose, and there is a carry exactly where it is less than b.
 pub fn add_words(a: u64, b: u64) -> Wide
     ensures { λ r. ⌜ (r .hi ≤ 1) × (value r ≡ a + b) ⌝ }
 {
@@ -26,15 +25,15 @@ pub fn add_words(a: u64, b: u64) -> Wide
     }
 }
 
-// a * b, from halves of 32 bits. The middle column goes half to the high word and half, moved up,
-// to the low one, whose sum has a carry.
+// a * b, from halves of 32 bits. The middle column goes half to the high word and half, moved up, to the low one, whose
+// sum has a carry.
 pub fn product(a: u64, b: u64) -> Wide
     requires { ⌜ (a < 2 ^ 62) × (b < 2 ^ 62) ⌝ }
     ensures { λ r. ⌜ value r ≡ a * b ⌝ }
 {
-    let a1 = a >> 32;
+    let a1 = a / 0x1_0000_0000;
     let a0 = a % 0x1_0000_0000;
-    let b1 = b >> 32;
+    let b1 = b / 0x1_0000_0000;
     let b0 = b % 0x1_0000_0000;
     let middle = a1 * b0 + a0 * b1;
     let low = add_words(a0 * b0, middle << 32);
@@ -84,6 +83,14 @@ pub fn less_wide(a: Wide, b: Wide) -> bool
     } else {
         a.hi < b.hi
     }
+}
+
+// v / 2^k, where that fits a word.
+pub fn shift_right(v: Wide, k: u64) -> u64
+    requires { ⌜ (0 < k) × (k < 64) × (v .hi < 2 ^ k) ⌝ }
+    ensures { λ r. ⌜ r ≡ value v / 2 ^ k ⌝ }
+{
+    (v.hi << (64 - k)) + (v.lo >> k)
 }
 
 // w / 2^k, with the last digit set where that drops anything.

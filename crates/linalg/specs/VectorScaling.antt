@@ -3,11 +3,16 @@ use lib.IntN.{ℤ}
 use Rattle.ieee754.specs.Scaling.{At}
 use Rattle.linalg.specs.declared.vector3.Vector3.{Vector3}
 use Rattle.linalg.specs.declared.matrix3.Matrix3.{Matrix3}
+use Rattle.linalg.specs.Matrices.{column0, column1, column2}
 
-pub record AtVector (k n : ℤ) (v v' : Vector3) : Type 0 where
-  pub x : At k n (v .x) (v' .x)
-  pub y : At k n (v .y) (v' .y)
-  pub z : At k n (v .z) (v' .z)
+-- each entry at a degree of its own: p, q and r
+pub record AtEntries (k p q r : ℤ) (v v' : Vector3) : Type 0 where
+  pub x : At k p (v .x) (v' .x)
+  pub y : At k q (v .y) (v' .y)
+  pub z : At k r (v .z) (v' .z)
+
+abbrev pub AtVector : ℤ → ℤ → Vector3 → Vector3 → Type 0
+AtVector k n v v' = AtEntries k n n n v v'
 
 -- each row at a degree of its own: i, j and l
 pub record AtRows (k i j l : ℤ) (m m' : Matrix3) : Type 0 where
@@ -23,3 +28,9 @@ pub record AtRows (k i j l : ℤ) (m m' : Matrix3) : Type 0 where
 
 abbrev pub AtMatrix : ℤ → ℤ → Matrix3 → Matrix3 → Type 0
 AtMatrix k n m m' = AtRows k n n n m m'
+
+-- each column at a degree of its own: p, q and r
+pub record AtColumns (k p q r : ℤ) (m m' : Matrix3) : Type 0 where
+  pub c0 : AtVector k p (column0 m) (column0 m')
+  pub c1 : AtVector k q (column1 m) (column1 m')
+  pub c2 : AtVector k r (column2 m) (column2 m')

@@ -1,12 +1,13 @@
--- `ieee754::fma` meets its contract: what is left beside `fma_finite` are the definition's clauses for infinities and NaNs. Assumes nothing.
+-- `fma` meets its contract: what is left beside `fma_finite` are the definition's clauses for infinities and NaNs. Assumes nothing.
 use borrow.Author.Needs.{needs}
-use mathlib.Core.Path.{_≡_, refl, sym, _∙_, subst}
+use mathlib.Core.Path.{_≡_, refl}
 use mathlib.Core.Logic.{⊎-elim}
 use mathlib.Core.Bool.{Bool, true, false, not, _&&_}
 use lib.Dec.{T}
 use lib.Ieee.{Float, nan, inf, fin, binary64, add, mul}
 use lib.Ieee.Scale.{finite}
 use Rattle.ieee754.specs.Fma.{fma}
+use Rattle.ieee754.proofs.Order.{answered, denied}
 use Rattle.ieee754.proofs.fma.fma.Statement.{statement}
 use Rattle.ieee754.proofs.fma.fma.Tie as tie
 
@@ -30,13 +31,6 @@ factor (fin s m e) nan z a = refl
 factor (fin s m e) (inf t) z a = refl
 factor (fin s m e) (fin t n d) z a = absurd a
 
--- what a call of `is_finite` answered, r
-yes-finite : {r b : Bool} → r ≡ b → r ≡ true → T b
-yes-finite e t = subst T (sym t ∙ e) tt
-
-no-finite : {r b : Bool} → r ≡ b → r ≡ false → T (not b)
-no-finite e t = subst (λ (b : Bool). T (not b)) (sym t ∙ e) tt
-
 first : (a b : Bool) → T (not a) → T (not (a && b))
 first true b h = absurd h
 first false b h = tt
@@ -56,13 +50,13 @@ is-finite-requires-3 c κs = search needs
 
 -- what is known where all three were asked
 x-finite : (c : tie.After-is-finite3) → T (finite (c .before .before .before .before .before .args .x))
-x-finite c = yes-finite (c .before .before .before .before .is-finite .ensures) (c .before .before .before .if1 .taken)
+x-finite c = answered (c .before .before .before .before .is-finite .ensures) (c .before .before .before .if1 .taken)
 
 y-finite : (c : tie.After-is-finite3) → T (finite (c .before .before .before .before .before .args .y))
-y-finite c = yes-finite (c .before .before .is-finite2 .ensures) (c .before .if2 .taken)
+y-finite c = answered (c .before .before .is-finite2 .ensures) (c .before .if2 .taken)
 
 fma-finite-requires : tie.Need-fma-finite-requires
-fma-finite-requires c κs = (x-finite (c .before), (y-finite (c .before), yes-finite (c .before .is-finite3 .ensures) (c .if3 .taken)))
+fma-finite-requires c κs = (x-finite (c .before), (y-finite (c .before), answered (c .before .is-finite3 .ensures) (c .if3 .taken)))
 
 returns : tie.Need-returns
 returns c = search needs
@@ -70,7 +64,7 @@ returns c = search needs
 returns-2 : tie.Need-returns-2
 returns-2 c =
     let s = c .before .before .before .before .before .before in
-    addend (s .args .x) (s .args .y) (s .args .z) (x-finite (c .before)) (y-finite (c .before)) (no-finite (c .before .is-finite3 .ensures) (c .if3 .left))
+    addend (s .args .x) (s .args .y) (s .args .z) (x-finite (c .before)) (y-finite (c .before)) (denied (c .before .is-finite3 .ensures) (c .if3 .left))
 
 returns-3 : tie.Need-returns-3
 returns-3 c =
@@ -78,8 +72,8 @@ returns-3 c =
     let x = s .args .x in
     let y = s .args .y in
     factor x y (s .args .z)
-    (⊎-elim (λ w. second (finite x) (finite y) (no-finite (w .1 .ensures) (w .2 .left)))
-    (λ w. first (finite x) (finite y) (no-finite (c .before .is-finite .ensures) (w .left))) (c .if1 .came))
+    (⊎-elim (λ w. second (finite x) (finite y) (denied (w .1 .ensures) (w .2 .left)))
+    (λ w. first (finite x) (finite y) (denied (c .before .is-finite .ensures) (w .left))) (c .if1 .came))
 
 pub fma-spec : {M : Type 1} → statement M
 fma-spec = tie.close (tie.spec is-finite-requires is-finite-requires-2 is-finite-requires-3 fma-finite-requires returns returns-2 returns-3)

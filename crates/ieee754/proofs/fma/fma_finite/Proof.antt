@@ -1,4 +1,4 @@
--- `ieee754::fma_finite` meets its contract: over the one denominator 2 ^ 2166 the product and the addend are those of the definition. Assumes nothing.
+-- `fma_finite` meets its contract: over the one denominator 2 ^ 2166 the product and the addend are those of the definition. Assumes nothing.
 use borrow.Author.Needs.{needs}
 use mathlib.Core.Path.{_≡_, refl, sym, ap, ap₂, _∙_, subst}
 use mathlib.Core.Logic.{⊎-elim}
@@ -133,20 +133,19 @@ add-scaled-requires c κs =
     let b = w .unpack2 in
     let p = value (g .product .result) in
     let e = k .product-exp in
-    let z = c .unpack3 .ensures in
     let m = a .result .sig in
     let n = b .result .sig in
     let x = a .result .exp in
     let y = b .result .exp in
-    record {
-      short = short m n x y p (e .result) (g .product .ensures) (e .ensures .0) (e .ensures .1) (a .ensures .short) (b .ensures .short);
-      full = full m n x y p (e .result) (g .product .ensures) (e .ensures .0) (e .ensures .1);
-      within = within m n x y p (e .result) (g .product .ensures) (e .ensures .0) (e .ensures .1) (a .ensures .within) (b .ensures .within);
-      even = even m n x y p (e .result) (g .product .ensures) (e .ensures .0) (e .ensures .1);
-      c-short = z .short;
-      c-full = z .full;
-      c-within = z .within;
-    }
+    let f = g .product .ensures in (
+      record {
+        short = short m n x y p (e .result) f (e .ensures .0) (e .ensures .1) (a .ensures .digits .short) (b .ensures .digits .short);
+        full = full m n x y p (e .result) f (e .ensures .0) (e .ensures .1);
+        within = within m n x y p (e .result) f (e .ensures .0) (e .ensures .1) (a .ensures .digits .within) (b .ensures .digits .within);
+        even = even m n x y p (e .result) f (e .ensures .0) (e .ensures .1);
+      },
+      c .unpack3 .ensures .digits,
+    )
 
 -- r is what `add_scaled` gives for the product q
 whole : (r : Float) (x y z : Float) (s t u : Bool) (q a b c : ℕ) → HasValue x s a (2 ^ 1074) → HasValue y t b (2 ^ 1074) → HasValue z u c (2 ^ 1074) → q ≡ a * b * 2 ^ 18 → r ≡ summed (unlike s t) q u (c * 2 ^ 1092) → r ≡ fma x y z
@@ -166,7 +165,7 @@ returns c =
     let x = a .result .sig * 2 ^ a .result .exp in
     let y = b .result .sig * 2 ^ b .result .exp in
     let z = d .result .sig * 2 ^ d .result .exp in
-    let is = product-is (a .result .sig) (b .result .sig) (a .result .exp) (b .result .exp) p (e .result) (a .ensures .full) (b .ensures .full) (g .product .ensures) (e .ensures .0) (e .ensures .1) in
+    let is = product-is (a .result .sig) (b .result .sig) (a .result .exp) (b .result .exp) p (e .result) (a .ensures .digits .full) (b .ensures .digits .full) (g .product .ensures) (e .ensures .0) (e .ensures .1) in
     whole (c .add-scaled .result) (s .x) (s .y) (s .z) (a .result .negative) (b .result .negative) (d .result .negative) (p * 2 ^ e .result) x y z (a .ensures .is) (b .ensures .is) (d .ensures .is) is (c .add-scaled .ensures)
 
 pub fma-finite-spec : {M : Type 1} → statement M

@@ -1,47 +1,85 @@
--- `ieee754::round::round_pack` meets its contract. Below 2 ^ 1081 what is cut off lies below half of the smallest value. Assumes nothing.
-use borrow.Author.Needs.{needs}
-use mathlib.Core.Path.{_≡_, sym, ap, _∙_}
-use Prim.Native.Nat.{ℕ, _+_, _-_, _*_, _^_, _<_}
+-- `round_pack` meets its contract: a word is rounded to 53 digits (Rounding.antt). Below 2 ^ 1081 what is cut off first lies below half of the smallest double. Assumes nothing.
+use mathlib.Core.Path.{_≡_, sym, ap, _∙_, subst}
+use Prim.Native.Nat.{ℕ, _+_, _-_, _*_, _^_, _≤_, _<_}
 use native.Mathlib.Nat.{le-of-lt, sub-add-cancel}
 use native.Mathlib.Omega.{arith}
 use mathlib.Core.Bool.{Bool}
-use lib.Ieee.{binary64}
+use borrow.Author.Needs.{needs}
+use lib.Ieee.{binary64, units}
+use lib.Ieee.Nearest.{closest}
 use Rattle.ieee754.specs.inner.Jam.{jam}
 use Rattle.ieee754.specs.inner.Rounded.{rounded}
-use Rattle.ieee754.proofs.Rounding.{Kept, round-jam}
+use Rattle.ieee754.proofs.Jam.{jam-no-longer}
+use Rattle.ieee754.proofs.Rounding.{Kept, round-jam, round-word, closest-le, closest-ge}
 use Rattle.ieee754.proofs.round.round_pack.Statement.{statement}
 use Rattle.ieee754.proofs.round.round_pack.Tie as tie
 
-below : (s : Bool) (w e : ℕ) (r : ℕ) → e < 1081 → r ≡ jam (1081 - e) w → rounded s (r * 2 ^ (0 + 1081)) ≡ rounded s (w * 2 ^ e)
+-- ---- the significand q, rounded from w
+short : (w q : ℕ) → w < 2 ^ 64 → q ≡ closest w (2 ^ 11) → q ≤ 2 ^ 53
+short w q l e = subst (λ (x : ℕ). x ≤ 2 ^ 53) (sym e) (closest-le w l)
+
+full : (w q : ℕ) → 2 ^ 63 ≤ w → q ≡ closest w (2 ^ 11) → 2 ^ 52 ≤ q
+full w q g e = subst (λ (x : ℕ). 2 ^ 52 ≤ x) (sym e) (closest-ge w g)
+
+packed : (s : Bool) (w k q : ℕ) → w < 2 ^ 64 → (0 < k → 2 ^ 63 ≤ w) → q ≡ closest w (2 ^ 11) → units binary64 s q k ≡ rounded s (w * 2 ^ (k + 1081))
 unfolding rounded
-below s w e r h j =
-    ap (rounded s) (ap (λ (x : ℕ). x * 2 ^ 1081) j ∙ ap (λ (x : ℕ). jam (1081 - e) w * 2 ^ x) (sym (sub-add-cancel (le-of-lt h))))
+packed s w k q l b e = ap (λ (x : ℕ). units binary64 s x k) e ∙ sym (round-word s w k l b)
+
+-- ---- a word cut short by 1081 - e digits, j
+cut-lt : (w e j : ℕ) → w < 2 ^ 64 → j ≡ jam (1081 - e) w → j < 2 ^ 64
+cut-lt w e j l h = subst (λ (x : ℕ). x < 2 ^ 64) (sym h) (jam-no-longer (1081 - e) 63 w l)
+
+cut-alike : (s : Bool) (w e j : ℕ) → e < 1081 → j ≡ jam (1081 - e) w → rounded s (j * 2 ^ (0 + 1081)) ≡ rounded s (w * 2 ^ e)
+unfolding rounded
+cut-alike s w e j h i =
+    ap (rounded s) (ap (λ (x : ℕ). x * 2 ^ 1081) i ∙ ap (λ (x : ℕ). jam (1081 - e) w * 2 ^ x) (sym (sub-add-cancel (le-of-lt h))))
     ∙ round-jam binary64 s 1092 e (1081 - e) w (Kept.fine (omega arith))
 
+-- ---- the function
 sub-jam : tie.Need-sub-jam
 sub-jam c = search needs
 
 jam-requires : tie.Need-jam-requires
 jam-requires c κs = search needs
 
-round-to-field-requires : tie.Need-round-to-field-requires
-round-to-field-requires c κs = search needs
+nearest-requires : tie.Need-nearest-requires
+nearest-requires c κs = search needs
 
-round-to-field-requires-2 : tie.Need-round-to-field-requires-2
-round-to-field-requires-2 c κs = let s = c .before in (search needs, λ h. s .pre .1 (raised (s .args .e) h))
-  where
-    raised : (e : ℕ) → 0 < e - 1081 → 1081 < e
-    raised e h = omega arith
+pack-requires : tie.Need-pack-requires
+pack-requires c κs =
+    let s = c .before .before .before in
+    let j = c .before .jam in
+    (short (j .result) (c .nearest .result) (cut-lt (s .args .w) (s .args .exp) (j .result) (s .fits .w .fits) (j .ensures)) (c .nearest .ensures), λ h. search needs, search needs)
+
+nearest-requires-2 : tie.Need-nearest-requires-2
+nearest-requires-2 c κs = search needs
+
+raised : (e : ℕ) → 0 < e - 1081 → 1081 < e
+raised e h = omega arith
+
+pack-requires-2 : tie.Need-pack-requires-2
+pack-requires-2 c κs =
+    let s = c .before .before in
+    let w = s .args .w in
+    (short w (c .nearest2 .result) (s .fits .w .fits) (c .nearest2 .ensures), λ h. full w (c .nearest2 .result) (s .pre .1 (raised (s .args .exp) h)) (c .nearest2 .ensures), search needs)
 
 returns : tie.Need-returns
 returns c =
-    let s = c .before .before .before in
-    c .round-to-field .ensures ∙ below (s .args .negative) (s .args .w) (s .args .e) (c .before .jam .result) (c .before .before .if1 .taken) (c .before .jam .ensures)
+    let n = c .before in
+    let s = n .before .before .before in
+    let j = n .before .jam in
+    let l = cut-lt (s .args .w) (s .args .exp) (j .result) (s .fits .w .fits) (j .ensures) in
+    c .pack .ensures
+    ∙ packed (s .args .negative) (j .result) 0 (n .nearest .result) l (λ h. absurd (omega (arith, h))) (n .nearest .ensures)
+    ∙ cut-alike (s .args .negative) (s .args .w) (s .args .exp) (j .result) (n .before .before .if1 .taken) (j .ensures)
 
 returns-2 : tie.Need-returns-2
 returns-2 c =
-    let s = c .before .before in
-    c .round-to-field2 .ensures ∙ ap (λ (x : ℕ). rounded (s .args .negative) (s .args .w * 2 ^ x)) (sub-add-cancel (c .before .if1 .left))
+    let n = c .before in
+    let s = n .before .before in
+    c .pack2 .ensures
+    ∙ packed (s .args .negative) (s .args .w) (s .args .exp - 1081) (n .nearest2 .result) (s .fits .w .fits) (λ h. s .pre .1 (raised (s .args .exp) h)) (n .nearest2 .ensures)
+    ∙ ap (λ (x : ℕ). rounded (s .args .negative) (s .args .w * 2 ^ x)) (sub-add-cancel (n .before .if1 .left))
 
 pub round-pack-spec : {M : Type 1} → statement M
-round-pack-spec = tie.close (tie.spec sub-jam jam-requires round-to-field-requires round-to-field-requires-2 returns returns-2)
+round-pack-spec = tie.close (tie.spec sub-jam jam-requires nearest-requires pack-requires nearest-requires-2 pack-requires-2 returns returns-2)

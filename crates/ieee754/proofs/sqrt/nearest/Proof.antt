@@ -1,19 +1,9 @@
 -- `nearest` meets its contract: a guess that settles is right, and where none does the digits are found one by one. Assumes nothing.
-use Prim.Native.Nat.{ℕ, _*_, _%_, _^_, _≤_, _<_}
-use mathlib.Core.Path.{_≡_, sym, subst}
 use borrow.Author.Needs.{needs}
 use lib.Dec.{lit≤}
-use Rattle.ieee754.specs.inner.Nearest.{IsNearest}
-use Rattle.ieee754.proofs.Exponent.{moved, kept}
+use Rattle.ieee754.proofs.Exponent.{moved-range, moved-nearest}
 use Rattle.ieee754.proofs.sqrt.nearest.Statement.{statement}
 use Rattle.ieee754.proofs.sqrt.nearest.Tie as tie
-
--- no digit is lost where the significand is moved
-same : (c : tie.Start) → c .args .m * 2 ^ c .args .odd % 2 ^ 64 ≡ c .args .m * 2 ^ c .args .odd
-same c = kept 2 (c .args .m) (c .args .odd) (c .pre .0) (c .pre .1) (c .pre .2) (lit≤ tt)
-
-range : (c : tie.Start) → let n = c .args .m * 2 ^ c .args .odd % 2 ^ 64 in (2 ^ 52 ≤ n) × (n < 2 ^ 54)
-range c = subst (λ (n : ℕ). (2 ^ 52 ≤ n) × (n < 2 ^ 54)) (sym (same c)) (moved 2 (c .args .m) (c .args .odd) (c .pre .0) (c .pre .1) (c .pre .2))
 
 shl-n : tie.Need-shl-n
 shl-n c = search needs
@@ -22,17 +12,16 @@ guess-requires : tie.Need-guess-requires
 guess-requires c κs = search needs
 
 settled-requires : tie.Need-settled-requires
-settled-requires c κs = (range (c .before) .1, c .guess .ensures .0, c .guess .ensures .1)
+settled-requires c κs = let s = c .before in (moved-range 2 (s .args .m) (s .args .odd) (s .pre .0) (s .pre .1) (s .pre .2) (lit≤ tt) .1, c .guess .ensures .0, c .guess .ensures .1)
 
 by-digits-requires : tie.Need-by-digits-requires
-by-digits-requires c κs = range (c .before .before .before)
+by-digits-requires c κs = let s = c .before .before .before in moved-range 2 (s .args .m) (s .args .odd) (s .pre .0) (s .pre .1) (s .pre .2) (lit≤ tt)
 
 returns : tie.Need-returns
-returns c = subst (λ (n : ℕ). IsNearest 2 (n * 2 ^ 52) (c .by-digits .result)) (same (c .before .before .before .before)) (c .by-digits .ensures)
+returns c = let s = c .before .before .before .before in moved-nearest 2 (s .args .m) (s .args .odd) (s .pre .0) (s .pre .1) (s .pre .2) (lit≤ tt) (c .by-digits .ensures)
 
 returns-2 : tie.Need-returns-2
-returns-2 c = subst (λ (n : ℕ). IsNearest 2 (n * 2 ^ 52) (c .before .settled .result)) (same (c .before .before .before)) (c .before .settled .ensures (c .if1 .left))
+returns-2 c = let s = c .before .before .before in moved-nearest 2 (s .args .m) (s .args .odd) (s .pre .0) (s .pre .1) (s .pre .2) (lit≤ tt) (c .before .settled .ensures (c .if1 .left))
 
 pub nearest-spec : {M : Type 1} → statement M
-nearest-spec =
-    tie.close (tie.spec shl-n guess-requires settled-requires by-digits-requires returns returns-2)
+nearest-spec = tie.close (tie.spec shl-n guess-requires settled-requires by-digits-requires returns returns-2)

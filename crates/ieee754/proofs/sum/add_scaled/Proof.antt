@@ -1,9 +1,9 @@
--- `ieee754::sum::add_scaled` meets its contract. The term with the lower exponent is cut short to the other's, and enough of it is kept (`Apart`). Assumes nothing.
+-- `add_scaled` meets its contract. The term with the lower exponent is cut short to the other's, and enough of it is kept (`Apart`). Assumes nothing.
 use borrow.Author.Needs.{needs}
 use mathlib.Core.Path.{_≡_, refl, sym, ap, ap₂, _∙_, subst}
 use mathlib.Core.Logic.{⊎-elim}
 use Prim.Native.Nat.{ℕ, suc, _+_, _-_, _*_, _/_, _%_, _^_, _≤_, _<_}
-use native.Mathlib.Nat.{le-trans, le-of-eq, le-of-lt, lt-of-lt-of-le, lt-of-le-of-lt, add-le-add, le-add-right, mul-le-mul-right, mul-assoc, mul-left-comm, mul-mod-left, add-zero, sub-add-cancel, lt-of-mul-lt-mul-right}
+use native.Mathlib.Nat.{le-trans, le-of-eq, le-of-lt, lt-of-lt-of-le, lt-of-le-of-lt, add-le-add, mul-le-mul-right, mul-assoc, mul-left-comm, mul-mod-left, add-zero, sub-add-cancel}
 use native.Mathlib.Omega.{arith}
 use mathlib.Core.Bool.{Bool}
 use lib.Dec.{lit≤}
@@ -12,6 +12,7 @@ use lib.Pow.{pow-add, pow-mono, shl-lt}
 use Rattle.ieee754.specs.inner.Jam.{jam}
 use Rattle.ieee754.specs.inner.Rounded.{summed}
 use Rattle.ieee754.specs.inner.Value.{value}
+use Rattle.ieee754.proofs.Carry.{high-below}
 use Rattle.ieee754.proofs.Jam.{jam-lt, jam-no-longer}
 use Rattle.ieee754.proofs.Order.{lt-or-ge}
 use Rattle.ieee754.proofs.Sums.{Apart, sum-comm, sum-jam}
@@ -96,9 +97,6 @@ module _ (r : Float) (s t : Bool) (p e m x j : ℕ) where
       ∙ sum-comm binary64 t (m * 2 ^ x * 2 ^ 1092) s (p * 2 ^ e) (2 ^ 2166)
 
 -- ---- the words have room for the sum
-high-lt : (i h l n : ℕ) → h * 2 ^ 64 + l ≡ n → n < 2 ^ i * 2 ^ 64 → h < 2 ^ i
-high-lt i h l n e b = lt-of-mul-lt-mul-right (2 ^ 64) (lt-of-le-of-lt (le-trans (le-add-right (h * 2 ^ 64) l) (le-of-eq e)) b)
-
 room₁ : (h m : ℕ) → h < 2 ^ 60 → m < 2 ^ 53 → h + m * 512 + 1 < 2 ^ 64
 room₁ h m a b = omega arith
 
@@ -122,9 +120,9 @@ sum-aligned-requires c κs =
     let s = c .before .before .before .before in
     let j = c .jam-wide in
     let k = s .args .c .exp + 1019 - s .args .p-exp in (
-      room₁ (j .result .hi) (s .args .c .sig) (high-lt 60 (j .result .hi) (j .result .lo) (jam k (value (s .args .p))) (j .ensures) (jam-no-longer k 123 (value (s .args .p)) (s .pre .short))) (s .pre .c-short),
+      room₁ (j .result .hi) (s .args .c .sig) (high-below 60 64 (j .result .hi) (j .result .lo) (jam k (value (s .args .p))) (j .ensures) (jam-no-longer k 123 (value (s .args .p)) (s .pre .0 .short))) (s .pre .1 .short),
       low (s .args .c .exp),
-      up (s .args .c .exp) (s .pre .c-within),
+      up (s .args .c .exp) (s .pre .1 .within),
     )
   where
     low : (x : ℕ) → 64 ≤ x + 1019
@@ -143,9 +141,9 @@ sum-aligned-requires-2 c κs =
     let m = s .args .c .sig in
     let j = c .jam-wide2 in
     let k = s .args .p-exp - (s .args .c .exp + 1019) in (
-      room₂ (p .hi) (j .result .hi) (high-lt 60 (p .hi) (p .lo) (value p) refl (s .pre .short)) (high-lt 62 (j .result .hi) (j .result .lo) (jam k (addend m)) (j .ensures) (jam-no-longer k 125 (addend m) (addend-lt m (s .pre .c-short)))),
+      room₂ (p .hi) (j .result .hi) (high-below 60 64 (p .hi) (p .lo) (value p) refl (s .pre .0 .short)) (high-below 62 64 (j .result .hi) (j .result .lo) (jam k (addend m)) (j .ensures) (jam-no-longer k 125 (addend m) (addend-lt m (s .pre .1 .short)))),
       low (s .args .c .exp) (s .args .p-exp) (c .before .if1 .left),
-      up (s .args .p-exp) (s .pre .within),
+      up (s .args .p-exp) (s .pre .0 .within),
     )
   where
     low : (x e : ℕ) → x + 1019 ≤ e → 64 ≤ e
@@ -161,7 +159,7 @@ returns c =
     let a = s .args in
     let j = c .before .jam-wide in
     let r = c .sum-aligned in
-    cut-product (r .result) (a .negative) (a .c .negative) (value (a .p)) (a .p-exp) (a .c .sig) (a .c .exp) (value (j .result)) (s .pre .short) (s .pre .c-full) (f .if1 .taken) (j .ensures) (r .ensures)
+    cut-product (r .result) (a .negative) (a .c .negative) (value (a .p)) (a .p-exp) (a .c .sig) (a .c .exp) (value (j .result)) (s .pre .0 .short) (s .pre .1 .full) (f .if1 .taken) (j .ensures) (r .ensures)
 
 some : (x e : ℕ) → x + 1019 ≤ e → 0 < e
 some x e h = omega arith
@@ -173,8 +171,8 @@ returns-2 c =
     let a = s .args in
     let j = c .before .jam-wide2 in
     let r = c .sum-aligned2 in
-    let full = s .pre .full (some (a .c .exp) (a .p-exp) (f .if1 .left)) in
-    cut-addend (r .result) (a .negative) (a .c .negative) (value (a .p)) (a .p-exp) (a .c .sig) (a .c .exp) (value (j .result)) (s .pre .c-short) full (s .pre .even) (f .if1 .left) (j .ensures) (r .ensures)
+    let full = s .pre .0 .full (some (a .c .exp) (a .p-exp) (f .if1 .left)) in
+    cut-addend (r .result) (a .negative) (a .c .negative) (value (a .p)) (a .p-exp) (a .c .sig) (a .c .exp) (value (j .result)) (s .pre .1 .short) full (s .pre .0 .even) (f .if1 .left) (j .ensures) (r .ensures)
 
 pub add-scaled-spec : {M : Type 1} → statement M
 add-scaled-spec = tie.close (tie.spec mul-t7 add-q-exp sub-jam-wide jam-wide-requires sum-aligned-requires jam-wide-requires-2 sum-aligned-requires-2 returns returns-2)

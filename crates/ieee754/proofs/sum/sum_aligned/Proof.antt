@@ -1,4 +1,4 @@
--- `ieee754::sum::sum_aligned` meets its contract: each branch of the code is one of `sum`'s. Assumes nothing.
+-- `sum_aligned` meets its contract: each branch of the code is one of `sum`'s. Assumes nothing.
 use borrow.Author.Needs.{needs}
 use mathlib.Core.Path.{_≡_, sym, _∙_}
 use Prim.Native.Nat.{ℕ, _+_, _-_, _*_, _^_}
@@ -59,7 +59,7 @@ returns c =
     let f = c .before .before in
     let s = f .before .args in
     let v = c .before .add-wide in
-    c .round-wide .ensures ∙ like (s .a-negative) (value (s .a)) (s .b-negative) (value (s .b)) (s .e) (value (v .result)) (f .if1 .taken) (v .ensures)
+    c .round-wide .ensures ∙ like (s .a-negative) (value (s .a)) (s .b-negative) (value (s .b)) (s .exp) (value (v .result)) (f .if1 .taken) (v .ensures)
 
 returns-2 : tie.Need-returns-2
 returns-2 c =
@@ -67,7 +67,7 @@ returns-2 c =
     let s = f .before .before .args in
     let v = c .before .sub-wide in
     c .round-wide2 .ensures
-    ∙ below (s .a-negative) (value (s .a)) (s .b-negative) (value (s .b)) (s .e) (value (v .result)) (f .before .if1 .left) (sym (f .less-wide .ensures) ∙ c .before .before .if2 .taken) (v .ensures)
+    ∙ below (s .a-negative) (value (s .a)) (s .b-negative) (value (s .b)) (s .exp) (value (v .result)) (f .before .if1 .left) (sym (f .less-wide .ensures) ∙ c .before .before .if2 .taken) (v .ensures)
 
 returns-3 : tie.Need-returns-3
 returns-3 c =
@@ -76,7 +76,7 @@ returns-3 c =
     let s = f .before .before .args in
     let v = c .before .sub-wide2 in
     c .round-wide3 .ensures
-    ∙ not-below (s .a-negative) (value (s .a)) (s .b-negative) (value (s .b)) (s .e) (value (v .result)) (g .less-wide2 .result) (f .before .if1 .left) (sym (f .less-wide .ensures) ∙ g .before .if2 .left) (g .less-wide2 .ensures) (v .ensures)
+    ∙ not-below (s .a-negative) (value (s .a)) (s .b-negative) (value (s .b)) (s .exp) (value (v .result)) (g .less-wide2 .result) (f .before .if1 .left) (sym (f .less-wide .ensures) ∙ g .before .if2 .left) (g .less-wide2 .ensures) (v .ensures)
 
 pub sum-aligned-spec : {M : Type 1} → statement M
 sum-aligned-spec = tie.close (tie.spec add-wide-requires round-wide-requires less-wide-requires sub-wide-requires round-wide-requires-2 less-wide-requires-2 sub-wide-requires-2 round-wide-requires-3 returns returns-2 returns-3)

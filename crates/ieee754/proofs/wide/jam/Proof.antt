@@ -1,4 +1,4 @@
--- `ieee754::wide::jam` meets its contract. What is shifted right and back left is the number exactly if no digit was lost. Assumes nothing.
+-- `jam` meets its contract. What is shifted right and back left is the number exactly if no digit was lost. Assumes nothing.
 use borrow.Author.Needs.{needs}
 use mathlib.Core.Path.{_≡_, sym, _∙_}
 use Prim.Native.Nat.{ℕ, _*_, _/_, _%_, _^_, _≤_, _<_, min}

@@ -1,4 +1,4 @@
--- `ieee754::wide::jam_top` meets its contract. Assumes nothing.
+-- `jam_top` meets its contract. Assumes nothing.
 use mathlib.Core.Path.{_≡_, sym, ap, _∙_}
 use Prim.Native.Nat.{ℕ, _+_, _*_, _/_, _^_, _<_}
 use native.Mathlib.Omega.{arith}

@@ -1,4 +1,4 @@
--- `ieee754::wide::jam_wide` meets its contract: a cut of less than a word, and a cut of a word and then of the rest. Assumes nothing.
+-- `jam_wide` meets its contract: a cut of less than a word, and a cut of a word and then of the rest. Assumes nothing.
 use borrow.Author.Needs.{needs}
 use mathlib.Core.Path.{_≡_, sym, ap, _∙_, subst}
 use Prim.Native.Nat.{ℕ, _+_, _-_, _*_, _/_, _%_, _^_, _≤_, _<_}

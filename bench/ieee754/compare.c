@@ -1,0 +1,123 @@
+// The proved single operations beside others, bit for bit, every NaN as one value: the square root and the fused multiply-add beside
+// the C library's, and the cube root by whole numbers.
+//   compare [COUNT [SEED]]     COUNT arguments of sqrt and fma, a hundredth of that of cbrt
+#include <inttypes.h>
+#include <stdio.h>
+#include <stdlib.h>
+#include "arguments.h"
+#include "exports.h"
+
+typedef unsigned __int128 u128;
+
+// A number below 2^192.
+struct wide { uint64_t word[3]; };
+
+static int order(struct wide a, struct wide b) {
+    for (int i = 2; i >= 0; i--)
+        if (a.word[i] != b.word[i]) return a.word[i] < b.word[i] ? -1 : 1;
+    return 0;
+}
+
+// z^3, for a z below 2^56.
+static struct wide cube(uint64_t z) {
+    u128 square = (u128)z * z, low = (u128)(uint64_t)square * z, high = (u128)(uint64_t)(square >> 64) * z + (uint64_t)(low >> 64);
+    return (struct wide){{(uint64_t)low, (uint64_t)high, (uint64_t)(high >> 64)}};
+}
+
+// m * 2^s, for an m below 2^53 and an s below 139.
+static struct wide shifted(uint64_t m, int s) {
+    struct wide r = {{0, 0, 0}};
+    u128 part = (u128)m << (s % 64);
+    r.word[s / 64] = (uint64_t)part;
+    if (s / 64 < 2) r.word[s / 64 + 1] = (uint64_t)(part >> 64);
+    return r;
+}
+
+// The significand of 53 digits of a positive finite double, and its exponent.
+static uint64_t parts(double x, int *e) {
+    uint64_t m = bits(x) & (LEADING - 1);
+    *e = (int)(bits(x) >> 52) - 1075;
+    if (bits(x) >= LEADING) return m | LEADING;
+    for (*e = -1074; m < LEADING; m <<= 1) --*e;
+    return m;
+}
+
+// Whether r is the double nearest to the cube root of x. For r = q * 2^k the root is to lie between the middles of r and its
+// neighbours, q - 1/2 (or q - 1/4 at the start of a binade) and q + 1/2, times 2^k. It never is one of them: the cube of a middle
+// has more digits than a double.
+static int is_root(double x, double r) {
+    if (isnan(x)) return isnan(r);
+    if (x == 0 || isinf(x)) return bits(r) == bits(x);
+    if (signbit(x) != signbit(r) || !(fabs(r) > 0) || isinf(r)) return 0;
+    int e, k;
+    uint64_t m = parts(fabs(x), &e), q = parts(fabs(r), &k);
+    int s = e + 6 - 3 * k;
+    if (s < 0 || s > 138) return 0;
+    struct wide power = shifted(m, s);                                // 4^3 times the cube, in cubes of 2^k
+    return order(cube(4 * q - (q == LEADING ? 1 : 2)), power) < 0 && order(power, cube(4 * q + 2)) < 0;
+}
+
+static int same(double a, double b) { return isnan(a) ? isnan(b) : bits(a) == bits(b); }
+
+static const char *kinds[] = {"NaN", "infinite", "zero", "subnormal", "normal"};
+static int kind(double r) { return isnan(r) ? 0 : isinf(r) ? 1 : r == 0 ? 2 : fabs(r) < 0x1p-1022 ? 3 : 4; }
+
+static long report(const char *name, long count, long differ, const long *results) {
+    printf("%s %ld compared, %ld differ (results:", name, count, differ);
+    for (int i = 0; i < 5; i++) printf(" %ld %s%s", results[i], kinds[i], i < 4 ? "," : ")\n");
+    fflush(stdout);
+    return differ;
+}
+
+static long compare_sqrt(long count) {
+    long differ = 0, results[5] = {0};
+    for (long i = 0; i < count; i++) {
+        double x = sqrt_argument(), r = p3p_sqrt(x), s = sqrt(x);
+        results[kind(s)]++;
+        if (!same(r, s) && differ++ < 10) printf("sqrt %016" PRIx64 ": %016" PRIx64 ", not %016" PRIx64 "\n", bits(x), bits(r), bits(s));
+    }
+    return report("sqrt", count, differ, results);
+}
+
+static long compare_fma(long count) {
+    long differ = 0, results[5] = {0};
+    for (long i = 0; i < count; i++) {
+        double x, y, z;
+        fma_arguments(&x, &y, &z);
+        double r = p3p_fma(x, y, z), s = fma(x, y, z);
+        results[kind(s)]++;
+        if (!same(r, s) && differ++ < 10)
+            printf("fma %016" PRIx64 " %016" PRIx64 " %016" PRIx64 ": %016" PRIx64 ", not %016" PRIx64 "\n", bits(x), bits(y), bits(z), bits(r), bits(s));
+    }
+    return report("fma", count, differ, results);
+}
+
+static long compare_cbrt(long count) {
+    long differ = 0, results[5] = {0};
+    for (long i = 0; i < count; i++) {
+        double x = cbrt_argument(), r = p3p_cbrt(x);
+        results[kind(r)]++;
+        if (!is_root(x, r) && differ++ < 10) printf("cbrt %016" PRIx64 ": not %016" PRIx64 "\n", bits(x), bits(r));
+    }
+    return report("cbrt", count, differ, results);
+}
+
+// The test of a cube root refuses the neighbours of a right result.
+static long try_the_test(long count) {
+    long taken = 0;
+    for (long i = 0; i < count; i++) {
+        double x = cbrt_argument(), r = p3p_cbrt(x);
+        if (isnan(x) || isinf(x) || x == 0) continue;
+        taken += is_root(x, of(bits(r) + 1)) + is_root(x, of(bits(r) - 1)) + is_root(x, -r);
+    }
+    printf("cbrt, neighbours of right results: %ld taken for right\n", taken);
+    return taken;
+}
+
+int main(int argc, char **argv) {
+    long count = argc > 1 ? atol(argv[1]) : 1000000;
+    seed = argc > 2 ? strtoull(argv[2], 0, 0) : 0x9e3779b97f4a7c15;
+    printf("seed %016" PRIx64 "\n", seed);
+    long differ = compare_sqrt(count) + compare_fma(count) + compare_cbrt(count / 100) + try_the_test(count / 1000);
+    return differ != 0;
+}

@@ -1,0 +1,10 @@
+-- Answers as C and Rust get them, where a crate below has a type of its own.
+use lib.IntN.{ℤ, pos, negsuc}
+use Rattle.ieee754.specs.declared.total_cmp.Order.{Order}
+use Rattle.ieee754.specs.declared.total_cmp.Order.the-variants.{Less, Equal, Greater}
+
+-- -1, 0 or 1
+abbrev pub ordering : Order → ℤ
+ordering Less = negsuc 0
+ordering Equal = pos 0
+ordering Greater = pos 1

@@ -1,0 +1,2 @@
+// The functions of this repository for C and Rust to link (`rt staticlib exports`), each under a plain name with the prefix p3p_.
+pub mod single;

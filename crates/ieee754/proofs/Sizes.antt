@@ -1,0 +1,55 @@
+-- How many binary digits a number has, and a number moved up to the top of a word. Assumes nothing.
+use mathlib.Core.Path.{_≡_, sym, ap, subst}
+use mathlib.Core.Logic.{⊎-elim}
+use Prim.Native.Nat.{ℕ, suc, _+_, _-_, _*_, _/_, _^_, _≤_, _<_}
+use native.Mathlib.Nat.{le-trans, le-of-eq, lt-of-lt-of-le, lt-of-not-le, not-le-of-lt, mul-le-mul-right, div-lt-iff-lt-mul}
+use native.Mathlib.Omega.{arith}
+use lib.Pow.{pow-add, pow-pos, pow-mono, shr-lt, shl-lt}
+use lib.Count.{leadingZeros, leading-top}
+use lib.Ieee.{size}
+use lib.Ieee.Digits.{size-lt, size-le}
+use Rattle.ieee754.proofs.Order.{lt-or-ge}
+
+-- a number of no less than 2 ^ j has more than j digits
+pub size-gt : (n j : ℕ) → 2 ^ j ≤ n → j < size n
+size-gt n j h = lt-of-not-le (λ (g : size n ≤ j). not-le-of-lt (lt-of-lt-of-le (size-lt n) (pow-mono g)) h)
+
+-- what is left once j digits are cut off
+pub size-shr : (n j : ℕ) → size (n / 2 ^ j) ≡ size n - j
+size-shr n j =
+    let m = n / 2 ^ j in
+    let a : m < 2 ^ (size n - j) = shr-lt (size n - j) j (lt-of-lt-of-le (size-lt n) (pow-mono (omega arith))) in
+    let b : n < 2 ^ (size m + j) = subst (λ (x : ℕ). n < x) (sym (pow-add 2 (size m) j)) (div-lt-iff-lt-mul (pow-pos j) .0 (size-lt m)) in
+    omega (arith, size-le m (size n - j) a, size-le n (size m + j) b)
+
+-- the digits that n drops to keep p
+pub size-drop : (p n k : ℕ) → 0 < p → n < 2 ^ (p + k) → (0 < k → 2 ^ (p - 1 + k) ≤ n) → size n - p ≡ k
+size-drop p n k P h l =
+    ⊎-elim (λ (z : k < 1). omega (arith, size-le n (p + k) h)) (λ (z : 0 < k). omega (arith, size-le n (p + k) h, size-gt n (p - 1 + k) (l z))) (lt-or-ge k 1)
+
+-- ---- n, of at most d digits, moved up in a word of w digits until it has d
+module _ (w d n : ℕ) (some : 0 < n) (short : n < 2 ^ d) (room : d ≤ w) where
+  -- its top digit is j
+  top : (j : ℕ) × (leadingZeros w n + suc j ≡ w) × (2 ^ j ≤ n) × (n < 2 ^ suc j)
+  top = leading-top w n some (lt-of-lt-of-le short (pow-mono room))
+
+  top-lt : top .0 < d
+  top-lt = lt-of-not-le (λ (g : d ≤ top .0). not-le-of-lt short (le-trans (pow-mono g) (top .2)))
+
+  pub zeros-lt : leadingZeros w n < w
+  zeros-lt = omega (arith, top .1)
+
+  pub zeros-ge : w - d ≤ leadingZeros w n
+  zeros-ge = omega (arith, top .1, top-lt)
+
+  -- by s digits
+  module _ (s : ℕ) (shift : s + (w - d) ≡ leadingZeros w n) where
+    pub shifted-ge : 2 ^ (d - 1) ≤ n * 2 ^ s
+    shifted-ge =
+        let e : d - 1 ≡ top .0 + s = omega (arith, top .1, top-lt) in
+        le-trans (le-of-eq (ap (λ (x : ℕ). 2 ^ x) e)) (le-trans (le-of-eq (pow-add 2 (top .0) s)) (mul-le-mul-right (2 ^ s) (top .2)))
+
+    pub shifted-lt : n * 2 ^ s < 2 ^ d
+    shifted-lt =
+        let e : suc (top .0) + s ≡ d = omega (arith, top .1, top-lt) in
+        subst (λ (x : ℕ). n * 2 ^ s < 2 ^ x) e (shl-lt (suc (top .0)) s (top .3))

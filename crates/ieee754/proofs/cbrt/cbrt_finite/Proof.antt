@@ -1,0 +1,42 @@
+-- `cbrt_finite` meets its contract: the root of a double goes by its value. Assumes nothing.
+use Prim.Native.Nat.{ℕ, _*_, _^_, _<_}
+use mathlib.Core.Path.{_≡_, sym, ap, _∙_}
+use native.Mathlib.Nat.{zero-mul}
+use native.Mathlib.Omega.{arith}
+use borrow.Author.Needs.{needs}
+use lib.Dec.{lit<}
+use Rattle.ieee754.proofs.RootValues.{cbrt-zero, cbrt-of}
+use Rattle.ieee754.proofs.Exponent.{normal-value, normal-pos}
+use Rattle.ieee754.proofs.cbrt.cbrt_finite.Statement.{statement}
+use Rattle.ieee754.proofs.cbrt.cbrt_finite.Tie as tie
+
+some : {n : ℕ} → (n ≡ 0 → ⊥) → 0 < n
+some h = omega arith
+
+unpack-requires : tie.Need-unpack-requires
+unpack-requires c κs = search needs
+
+returns : tie.Need-returns
+returns c =
+    let u = c .before .before in
+    let a = u .unpack .result in
+    cbrt-zero (u .before .args .x) (a .negative) (a .sig * 2 ^ a .exp) (2 ^ 1074) (ap (λ (m : ℕ). m * 2 ^ a .exp) (c .if1 .taken) ∙ zero-mul (2 ^ a .exp)) (lit< tt) (u .unpack .ensures .is)
+
+normalise-requires : tie.Need-normalise-requires
+normalise-requires c κs = (c .before .before .unpack .ensures .digits, some (c .if1 .left))
+
+scaled-requires : tie.Need-scaled-requires
+scaled-requires c κs = search needs
+
+returns-2 : tie.Need-returns-2
+returns-2 c =
+    let n = c .before .normalise in
+    let u = c .before .before .before .before in
+    let x = u .before .args .x in
+    let a = u .unpack .result in
+    let is = u .unpack .ensures .is in
+    c .scaled .ensures
+    ∙ sym (cbrt-of x (a .negative) (n .result .sig * 2 ^ n .result .exp) (2 ^ 1126) (normal-pos x (a .negative) (a .sig) (a .exp) (n .result) is (n .ensures)) (lit< tt) (normal-value x (a .negative) (a .sig) (a .exp) (n .result) is (n .ensures)))
+
+pub cbrt-finite-spec : {M : Type 1} → statement M
+cbrt-finite-spec = tie.close (tie.spec unpack-requires returns normalise-requires scaled-requires returns-2)

@@ -1,0 +1,2 @@
+pub mod VectorDegrees
+pub mod MatrixDegrees

@@ -1,0 +1,24 @@
+-- The loop of the refinement at one turn: it stops there, goes on, or has made all its turns. Assumes nothing.
+use Prim.Native.Nat.{ℕ, suc, _-_, _+_, _≤_, _<_}
+use native.Mathlib.Omega.{arith}
+use mathlib.Core.Path.{_≡_}
+use lib.Ieee.{Float}
+use Rattle.linalg.specs.declared.vector3.Vector3.{Vector3}
+use Rattle.p3p_common.specs.declared.refine_depths.SquaredEdges.{SquaredEdges}
+use Rattle.p3p_common.specs.declared.refine_depths.Cosines.{Cosines}
+use Rattle.p3p_common.specs.declared.refine_depths.Refined.{Refined}
+use Rattle.p3p_common.specs.declared.refine_depths.Step.the-variants.{Next, Stop}
+use Rattle.p3p_common.specs.RefineDepths.{depthStep, afterStep, refineTurns}
+
+module _ (depths : Vector3) (edges : SquaredEdges) (cosines : Cosines) (tolerance : Float) (n u : ℕ) where
+  pub turns-stop : u < n → depthStep depths edges cosines tolerance .value ≡ Stop → record { depths = depths; updates = u } ≡ refineTurns (n - u) depths edges cosines tolerance u .value
+  unfolding refineTurns afterStep
+  turns-stop h e = let left : n - u ≡ suc (n - (u + 1)) = omega arith in rw (left, e)
+
+  pub turns-go : (next : Vector3) → u < n → depthStep depths edges cosines tolerance .value ≡ Next next → refineTurns (n - (u + 1)) next edges cosines tolerance (u + 1) .value ≡ refineTurns (n - u) depths edges cosines tolerance u .value
+  unfolding refineTurns afterStep
+  turns-go next h e = let left : n - u ≡ suc (n - (u + 1)) = omega arith in rw (left, e)
+
+  pub turns-end : n ≤ u → record { depths = depths; updates = u } ≡ refineTurns (n - u) depths edges cosines tolerance u .value
+  unfolding refineTurns
+  turns-end h = let left : n - u ≡ 0 = omega arith in rw left

@@ -1,0 +1,43 @@
+-- `p3p_common::gate::gate` meets its contract. Assumes nothing.
+use borrow.Author.Needs.{needs}
+use borrow.Author.Tests.{not-true, not-false}
+use Rattle.p3p_common.specs.Gate.{gate, ifValid}
+use Rattle.p3p_common.proofs.gate.gate.Statement.{statement}
+use Rattle.p3p_common.proofs.gate.gate.Tie as tie
+use Rattle.p3p_common.proofs.gate.gate.Reads as reads
+use Rattle.p3p_common.proofs.gate.gate.Lts as lts
+use Rattle.linalg.proofs.vector3.Vector3.all_finite.Reads as all-finite-reads
+use Rattle.p3p_common.proofs.gate.projected_gate.Reads as projected-gate-reads
+use Rattle.p3p_common.proofs.has_near_orthonormal_columns.has_near_orthonormal_columns.Reads as has-near-orthonormal-columns-reads
+
+has-near-orthonormal-columns-requires : tie.Need-has-near-orthonormal-columns-requires
+has-near-orthonormal-columns-requires c κs = search needs
+
+projected-gate-requires : tie.Need-projected-gate-requires
+projected-gate-requires c κs = search needs
+
+returns : tie.Need-returns
+unfolding gate ifValid
+returns c = rw (← c .before .before .has-near-orthonormal-columns .ensures, not-true (c .before .before .has-near-orthonormal-columns .result) (c .before .if1 .taken)) (c .projected-gate .ensures)
+
+all-finite-requires : tie.Need-all-finite-requires
+all-finite-requires c κs = search needs
+
+returns-2 : tie.Need-returns-2
+unfolding gate ifValid
+returns-2 c = rw (← c .before .before .before .has-near-orthonormal-columns .ensures, not-false (c .before .before .before .has-near-orthonormal-columns .result) (c .before .before .if1 .left), ← c .before .all-finite .ensures, not-true (c .before .all-finite .result) (c .if2 .taken))
+
+returns-3 : tie.Need-returns-3
+unfolding gate ifValid
+returns-3 c = rw (← c .before .before .before .has-near-orthonormal-columns .ensures, not-false (c .before .before .before .has-near-orthonormal-columns .result) (c .before .before .if1 .left), ← c .before .all-finite .ensures, not-false (c .before .all-finite .result) (c .if2 .left))
+
+pub gate-spec : {M : Type 1} → statement M
+gate-spec =
+    tie.close
+    (tie.spec
+    has-near-orthonormal-columns-requires
+    projected-gate-requires
+    returns
+    all-finite-requires
+    returns-2
+    returns-3)

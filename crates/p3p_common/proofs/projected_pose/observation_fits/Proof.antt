@@ -1,0 +1,27 @@
+-- `p3p_common::projected_pose::observation_fits` meets its contract. Assumes nothing.
+use borrow.Author.Needs.{needs}
+use Rattle.p3p_common.specs.ProjectedPose.{observationFits, cameraPoint}
+use Rattle.p3p_common.proofs.projected_pose.observation_fits.Statement.{statement}
+use Rattle.p3p_common.proofs.projected_pose.observation_fits.Tie as tie
+use Rattle.p3p_common.proofs.projected_pose.observation_fits.Reads as reads
+use Rattle.p3p_common.proofs.projected_pose.observation_fits.Lts as lts
+use Rattle.linalg.proofs.matrix3.Matrix3.mul_vector.Reads as mul-vector-reads
+use Rattle.linalg.proofs.vector3.Vector3.add.Reads as add-reads
+use Rattle.p3p_common.proofs.ray_fits.ray_fits.Reads as ray-fits-reads
+
+mul-vector-requires : tie.Need-mul-vector-requires
+mul-vector-requires c κs = search needs
+
+add-requires : tie.Need-add-requires
+add-requires c κs = search needs
+
+ray-fits-requires : tie.Need-ray-fits-requires
+ray-fits-requires c κs = search needs
+
+returns : tie.Need-returns
+unfolding observationFits cameraPoint
+returns c = cc
+
+pub observation-fits-spec : {M : Type 1} → statement M
+observation-fits-spec =
+    tie.close (tie.spec mul-vector-requires add-requires ray-fits-requires returns)

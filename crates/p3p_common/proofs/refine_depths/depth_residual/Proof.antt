@@ -1,0 +1,14 @@
+-- `p3p_common::refine_depths::depth_residual` meets its contract. Assumes nothing.
+use mathlib.Core.Path.{refl}
+use Rattle.p3p_common.specs.RefineDepths.{depthResidual}
+use Rattle.p3p_common.proofs.refine_depths.depth_residual.Statement.{statement}
+use Rattle.p3p_common.proofs.refine_depths.depth_residual.Tie as tie
+use Rattle.p3p_common.proofs.refine_depths.depth_residual.Reads as reads
+use Rattle.p3p_common.proofs.refine_depths.depth_residual.Lts as lts
+
+returns : tie.Need-returns
+unfolding depthResidual
+returns c = refl
+
+pub depth-residual-spec : {M : Type 1} → statement M
+depth-residual-spec = tie.close (tie.spec returns)

@@ -1,0 +1,32 @@
+-- `p3p_common::refine_depths::depth_step` meets its contract. Assumes nothing.
+use borrow.Author.Needs.{needs}
+use Rattle.p3p_common.specs.RefineDepths.{depthStep}
+use Rattle.p3p_common.proofs.refine_depths.depth_step.Statement.{statement}
+use Rattle.p3p_common.proofs.refine_depths.depth_step.Tie as tie
+use Rattle.p3p_common.proofs.refine_depths.depth_step.Reads as reads
+use Rattle.p3p_common.proofs.refine_depths.depth_step.Lts as lts
+use Rattle.linalg.proofs.vector3.Vector3.abs_sum.Reads as abs-sum-reads
+use Rattle.p3p_common.proofs.refine_depths.depth_residual.Reads as depth-residual-reads
+use Rattle.p3p_common.proofs.refine_depths.depth_update.Reads as depth-update-reads
+
+depth-residual-requires : tie.Need-depth-residual-requires
+depth-residual-requires c κs = search needs
+
+abs-sum-requires : tie.Need-abs-sum-requires
+abs-sum-requires c κs = search needs
+
+returns : tie.Need-returns
+unfolding depthStep
+returns c = rw (← c .before .before .depth-residual .ensures, ← c .before .abs-sum .ensures, c .if1 .taken)
+
+depth-update-requires : tie.Need-depth-update-requires
+depth-update-requires c κs = search needs
+
+returns-2 : tie.Need-returns-2
+unfolding depthStep
+returns-2 c = rw (← c .before .before .before .depth-residual .ensures, ← c .before .before .abs-sum .ensures, c .before .if1 .left) (c .depth-update .ensures)
+
+pub depth-step-spec : {M : Type 1} → statement M
+depth-step-spec =
+    tie.close
+    (tie.spec depth-residual-requires abs-sum-requires returns depth-update-requires returns-2)

@@ -1,0 +1,77 @@
+-- `p3p_common::refine_depths::refine_depths` meets its contract: what is left of the loop gives what the whole does. Assumes nothing.
+use borrow.Author.Needs.{needs}
+use native.Mathlib.Nat.{sub-zero}
+use native.Mathlib.Omega.{arith}
+use Prim.Native.Nat.{_-_, _≤_}
+use mathlib.Core.Path.{_≡_, refl, sym, _∙_}
+use Rattle.p3p_common.specs.RefineDepths.{refineTurns, refineDepths}
+use Rattle.p3p_common.proofs.Turns.{turns-stop, turns-go, turns-end}
+use Rattle.p3p_common.proofs.refine_depths.refine_depths.Statement.{statement}
+use Rattle.p3p_common.proofs.refine_depths.refine_depths.Tie as tie
+use Rattle.p3p_common.proofs.refine_depths.refine_depths.Reads as reads
+use Rattle.p3p_common.proofs.refine_depths.refine_depths.Lts as lts
+use Rattle.ieee754.proofs.max.max.Reads as max-reads
+use Rattle.p3p_common.proofs.refine_depths.depth_step.Reads as depth-step-reads
+
+abbrev Inv-loop : tie.InvT-loop
+Inv-loop edges cosines iterations a01 a02 a12 tolerance refined₀ updates₀ refined updates =
+    (updates ≤ iterations) × (refineTurns (iterations - updates) refined edges cosines tolerance updates .value ≡ refineTurns iterations refined₀ edges cosines tolerance 0 .value)
+
+abbrev μ-loop : tie.MeasureT-loop
+μ-loop edges cosines iterations a01 a02 a12 tolerance refined₀ updates₀ refined updates = iterations - updates
+
+max-requires : tie.Need-max-requires Inv-loop μ-loop
+max-requires c κs = search needs
+
+max-requires-2 : tie.Need-max-requires-2 Inv-loop μ-loop
+max-requires-2 c κs = search needs
+
+loop-holds : tie.Need-loop-holds Inv-loop μ-loop
+loop-holds c = (search needs, rw (sub-zero (c .before .before .args .iterations)))
+
+depth-step-requires : tie.Need-depth-step-requires Inv-loop μ-loop
+depth-step-requires c κs = search needs
+
+enum-known-candidate : tie.Need-enum-known-candidate Inv-loop μ-loop
+enum-known-candidate c = search needs
+
+enum-told : tie.Need-enum-told Inv-loop μ-loop
+enum-told c = search needs
+
+returns : tie.Need-returns Inv-loop μ-loop
+unfolding refineDepths
+returns c =
+    rw (← c .before .before .before .before .before .before .max .ensures, ← c .before .before .before .before .before .max2 .ensures)
+    (turns-stop (c .before .before .before .before .loop .refined) _ _ _ _ (c .before .before .before .before .loop .updates) (c .before .before .before .loop-test .taken) (sym (c .before .before .depth-step .ensures) ∙ c .enum-told .given .1) ∙ c .before .before .before .before .loop .inv .1)
+
+add-updates : tie.Need-add-updates Inv-loop μ-loop
+add-updates c = search needs
+
+loop-less : tie.Need-loop-less Inv-loop μ-loop
+loop-less c = omega arith
+
+loop-again : tie.Need-loop-again Inv-loop μ-loop
+loop-again c =
+    (search needs, turns-go (c .before .before .before .before .before .loop .refined) _ _ _ _ (c .before .before .before .before .before .loop .updates) _ (c .before .before .before .before .loop-test .taken) (sym (c .before .before .before .depth-step .ensures) ∙ c .before .candidate .given .1) ∙ c .before .before .before .before .before .loop .inv .1)
+
+returns-2 : tie.Need-returns-2 Inv-loop μ-loop
+unfolding refineDepths
+returns-2 c = rw (← c .before .before .before .max .ensures, ← c .before .before .max2 .ensures) (turns-end (c .before .loop .refined) _ _ _ _ (c .before .loop .updates) (c .loop-test .left) ∙ c .before .loop .inv .1)
+
+pub refine-depths-spec : {M : Type 1} → statement M
+refine-depths-spec =
+    tie.close
+    (tie.spec
+    Inv-loop
+    μ-loop
+    max-requires
+    max-requires-2
+    loop-holds
+    depth-step-requires
+    enum-known-candidate
+    enum-told
+    returns
+    add-updates
+    loop-less
+    loop-again
+    returns-2)

@@ -1,0 +1,27 @@
+-- `p3p_common::rotation_from_edges::rotation_from_edges` meets its contract. Assumes nothing.
+use borrow.Author.Needs.{needs}
+use Rattle.p3p_common.specs.RotationFromEdges.{rotationFromEdges}
+use Rattle.p3p_common.proofs.rotation_from_edges.rotation_from_edges.Statement.{statement}
+use Rattle.p3p_common.proofs.rotation_from_edges.rotation_from_edges.Tie as tie
+use Rattle.p3p_common.proofs.rotation_from_edges.rotation_from_edges.Reads as reads
+use Rattle.p3p_common.proofs.rotation_from_edges.rotation_from_edges.Lts as lts
+use Rattle.linalg.proofs.matrix3.Matrix3.from_columns.Reads as from-columns-reads
+use Rattle.linalg.proofs.matrix3.Matrix3.mul.Reads as mul-reads
+use Rattle.linalg.proofs.vector3.Vector3.cross.Reads as cross-reads
+
+cross-requires : tie.Need-cross-requires
+cross-requires c κs = search needs
+
+from-columns-requires : tie.Need-from-columns-requires
+from-columns-requires c κs = search needs
+
+mul-requires : tie.Need-mul-requires
+mul-requires c κs = search needs
+
+returns : tie.Need-returns
+unfolding rotationFromEdges
+returns c = cc
+
+pub rotation-from-edges-spec : {M : Type 1} → statement M
+rotation-from-edges-spec =
+    tie.close (tie.spec cross-requires from-columns-requires mul-requires returns)

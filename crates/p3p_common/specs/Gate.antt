@@ -1,0 +1,43 @@
+-- What becomes of a pose recovered from edges and positive depths: push_pose_with_cheirality of pose/p3p/common.rs where `edge_basis_with_positive_depths` holds, with the test of push_valid_rotation.
+use mathlib.Core.Bool.{Bool}
+use Rattle.ieee754.specs.Traced.{Traced, pure, _>>=_, if_then_else_}
+use Rattle.linalg.specs.Vectors.{allFinite, vecSub}
+use Rattle.linalg.specs.Matrices.{matVec}
+use Rattle.linalg.specs.declared.vector3.Vector3.{Vector3}
+use Rattle.linalg.specs.declared.matrix3.Matrix3.{Matrix3}
+use Rattle.linalg.specs.declared.pose.Pose.{Pose}
+use Rattle.p3p_common.specs.declared.input.World.{World}
+use Rattle.p3p_common.specs.declared.input.P3pInput.{P3pInput}
+use Rattle.p3p_common.specs.declared.project_to_rotation.Projection.{Projection}
+use Rattle.p3p_common.specs.declared.project_to_rotation.Projection.the-variants.{Rotation, Refused}
+use Rattle.p3p_common.specs.declared.gate.Gated.{Gated}
+use Rattle.p3p_common.specs.declared.gate.Gated.the-variants.{Passed, Projected, Dropped}
+use Rattle.p3p_common.specs.NearOrthonormal.{hasNearOrthonormalColumns}
+use Rattle.p3p_common.specs.ProjectToRotation.{projectToRotation}
+use Rattle.p3p_common.specs.ProjectedPose.{cameraPoint, projectedPoseFitsMinimalSample}
+
+-- push_valid_rotation: a translation that is not finite drops the pose
+unfoldable pub ifValid : (Pose → Gated) → Matrix3 → Vector3 → Gated
+ifValid gated rotation translation = if allFinite translation then gated (record { rotation = rotation; translation = translation }) else Dropped
+
+-- the pose with its projected rotation: camera point 0 is kept, and all three rays must fit
+unfoldable pub keepPoint0 : P3pInput → Matrix3 → Vector3 → Projection → Traced Gated
+keepPoint0 input rawRotation translation Refused = pure Dropped
+keepPoint0 input rawRotation translation (Rotation rotation) = do
+  -- let camera0 = raw_rotation * self.world[0] + translation;
+  camera0 ← cameraPoint rawRotation translation (input .world .p0)
+  -- let translation = camera0 - rotation * self.world[0];
+  turned ← matVec rotation (input .world .p0)
+  kept ← vecSub camera0 turned
+  fits ← projectedPoseFitsMinimalSample input rotation kept
+  pure (if fits then ifValid Projected rotation kept else Dropped)
+
+unfoldable pub projectedGate : P3pInput → Matrix3 → Vector3 → Traced Gated
+projectedGate input rawRotation translation = do
+  projection ← projectToRotation rawRotation
+  keepPoint0 input rawRotation translation projection
+
+unfoldable pub gate : P3pInput → Matrix3 → Vector3 → Traced Gated
+gate input rawRotation translation = do
+  isNearRotation ← hasNearOrthonormalColumns rawRotation
+  if isNearRotation then pure (ifValid Passed rawRotation translation) else projectedGate input rawRotation translation

@@ -1,0 +1,12 @@
+-- The definitions that the contracts of this crate cite, in the order of a solve, and the relations of the scaling rule between two runs.
+pub mod Input
+pub mod RefineDepths
+pub mod WorldBasisInverse
+pub mod RotationFromEdges
+pub mod NearOrthonormal
+pub mod ProjectToRotation
+pub mod RayFits
+pub mod ProjectedPose
+pub mod Gate
+pub mod Slots
+pub mod PushPose

@@ -1,0 +1,32 @@
+-- has_near_orthonormal_columns of pose/p3p/common.rs: a column error of at most 1e-10 passes.
+use mathlib.Core.Bool.{Bool}
+use lib.Ieee.{Float, le}
+use Rattle.ieee754.specs.Literal.{num}
+use Rattle.ieee754.specs.Magnitude.{abs}
+use Rattle.ieee754.specs.Traced.{Traced, pure, _>>=_, _⊕_, _⊖_, !_}
+use Rattle.linalg.specs.Vectors.{dot, normSquared}
+use Rattle.linalg.specs.Matrices.{column0, column1, column2}
+use Rattle.linalg.specs.declared.matrix3.Matrix3.{Matrix3}
+
+-- NEAR_ROTATION_TOLERANCE, 1e-10
+abbrev pub nearRotationTolerance : Float
+nearRotationTolerance = num 0x3ddb_7cdf_d9d7_bdbb
+
+-- the literal 1.0
+abbrev pub one : Float
+one = num 0x3ff0_0000_0000_0000
+
+unfoldable pub hasNearOrthonormalColumns : Matrix3 → Traced Bool
+hasNearOrthonormalColumns matrix =
+    let first = column0 matrix in
+    let second = column1 matrix in
+    let third = column2 matrix in
+    do
+      length0 ← normSquared first ⊖ ! one
+      length1 ← normSquared second ⊖ ! one
+      length2 ← normSquared third ⊖ ! one
+      angle01 ← dot first second
+      angle02 ← dot first third
+      angle12 ← dot second third
+      error ← ! abs length0 ⊕ ! abs length1 ⊕ ! abs length2 ⊕ ! abs angle01 ⊕ ! abs angle02 ⊕ ! abs angle12
+      pure (le error nearRotationTolerance)

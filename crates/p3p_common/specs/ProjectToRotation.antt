@@ -1,0 +1,30 @@
+-- project_to_rotation of pose/p3p/common.rs: modified Gram-Schmidt on the first two columns, their cross product for the third.
+use mathlib.Core.Bool.{Bool}
+use lib.Ieee.{le}
+use Rattle.ieee754.specs.Literal.{epsilon}
+use Rattle.ieee754.specs.Traced.{Traced, pure, _>>=_, if_then_else_, !_, √_}
+use Rattle.linalg.specs.Vectors.{dot, norm, cross, vecSub, vecMul, vecDiv}
+use Rattle.linalg.specs.Matrices.{column0, column1, fromColumns, matFinite}
+use Rattle.linalg.specs.declared.matrix3.Matrix3.{Matrix3}
+use Rattle.p3p_common.specs.declared.project_to_rotation.Projection.{Projection}
+use Rattle.p3p_common.specs.declared.project_to_rotation.Projection.the-variants.{Rotation, Refused}
+
+unfoldable pub projectToRotation : Matrix3 → Traced Projection
+projectToRotation matrix =
+    if matFinite matrix then (do
+      firstNorm ← norm (column0 matrix)
+      smallest ← √ ! epsilon
+      if le firstNorm smallest then pure Refused
+          else do
+            first ← vecDiv (column0 matrix) firstNorm
+            -- matrix.column(1).into_owned() - first * first.dot(&matrix.column(1))
+            along ← dot first (column1 matrix)
+            parallel ← vecMul first along
+            second ← vecSub (column1 matrix) parallel
+            secondNorm ← norm second
+            if le secondNorm smallest then pure Refused
+                else do
+                  unit ← vecDiv second secondNorm
+                  third ← cross first unit
+                  pure (Rotation (fromColumns first unit third)))
+    else pure Refused

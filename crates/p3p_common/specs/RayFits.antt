@@ -1,0 +1,23 @@
+-- ray_fits of pose/p3p/common.rs: a camera point lies in front, within 2 ^ -20 of its bearing's direction.
+use mathlib.Core.Bool.{Bool, false, _&&_}
+use lib.Ieee.{Float, lt, le}
+use lib.Ieee.Scale.{finite}
+use Rattle.ieee754.specs.Literal.{num}
+use Rattle.ieee754.specs.Traced.{Traced, pure, _>>=_, if_then_else_, _⊗_, !_}
+use Rattle.linalg.specs.Vectors.{dot, normSquared, cross}
+use Rattle.linalg.specs.declared.vector3.Vector3.{Vector3}
+
+-- PROJECTED_RAY_TOLERANCE, 2 ^ -20
+abbrev pub projectedRayTolerance : Float
+projectedRayTolerance = num 0x3eb0_0000_0000_0000
+
+-- the cross product is reached only where the depth is finite and above zero
+unfoldable pub rayFits : Vector3 → Vector3 → Traced Bool
+rayFits camera bearing = do
+  rayDepth ← dot camera bearing
+  if finite rayDepth && lt (num 0) rayDepth then (do
+    normal ← cross camera bearing
+    offRay ← normSquared normal
+    limit ← ! projectedRayTolerance ⊗ ! projectedRayTolerance ⊗ ! rayDepth ⊗ ! rayDepth
+    pure (le offRay limit))
+      else pure false

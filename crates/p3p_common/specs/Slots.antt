@@ -1,0 +1,27 @@
+-- SolverP3pSolutions of pose/p3p/common.rs, an ArrayVec of at most four poses: four slots and a count, and the updates that each pose's depths took. Slots beyond the count hold plus zeros and 0.
+use Prim.Native.Nat.{ℕ, _+_}
+use mathlib.Core.List.{List, [], _∷_}
+use lib.Dec.{ltb}
+use lib.ListN.{set}
+use Rattle.ieee754.specs.Traced.{if_then_else_}
+use Rattle.linalg.specs.Matrices.{zeroPose}
+use Rattle.linalg.specs.declared.pose.Pose.{Pose}
+use Rattle.p3p_common.specs.declared.solutions.Solutions.{Solutions}
+
+-- SolverP3pSolutions::default
+unfoldable pub empty : Solutions
+empty = record {
+  count = 0;
+  poses = zeroPose ∷ zeroPose ∷ zeroPose ∷ zeroPose ∷ [];
+  updates = 0 ∷ 0 ∷ 0 ∷ 0 ∷ [];
+}
+
+-- SolverP3pSolutions::push: a fifth pose is dropped
+unfoldable pub push : Solutions → Pose → ℕ → Solutions
+push solutions pose updates =
+    if ltb (solutions .count) 4 then record {
+      count = solutions .count + 1;
+      poses = set (solutions .poses) (solutions .count) pose;
+      updates = set (solutions .updates) (solutions .count) updates;
+    }
+    else solutions

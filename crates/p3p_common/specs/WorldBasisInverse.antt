@@ -1,0 +1,51 @@
+-- world_basis_inverse of pose/p3p/common.rs: the inverse of the matrix of two edges and their cross product, by its rows, or nothing where the edges are near to parallel.
+use mathlib.Core.Bool.{Bool, true}
+use lib.Ieee.{Float, le}
+use lib.Ieee.Scale.{finite}
+use Rattle.ieee754.specs.Literal.{num, epsilon}
+use Rattle.ieee754.specs.Maximum.{max}
+use Rattle.ieee754.specs.Traced.{Traced, pure, _>>=_, if_then_else_, _⊗_, _⊘_, !_}
+use Rattle.linalg.specs.Vectors.{normSquared, cross, vecMul}
+use Rattle.linalg.specs.Matrices.{fromRows}
+use Rattle.linalg.specs.declared.vector3.Vector3.{Vector3}
+use Rattle.linalg.specs.declared.matrix3.Matrix3.{Matrix3}
+use Rattle.p3p_common.specs.declared.world_basis_inverse.Basis.{Basis}
+use Rattle.p3p_common.specs.declared.world_basis_inverse.Basis.the-variants.{Inverse, Singular}
+
+-- the literals 1.0 and 64.0
+abbrev pub one : Float
+one = num 0x3ff0_0000_0000_0000
+
+abbrev pub sixtyFour : Float
+sixtyFour = num 0x4050_0000_0000_0000
+
+-- from `let inverse_determinant = determinant.recip();` to the rows
+unfoldable pub dualBasis : Vector3 → Vector3 → Vector3 → Float → Traced Matrix3
+dualBasis firstEdge secondEdge normal determinant = do
+  inverseDeterminant ← ! one ⊘ ! determinant
+  toFirst ← cross secondEdge normal
+  dualFirst ← vecMul toFirst inverseDeterminant
+  toSecond ← cross normal firstEdge
+  dualSecond ← vecMul toSecond inverseDeterminant
+  dualNormal ← vecMul normal inverseDeterminant
+  pure (fromRows dualFirst dualSecond dualNormal)
+
+-- !determinant.is_finite() || determinant <= 64.0 * f64::EPSILON * geometry_scale_squared * geometry_scale_squared: the product is reached only where the determinant is finite
+unfoldable pub isSingular : Float → Float → Traced Bool
+isSingular determinant geometryScaleSquared =
+    if finite determinant then (do
+      limit ← ! sixtyFour ⊗ ! epsilon ⊗ ! geometryScaleSquared ⊗ ! geometryScaleSquared
+      pure (le determinant limit))
+    else pure true
+
+unfoldable pub worldBasisInverse : Vector3 → Vector3 → Traced Basis
+worldBasisInverse firstEdge secondEdge = do
+  normal ← cross firstEdge secondEdge
+  determinant ← normSquared normal
+  firstSquared ← normSquared firstEdge
+  secondSquared ← normSquared secondEdge
+  singular ← isSingular determinant (max firstSquared secondSquared)
+  if singular then pure Singular
+      else do
+        inverse ← dualBasis firstEdge secondEdge normal determinant
+        pure (Inverse inverse)

@@ -1,0 +1,58 @@
+// The gate that a pose recovered from edges and positive depths passes, is projected at, or does not pass: push_pose_with_cheirality of pose/p3p/common.rs with
+// `edge_basis_with_positive_depths`, and push_valid_rotation, both without the push.
+ghost use mathlib.Core.Path.{_≡_};
+ghost use Rattle.p3p_common.specs.Gate.{gate, projectedGate};
+use crate::has_near_orthonormal_columns::has_near_orthonormal_columns;
+use crate::input::P3pInput;
+use crate::project_to_rotation::Projection;
+use crate::project_to_rotation::project_to_rotation;
+use crate::projected_pose::projected_pose_fits_minimal_sample;
+use linalg::matrix3::Matrix3;
+use linalg::pose::Pose;
+use linalg::vector3::Vector3;
+
+pub enum Gated {
+    // As it came.
+    Passed(Pose),
+    // With the nearest rotation for the matrix, and camera point 0 kept.
+    Projected(Pose),
+    Dropped,
+}
+
+// The projection of a pose whose matrix is not near a rotation.
+pub fn projected_gate(input: P3pInput, raw_rotation: Matrix3, translation: Vector3) -> Gated
+    ensures { λ r. ⌜ r ≡ projectedGate input «raw_rotation» translation .value ⌝ }
+{
+    let Projection::Rotation(rotation) = project_to_rotation(raw_rotation) else {
+        return Gated::Dropped;
+    };
+    let world = input.world;
+    let p0 = world.p0;
+    let camera0 = raw_rotation.mul_vector(p0).add(translation);
+    let kept = camera0.sub(rotation.mul_vector(p0));
+    if !projected_pose_fits_minimal_sample(input, rotation, kept) {
+        return Gated::Dropped;
+    }
+    if !kept.all_finite() {
+        return Gated::Dropped;
+    }
+    Gated::Projected(Pose {
+        rotation,
+        translation: kept,
+    })
+}
+
+pub fn gate(input: P3pInput, raw_rotation: Matrix3, translation: Vector3) -> Gated
+    ensures { λ r. ⌜ r ≡ gate input «raw_rotation» translation .value ⌝ }
+{
+    if !has_near_orthonormal_columns(raw_rotation) {
+        return projected_gate(input, raw_rotation, translation);
+    }
+    if !translation.all_finite() {
+        return Gated::Dropped;
+    }
+    Gated::Passed(Pose {
+        rotation: raw_rotation,
+        translation,
+    })
+}

@@ -1,0 +1,36 @@
+// The solver's input: three world points and the bearing to each (P3pInput of pose/p3p/common.rs).
+ghost use mathlib.Core.Path.{_≡_};
+ghost use Rattle.p3p_common.specs.Input.{inputFinite};
+use linalg::vector3::Vector3;
+
+pub struct World {
+    pub p0: Vector3,
+    pub p1: Vector3,
+    pub p2: Vector3,
+}
+
+pub struct Bearings {
+    pub f0: Vector3,
+    pub f1: Vector3,
+    pub f2: Vector3,
+}
+
+pub struct P3pInput {
+    pub world: World,
+    pub bearings: Bearings,
+}
+
+// The test of P3pInput::new, question 1 of document 01: are all eighteen numbers finite?
+pub fn input_finite(input: P3pInput) -> bool
+    ensures { λ r. ⌜ r ≡ inputFinite input ⌝ }
+{
+    let world = input.world;
+    let bearings = input.bearings;
+    let p0 = world.p0.all_finite();
+    let p1 = world.p1.all_finite();
+    let p2 = world.p2.all_finite();
+    let f0 = bearings.f0.all_finite();
+    let f1 = bearings.f1.all_finite();
+    let f2 = bearings.f2.all_finite();
+    p0 & p1 & p2 & f0 & f1 & f2
+}

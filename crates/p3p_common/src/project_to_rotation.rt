@@ -1,0 +1,38 @@
+// The rotation near a matrix, by modified Gram-Schmidt on its first two columns (project_to_rotation of pose/p3p/common.rs).
+ghost use mathlib.Core.Path.{_≡_};
+ghost use Rattle.p3p_common.specs.ProjectToRotation.{projectToRotation};
+use ieee754::sqrt::sqrt;
+use linalg::matrix3::Matrix3;
+use linalg::vector3::Vector3;
+
+// f64::EPSILON
+const EPSILON: f64 = 2.220446049250313e-16;
+
+pub enum Projection {
+    Rotation(Matrix3),
+    Refused,
+}
+
+pub fn project_to_rotation(matrix: Matrix3) -> Projection
+    ensures { λ r. ⌜ r ≡ projectToRotation matrix .value ⌝ }
+{
+    if !matrix.all_finite() {
+        return Projection::Refused;
+    }
+    let column0 = matrix.column0();
+    let first_norm = column0.norm();
+    if first_norm <= sqrt(EPSILON) {
+        return Projection::Refused;
+    }
+    let first = column0.div(first_norm);
+    let column1 = matrix.column1();
+    let along = first.mul(first.dot(column1));
+    let rest = column1.sub(along);
+    let second_norm = rest.norm();
+    if second_norm <= sqrt(EPSILON) {
+        return Projection::Refused;
+    }
+    let second = rest.div(second_norm);
+    let third = first.cross(second);
+    Projection::Rotation(Matrix3::from_columns(first, second, third))
+}

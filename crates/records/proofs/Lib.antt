@@ -1,0 +1,4 @@
+-- The laws of this crate, in reading order.
+pub mod BigEndian
+pub mod Answers
+pub mod RoundTrip

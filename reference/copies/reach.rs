@@ -1,0 +1,31 @@
+//! Counters at branches: which outcomes of which tests one run reached.
+
+use std::cell::RefCell;
+
+/// Every label of this copy (none but in copy-counted), in the order of the edits.
+pub const LABELS: &[&str] = include!(concat!(env!("OUT_DIR"), "/labels.rs"));
+
+thread_local! {
+    static REACHED: RefCell<Vec<(&'static str, bool)>> = const { RefCell::new(Vec::new()) };
+}
+
+/// A test under its label; its outcome goes on.
+pub fn at(label: &'static str, outcome: bool) -> bool {
+    REACHED.with(|list| {
+        let mut list = list.borrow_mut();
+        if !list.contains(&(label, outcome)) {
+            list.push((label, outcome));
+        }
+    });
+    outcome
+}
+
+/// A place.
+pub fn here(label: &'static str) {
+    at(label, true);
+}
+
+/// What was reached since the last call.
+pub fn take() -> Vec<(&'static str, bool)> {
+    REACHED.with(|list| std::mem::take(&mut *list.borrow_mut()))
+}

@@ -1,0 +1,86 @@
+//! The second copy behind the port's C interface: it stands in for the port to try the
+//! comparison itself. With the feature `wrong` it is wrong now and then, which must be found.
+
+#[path = "../../tools/src/choice.rs"]
+mod choice;
+
+use copy_second::listed::Listed;
+
+#[unsafe(no_mangle)]
+extern "C" fn p3p_sqrt(x: f64) -> f64 {
+    x.sqrt()
+}
+
+#[unsafe(no_mangle)]
+extern "C" fn p3p_cbrt(x: f64) -> f64 {
+    x.listed_cbrt()
+}
+
+#[unsafe(no_mangle)]
+extern "C" fn p3p_fma(a: f64, b: f64, c: f64) -> f64 {
+    a.mul_add(b, c)
+}
+
+#[unsafe(no_mangle)]
+extern "C" fn p3p_copysign(x: f64, sign: f64) -> f64 {
+    x.copysign(sign)
+}
+
+#[unsafe(no_mangle)]
+extern "C" fn p3p_max(a: f64, b: f64) -> f64 {
+    a.listed_max(b)
+}
+
+#[unsafe(no_mangle)]
+extern "C" fn p3p_total_cmp(a: f64, b: f64) -> i32 {
+    a.listed_total_cmp(&b) as i32
+}
+
+#[unsafe(no_mangle)]
+extern "C" fn p3p_quadratic(b: f64, c: f64, first: &mut f64, second: &mut f64) -> u32 {
+    match copy_second::quadratic(b, c) {
+        Ok(roots) => {
+            [*first, *second] = roots;
+            0
+        }
+        Err(number) => number,
+    }
+}
+
+#[unsafe(no_mangle)]
+extern "C" fn p3p_cubic(b: f64, c: f64, d: f64, root: &mut f64) -> u32 {
+    match copy_second::cubic(b, c, d) {
+        Ok(found) => {
+            *root = found;
+            0
+        }
+        Err(number) => number,
+    }
+}
+
+#[unsafe(no_mangle)]
+extern "C" fn p3p_solve(input: &[f64; 18], poses: &mut [f64; 48], updates: &mut [u32; 4], count: &mut u32) -> u32 {
+    let answer = copy_second::solve(input);
+    if answer.refusal != 0 {
+        return answer.refusal;
+    }
+    *poses = std::array::from_fn(|index| answer.poses[index / 12][index % 12]);
+    *updates = answer.updates;
+    *count = answer.count as u32;
+    if cfg!(feature = "wrong") && answer.count == 3 && answer.updates[2] == 5 {
+        poses[24] = f64::from_bits(poses[24].to_bits() ^ 1);
+    }
+    0
+}
+
+#[unsafe(no_mangle)]
+extern "C" fn p3p_choose(poses: &[f64; 48], count: u32, target: &[f64; 3], bearing: &[f64; 3], best: &mut u32) -> u32 {
+    let slots = std::array::from_fn(|slot| std::array::from_fn(|index| poses[12 * slot + index]));
+    match choice::best(count as u64, &slots, target, bearing) {
+        Some((index, _)) => {
+            *best = index as u32 + 1;
+            0
+        }
+        None => 10,
+    }
+}

@@ -1,0 +1,92 @@
+//! Runs both copies over vectors written as text and requires every answer.
+//!
+//! A line: `LABEL words -> answer`, and where the unchanged Rust differs ` | asis answer`.
+//! LABEL is a function's name, or for a frame its kind.
+
+use crate::table::{self, FUNCTIONS};
+
+pub fn run(files: &[String]) -> Result<(), String> {
+    let mut total = 0;
+    for path in files {
+        let text = std::fs::read_to_string(path).map_err(|e| format!("{path}: {e}"))?;
+        let mut differ = 0;
+        for (number, line) in text.lines().enumerate() {
+            let (left, right) = line.split_once(" -> ").ok_or(format!("{path}: line {number}"))?;
+            let (second, asis) = right.split_once(" | asis ").unwrap_or((right, right));
+            let (label, words) = left.split_once(' ').ok_or(format!("{path}: line {number}"))?;
+            let name = FUNCTIONS.iter().map(|f| f.name).find(|name| *name == label).unwrap_or("frame");
+            let input = parse_input(name, words);
+            for (copy, expected, found) in [
+                ("the second copy", second, table::second::answer(name, &input)),
+                ("the counted copy", second, table::counted::answer(name, &input)),
+                ("the unchanged copy", asis, table::asis::answer(name, &input)),
+            ] {
+                let expected = parse_answer(name, expected);
+                if expected != found {
+                    return Err(format!("{path}, line {}: {copy}\n{line}\nfound {found:x?}", number + 1));
+                }
+            }
+            differ += (second != asis) as usize;
+            total += 1;
+        }
+        println!("{path}: {} lines, the copies differ on {differ}, as it says", text.lines().count());
+    }
+    println!("{total} answers equal");
+    Ok(())
+}
+
+fn hex(word: &str) -> u64 {
+    u64::from_str_radix(word, 16).unwrap_or_else(|e| panic!("{word}: {e}"))
+}
+
+fn parse_input(name: &str, words: &str) -> Vec<u64> {
+    let decimal = match name {
+        "refine" => Some(9),
+        "choice" => Some(0),
+        _ => None,
+    };
+    let input: Vec<u64> = words
+        .split(' ')
+        .enumerate()
+        .map(|(index, word)| if decimal == Some(index) { word.parse().unwrap() } else { hex(word) })
+        .collect();
+    assert_eq!(input.len(), table::find(name).takes, "{name}");
+    input
+}
+
+/// The words of an answer in the order of the stored vectors.
+fn parse_answer(name: &str, answer: &str) -> Vec<u64> {
+    let tokens: Vec<&str> = answer.split(' ').collect();
+    let number = |index: usize| tokens[index].parse::<u64>().unwrap();
+    let words = |from: usize| tokens[from..].iter().map(|word| hex(word));
+    let mut result = match (name, tokens[0]) {
+        (_, "refused") => vec![number(1)],
+        (_, "none") => vec![0],
+        ("frame", _) => {
+            let mut result = vec![0, number(1), number(3)];
+            for pose in tokens[4..].chunks(14) {
+                result.push(pose[1].parse().unwrap());
+                result.extend(pose[2..].iter().map(|word| hex(word)));
+            }
+            result
+        }
+        ("quadratic" | "cubic", _) => std::iter::once(0).chain(words(1)).collect(),
+        ("refine", _) => std::iter::once(number(1)).chain(words(2)).collect(),
+        ("ray_fits" | "near", _) => vec![number(1)],
+        ("project" | "basis" | "eig" | "row_crosses", _) => std::iter::once(1).chain(words(0)).collect(),
+        ("choice", _) => vec![0, number(1), hex(tokens[2])],
+        ("totalorder", word) => vec![word.parse::<i64>().unwrap() as u64],
+        _ => words(0).collect(),
+    };
+    result.resize(table::find(name).gives, 0);
+    result
+}
+
+/// The inputs of one function in a text of vectors, with their labels.
+pub fn inputs(text: &str, name: &str) -> Vec<(String, Vec<u64>)> {
+    text.lines()
+        .filter_map(|line| line.split(" -> ").next()?.split_once(' '))
+        .filter(|(label, _)| FUNCTIONS.iter().map(|f| f.name).find(|n| n == label).unwrap_or("frame") == name)
+        .map(|(label, words)| (label.to_string(), parse_input(name, words)))
+        .collect()
+}

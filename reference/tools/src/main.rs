@@ -1,0 +1,55 @@
+//! The Rust beside the port. `reference` alone lists the commands.
+
+mod beside;
+mod check;
+mod choice;
+mod coverage;
+mod frames;
+mod pieces;
+#[cfg(port)]
+mod port;
+mod random;
+mod stored;
+mod table;
+mod vectors;
+
+use std::path::Path;
+
+const USAGE: &str = "\
+reference check FILE..           both copies over vectors written as text, every answer required
+reference vectors FOLDER         write the stored vectors
+reference coverage FOLDER        which branches of the Rust the stored vectors reach
+reference beside [COUNT [SEED]]  the port and both copies on the same random inputs
+reference search FUNCTION N SEED COUNT | FILE
+                                 inputs that reach what fewer than N stored ones reach";
+
+fn main() {
+    let arguments: Vec<String> = std::env::args().skip(1).collect();
+    let words: Vec<&str> = arguments.iter().map(String::as_str).collect();
+    let number = |text: &str| text.parse::<u64>().map_err(|e| format!("{text}: {e}"));
+    let outcome = match words[..] {
+        ["check", ..] => check::run(&arguments[1..]),
+        ["vectors", folder] => vectors::write(Path::new(folder)),
+        ["coverage", folder] => coverage::print(Path::new(folder)),
+        ["beside"] => beside::run(100_000, vectors::SEED),
+        ["beside", count] => number(count).and_then(|count| beside::run(count, vectors::SEED)),
+        ["beside", count, seed] => {
+            number(count).and_then(|count| number(seed).and_then(|seed| beside::run(count, seed)))
+        }
+        ["search", name, enough, seed, count] => (|| {
+            let source = vectors::Source::Random { seed: number(seed)?, count: number(count)? };
+            vectors::search(name, source, number(enough)? as usize);
+            Ok(())
+        })(),
+        ["search", name, enough, file] => (|| {
+            let text = std::fs::read_to_string(file).map_err(|e| format!("{file}: {e}"))?;
+            vectors::search(name, vectors::Source::Text(text), number(enough)? as usize);
+            Ok(())
+        })(),
+        _ => Err(USAGE.to_string()),
+    };
+    if let Err(message) = outcome {
+        eprintln!("{message}");
+        std::process::exit(1);
+    }
+}

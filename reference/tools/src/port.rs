@@ -1,0 +1,102 @@
+//! The port by its C interface (crate exports, include/p3p.h), asked as the copies are:
+//! a function's name and words in, words out.
+
+use crate::table::word;
+
+unsafe extern "C" {
+    fn p3p_sqrt(x: f64) -> f64;
+    fn p3p_cbrt(x: f64) -> f64;
+    fn p3p_fma(a: f64, b: f64, c: f64) -> f64;
+    fn p3p_copysign(x: f64, sign: f64) -> f64;
+    fn p3p_max(a: f64, b: f64) -> f64;
+    fn p3p_total_cmp(a: f64, b: f64) -> i32;
+    fn p3p_quadratic(b: f64, c: f64, first: *mut f64, second: *mut f64) -> u32;
+    fn p3p_cubic(b: f64, c: f64, d: f64, root: *mut f64) -> u32;
+    fn p3p_solve(input: *const f64, poses: *mut f64, updates: *mut u32, count: *mut u32) -> u32;
+    fn p3p_choose(poses: *const f64, count: u32, target: *const f64, bearing: *const f64, best: *mut u32) -> u32;
+}
+
+/// What lent memory holds before a call: a refusal must leave it.
+const LENT: f64 = -1.234_567_890_123e-77;
+const LENT_WHOLE: u32 = 0xdead_beef;
+
+/// A word that no answer has, for a refusal that wrote.
+const WROTE: u64 = 0xbad0_bad0_bad0_bad0;
+
+/// The functions that the port offers.
+pub const OFFERED: &[&str] =
+    &["frame", "quadratic", "cubic", "choice", "sqrt", "cbrt", "fma", "copysign", "max", "totalorder"];
+
+pub fn answer(name: &str, input: &[u64]) -> Vec<u64> {
+    let d = |index: usize| f64::from_bits(input[index]);
+    match name {
+        "frame" => frame(&std::array::from_fn(d)),
+        "quadratic" => {
+            let (mut first, mut second) = (LENT, LENT);
+            let number = unsafe { p3p_quadratic(d(0), d(1), &mut first, &mut second) };
+            result(number, &[first, second])
+        }
+        "cubic" => {
+            let mut root = LENT;
+            let number = unsafe { p3p_cubic(d(0), d(1), d(2), &mut root) };
+            result(number, &[root])
+        }
+        "choice" => {
+            // The third word, the score, is not offered.
+            let poses: [f64; 48] = std::array::from_fn(|index| d(1 + index));
+            let target: [f64; 3] = std::array::from_fn(|index| d(49 + index));
+            let bearing: [f64; 3] = std::array::from_fn(|index| d(52 + index));
+            let (number, best) = choose(&poses, input[0].min(u32::MAX as u64) as u32, &target, &bearing);
+            vec![number as u64, best]
+        }
+        "sqrt" => vec![word(unsafe { p3p_sqrt(d(0)) })],
+        "cbrt" => vec![word(unsafe { p3p_cbrt(d(0)) })],
+        "fma" => vec![word(unsafe { p3p_fma(d(0), d(1), d(2)) })],
+        "copysign" => vec![word(unsafe { p3p_copysign(d(0), d(1)) })],
+        "max" => vec![word(unsafe { p3p_max(d(0), d(1)) })],
+        "totalorder" => vec![unsafe { p3p_total_cmp(d(0), d(1)) } as i64 as u64],
+        _ => panic!("not offered: {name}"),
+    }
+}
+
+fn result(number: u32, roots: &[f64]) -> Vec<u64> {
+    let words = roots.iter().map(|&root| match number {
+        0 => word(root),
+        _ if root.to_bits() == LENT.to_bits() => 0,
+        _ => WROTE,
+    });
+    std::iter::once(number as u64).chain(words).collect()
+}
+
+/// The number and the best, from 1.
+fn choose(poses: &[f64; 48], count: u32, target: &[f64; 3], bearing: &[f64; 3]) -> (u32, u64) {
+    let mut best = LENT_WHOLE;
+    let number =
+        unsafe { p3p_choose(poses.as_ptr(), count, target.as_ptr(), bearing.as_ptr(), &mut best) };
+    match number {
+        0 => (0, best as u64),
+        _ => (number, if best == LENT_WHOLE { 0 } else { WROTE }),
+    }
+}
+
+fn frame(input: &[f64; 24]) -> Vec<u64> {
+    let (mut poses, mut updates, mut count) = ([LENT; 48], [LENT_WHOLE; 4], LENT_WHOLE);
+    let number =
+        unsafe { p3p_solve(input.as_ptr(), poses.as_mut_ptr(), updates.as_mut_ptr(), &mut count) };
+    if number != 0 {
+        let kept = poses.iter().all(|x| x.to_bits() == LENT.to_bits())
+            && updates == [LENT_WHOLE; 4]
+            && count == LENT_WHOLE;
+        let mut words = vec![0; 55];
+        (words[0], words[1]) = (number as u64, if kept { 0 } else { WROTE });
+        return words;
+    }
+    let target: [f64; 3] = std::array::from_fn(|index| input[18 + index]);
+    let bearing: [f64; 3] = std::array::from_fn(|index| input[21 + index]);
+    let mut words = vec![0, count as u64, choose(&poses, count, &target, &bearing).1];
+    for slot in 0..4 {
+        words.push(updates[slot] as u64);
+        words.extend(poses[12 * slot..12 * slot + 12].iter().map(|&x| word(x)));
+    }
+    words
+}

@@ -1,0 +1,144 @@
+//! The functions that have vectors: their names, the words they take and give, and their
+//! answers by each copy. A word is a double's bits or a whole number; a NaN among
+//! results is 7ff8000000000000; what a refused answer does not have is zero.
+
+use crate::choice;
+
+pub struct Function {
+    pub name: &'static str,
+    pub takes: usize,
+    pub gives: usize,
+}
+
+const fn function(name: &'static str, takes: usize, gives: usize) -> Function {
+    Function { name, takes, gives }
+}
+
+pub const FUNCTIONS: &[Function] = &[
+    function("frame", 24, 55),      // -> number, count, best, 4 x (updates, 12)
+    function("quadratic", 2, 3),    // b c -> number, root, root
+    function("cubic", 3, 2),        // b c d -> number, root
+    function("fast_cbrt", 1, 1),    // x -> root
+    function("refine", 10, 4),      // depths, squared edges, cosines, limit -> updates, depths
+    function("ray_fits", 6, 1),     // camera, bearing -> 0 or 1
+    function("near", 9, 1),         // m -> 0 or 1
+    function("project", 9, 10),     // m -> 0 or 1, m
+    function("basis", 6, 10),       // edge, edge -> 0 or 1, m
+    function("edges", 15, 9),       // edge, edge, m -> m
+    function("eig", 9, 13),         // m -> 0 or 1, vectors, values
+    function("row_crosses", 10, 4), // m, value -> 0 or 1, vector
+    function("condition", 18, 1),   // world, bearings -> condition
+    function("choice", 55, 3),      // count, 4 x 12, target, bearing -> number, best, score
+    function("sqrt", 1, 1),
+    function("cbrt", 1, 1),
+    function("fma", 3, 1), // a b c -> a × b + c
+    function("copysign", 2, 1),
+    function("max", 2, 1),
+    function("clamp", 3, 1),      // x low high
+    function("totalorder", 2, 1), // -1, 0 or 1 in two's complement
+];
+
+pub fn find(name: &str) -> &'static Function {
+    FUNCTIONS.iter().find(|function| function.name == name).unwrap_or_else(|| panic!("no function {name}"))
+}
+
+/// A result's word: every NaN is one value.
+pub fn word(x: f64) -> u64 {
+    if x.is_nan() { 0x7ff8_0000_0000_0000 } else { x.to_bits() }
+}
+
+fn doubles<const N: usize>(words: &[u64]) -> [f64; N] {
+    std::array::from_fn(|index| f64::from_bits(words[index]))
+}
+
+fn found<const N: usize>(answer: Option<[f64; N]>) -> Vec<u64> {
+    let mut words = vec![answer.is_some() as u64];
+    words.extend(answer.unwrap_or([0.0; N]).map(word));
+    words
+}
+
+macro_rules! answers {
+    ($module:ident, $copy:ident, $cbrt:expr, $max:expr, $order:expr) => {
+        pub mod $module {
+            use super::*;
+
+            pub fn frame(input: &[f64; 24]) -> ($copy::Answer, u64) {
+                let answer = $copy::solve(&std::array::from_fn(|index| input[index]));
+                let (target, bearing) = (&input[18..21], &input[21..24]);
+                let best = choice::best(answer.count as u64, &answer.poses, target, bearing);
+                (answer, best.map_or(0, |(index, _)| index as u64 + 1))
+            }
+
+            pub fn answer(name: &str, input: &[u64]) -> Vec<u64> {
+                let d = |index: usize| f64::from_bits(input[index]);
+                match name {
+                    "frame" => {
+                        let (answer, best) = frame(&doubles(input));
+                        let mut words = vec![answer.refusal as u64, answer.count as u64, best];
+                        for (pose, updates) in answer.poses.iter().zip(answer.updates) {
+                            words.push(updates as u64);
+                            words.extend(pose.map(word));
+                        }
+                        words
+                    }
+                    "quadratic" => match $copy::quadratic(d(0), d(1)) {
+                        Ok(roots) => vec![0, word(roots[0]), word(roots[1])],
+                        Err(number) => vec![number as u64, 0, 0],
+                    },
+                    "cubic" => match $copy::cubic(d(0), d(1), d(2)) {
+                        Ok(root) => vec![0, word(root)],
+                        Err(number) => vec![number as u64, 0],
+                    },
+                    "fast_cbrt" => vec![word($copy::fast_cbrt(d(0)))],
+                    "refine" => {
+                        let (updates, depths) = $copy::refine(
+                            doubles(input), doubles(&input[3..]), doubles(&input[6..]), input[9] as usize,
+                        );
+                        [vec![updates as u64], depths.map(word).to_vec()].concat()
+                    }
+                    "ray_fits" => vec![$copy::ray_fits(&doubles(input), &doubles(&input[3..])) as u64],
+                    "near" => vec![$copy::near(&doubles(input)) as u64],
+                    "project" => found($copy::project(&doubles(input))),
+                    "basis" => found($copy::basis(&doubles(input), &doubles(&input[3..]))),
+                    "edges" => $copy::edges(&doubles(input), &doubles(&input[3..]), &doubles(&input[6..]))
+                        .map(word)
+                        .to_vec(),
+                    "eig" => match $copy::eig(&doubles(input)) {
+                        Some((vectors, values)) => {
+                            [vec![1], vectors.map(word).to_vec(), values.map(word).to_vec()].concat()
+                        }
+                        None => vec![0; 13],
+                    },
+                    "row_crosses" => found($copy::row_crosses(&doubles(input), d(9))),
+                    "condition" => vec![word($copy::condition(&doubles(input)))],
+                    "choice" => {
+                        let poses: [[f64; 12]; 4] = std::array::from_fn(|slot| doubles(&input[1 + 12 * slot..]));
+                        let (target, bearing): ([f64; 3], [f64; 3]) = (doubles(&input[49..]), doubles(&input[52..]));
+                        match choice::best(input[0], &poses, &target, &bearing) {
+                            Some((index, score)) => vec![0, index as u64 + 1, word(score)],
+                            None => vec![10, 0, 0],
+                        }
+                    }
+                    "sqrt" => vec![word(d(0).sqrt())],
+                    "cbrt" => vec![word($cbrt(d(0)))],
+                    "fma" => vec![word(d(0).mul_add(d(1), d(2)))],
+                    "copysign" => vec![word(d(0).copysign(d(1)))],
+                    "max" => vec![word($max(d(0), d(1)))],
+                    "clamp" => vec![word(d(0).clamp(d(1), d(2)))],
+                    "totalorder" => vec![$order(&d(0), &d(1)) as i64 as u64],
+                    _ => panic!("no function {name}"),
+                }
+            }
+        }
+    };
+}
+
+answers!(asis, copy_asis, f64::cbrt, f64::max, f64::total_cmp);
+answers!(
+    second, copy_second, copy_second::listed::Listed::listed_cbrt,
+    copy_second::listed::Listed::listed_max, copy_second::listed::Listed::listed_total_cmp
+);
+answers!(
+    counted, copy_counted, copy_counted::listed::Listed::listed_cbrt,
+    copy_counted::listed::Listed::listed_max, copy_counted::listed::Listed::listed_total_cmp
+);

@@ -1,0 +1,193 @@
+//! Makes the stored vectors: the same bytes from the same seed.
+
+use crate::coverage::Counts;
+use crate::frames::{self, Frame};
+use crate::pieces;
+use crate::random::Random;
+use crate::stored;
+use crate::table::{self, FUNCTIONS};
+use std::path::Path;
+
+pub const SEED: u64 = 0x2018_0003_0052_7754;
+
+/// Frames that random ones seldom match: document 01's cases and those found by search
+/// for a branch. A line: kind, 24 words.
+const KEPT: &str = include_str!("../../inputs/frames.txt");
+
+/// The scaled frames' exponents.
+const POWERS: [i64; 4] = [-40, -12, 12, 40];
+
+/// Inputs for each function draw from a generator of their own, so that one can grow
+/// without changing the others.
+fn random(part: u64) -> Random {
+    let mut mixed = Random::new(SEED);
+    for _ in 0..part {
+        mixed.word();
+    }
+    Random::new(mixed.word())
+}
+
+/// Inputs of other functions, found by search. A line: function, words.
+const PIECES: &str = include_str!("../../inputs/pieces.txt");
+
+fn lines(text: &'static str) -> impl Iterator<Item = (&'static str, Vec<u64>)> {
+    text.lines().filter(|line| !line.is_empty() && !line.starts_with('#')).map(|line| {
+        let mut words = line.split(' ');
+        let label = words.next().unwrap();
+        (label, words.map(|word| u64::from_str_radix(word, 16).unwrap()).collect())
+    })
+}
+
+fn kept() -> impl Iterator<Item = (String, Frame)> {
+    lines(KEPT).map(|(kind, words)| {
+        let frame: Vec<f64> = words.into_iter().map(f64::from_bits).collect();
+        (kind.to_string(), frame.try_into().expect("24 words"))
+    })
+}
+
+/// Every stored frame with its kind. The realistic kinds come first, and each of their
+/// frames is followed by its scaled ones.
+pub fn frames() -> Vec<(String, Frame)> {
+    let mut list = Vec::new();
+    for (index, &(kind, count, make)) in frames::KINDS.iter().enumerate() {
+        let mut r = random(100 + index as u64);
+        for _ in 0..count {
+            let frame = make(&mut r);
+            list.push((kind.to_string(), frame));
+            if index < 4 {
+                list.extend(POWERS.map(|k| (format!("{kind}, scaled"), frames::scaled(&frame, k))));
+            }
+        }
+    }
+    list.extend(kept());
+    list
+}
+
+/// Every stored input of a function.
+fn inputs(name: &str) -> Vec<Vec<u64>> {
+    if name == "frame" {
+        return frames().iter().map(|(_, frame)| frame.map(f64::to_bits).to_vec()).collect();
+    }
+    let index = FUNCTIONS.iter().position(|function| function.name == name).unwrap();
+    let mut list = pieces::inputs(name, &mut random(index as u64));
+    list.extend(lines(PIECES).filter(|(label, _)| *label == name).map(|(_, words)| words));
+    list
+}
+
+pub fn write(folder: &Path) -> Result<(), String> {
+    std::fs::create_dir_all(folder).map_err(|e| format!("{}: {e}", folder.display()))?;
+    println!("seed {SEED:016x}");
+    let mut total = 0;
+    for function in FUNCTIONS {
+        let records: Vec<Vec<u64>> = inputs(function.name)
+            .into_iter()
+            .map(|input| {
+                let answer = table::second::answer(function.name, &input);
+                assert_eq!((input.len(), answer.len()), (function.takes, function.gives), "{}", function.name);
+                [input, answer].concat()
+            })
+            .collect();
+        let size = stored::write(folder, function, &records)?;
+        let differ = records
+            .iter()
+            .filter(|record| table::asis::answer(function.name, &record[..function.takes]) != record[function.takes..])
+            .count();
+        println!(
+            "{}.bin: {} records, {size} bytes; the unchanged copy differs on {differ}{}",
+            function.name, records.len(), summary(function.name, &records)
+        );
+        total += size;
+    }
+    println!("{total} bytes in all");
+    kinds();
+    Ok(())
+}
+
+/// What the answers are, in a few words.
+fn summary(name: &str, records: &[Vec<u64>]) -> String {
+    let takes = table::find(name).takes;
+    let tally = |at: usize| {
+        let mut counts = std::collections::BTreeMap::<u64, usize>::new();
+        for record in records {
+            *counts.entry(record[takes + at]).or_default() += 1;
+        }
+        counts.iter().map(|(value, count)| format!("{value}: {count}")).collect::<Vec<_>>().join(", ")
+    };
+    match name {
+        "frame" => {
+            let mut updates = [0; 6];
+            for record in records {
+                for slot in 0..record[takes + 1] as usize {
+                    updates[record[takes + 3 + 13 * slot] as usize] += 1;
+                }
+            }
+            let updates: Vec<String> =
+                updates.iter().enumerate().map(|(value, count)| format!("{value}: {count}")).collect();
+            format!("; refusals {}; poses {}; best {}; updates {}", tally(0), tally(1), tally(2), updates.join(", "))
+        }
+        "quadratic" | "cubic" => format!("; numbers {}", tally(0)),
+        "refine" => format!("; updates {}", tally(0)),
+        "choice" => format!("; numbers {}; best {}", tally(0), tally(1)),
+        "ray_fits" | "near" | "project" | "basis" | "eig" | "row_crosses" => format!("; answers {}", tally(0)),
+        _ => String::new(),
+    }
+}
+
+/// Kinds of frames, with the answers of each.
+fn kinds() {
+    let mut rows: Vec<(String, [usize; 9])> = Vec::new();
+    for (kind, frame) in frames() {
+        let (answer, _) = table::second::frame(&frame);
+        if rows.iter().all(|(name, _)| *name != kind) {
+            rows.push((kind.clone(), [0; 9]));
+        }
+        let row = &mut rows.iter_mut().find(|(name, _)| *name == kind).unwrap().1;
+        row[0] += 1;
+        row[if answer.count == 0 { answer.refusal as usize } else { 3 + answer.count }] += 1;
+        row[8] += answer.updates.iter().any(|&updates| updates > 0) as usize;
+    }
+    println!("\n| kind | frames | refused 1 | 2 | 3 | 1 pose | 2 | 3 | 4 | with updates |");
+    println!("|---|---:|---:|---:|---:|---:|---:|---:|---:|---:|");
+    for (kind, row) in rows {
+        println!("| {kind} | {} |", row.map(|count| count.to_string()).join(" | "));
+    }
+}
+
+/// Inputs that reach an outcome which fewer than `enough` stored vectors of that function
+/// reach: random ones, or those of a file. Lines for inputs/.
+pub fn search(name: &str, source: Source, enough: usize) {
+    let mut counts = Counts::default();
+    for input in inputs(name) {
+        counts.run(name, &input);
+    }
+    let mut consider = |label: &str, input: Vec<u64>| {
+        let reached = Counts::default().run(name, &input);
+        if reached.iter().any(|(label, outcome)| counts.of(label, *outcome) < enough) {
+            counts.run(name, &input);
+            println!("{label} {}", input.iter().map(|word| format!("{word:016x}")).collect::<Vec<_>>().join(" "));
+        }
+    };
+    match source {
+        Source::Random { seed, count } => {
+            let mut r = Random::new(seed);
+            for _ in 0..count {
+                if name == "frame" {
+                    let (kind, _, make) = r.pick(frames::KINDS);
+                    consider(&format!("found-{kind}"), make(&mut r).map(f64::to_bits).to_vec());
+                } else {
+                    consider(name, pieces::random(name, &mut r));
+                }
+            }
+        }
+        Source::Text(text) => {
+            for (label, input) in crate::check::inputs(&text, name) {
+                consider(&label, input);
+            }
+        }
+    }
+}
+
+pub enum Source {
+    Random { seed: u64, count: u64 },
+    Text(String),
+}
