@@ -195,3 +195,9 @@ module _ {A : Type 0} {R : A → A → Type 0} where
 -- a computation whose inputs are equal in the two runs
 pub alike : {A : Type 0} {m : Traced A} → Both _≡_ m m
 alike = record { results = λ r r'. refl }
+
+-- results that are equal in the two runs: what follows them needs to be shown of one value
+module _ {A B : Type 0} {S : B → B → Type 0} where
+  infixl 50 _>>≡_
+  pub _>>≡_ : {m m' : Traced A} {f f' : A → Traced B} → Both _≡_ m m' → ((x : A) → Both S (f x) (f' x)) → Both S (traced._>>=_ m f) (traced._>>=_ m' f')
+  _>>≡_ {f = f} {f' = f'} h g = h >>= λ x x' e. subst (λ (y : A). Both S (f x) (f' y)) e (g x)
