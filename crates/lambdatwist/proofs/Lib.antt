@@ -10,3 +10,6 @@ pub mod ChartScaling
 pub mod PoseScaling
 pub mod PermutationScaling
 pub mod SolveScaling
+pub mod TimesPower
+pub mod FiniteTranslation
+pub mod ScalingRule

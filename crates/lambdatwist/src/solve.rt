@@ -3,8 +3,8 @@
 ghost use mathlib.Core.Path.{_≡_};
 ghost use Rattle.lambdatwist.specs.Solve as Solve;
 use crate::angles::Factors;
-use crate::angles::cosines;
 use crate::angles::bearing_factors;
+use crate::angles::cosines;
 use crate::angles::squared_sines;
 use crate::candidates::Candidates;
 use crate::cubic::Coefficients;
