@@ -1,5 +1,5 @@
 -- Worked examples of the definitions, by the bit patterns of operands and result, and computed. The patterns are those of exact whole-number arithmetic. Assumes nothing.
-use mathlib.Core.Bool.{Bool, true, _&&_}
+use mathlib.Core.Bool.{Bool, true, false, _&&_, Bool·beq}
 use mathlib.Core.List.{List, [], _∷_}
 use Prim.Native.Nat.{ℕ}
 use lib.Dec.{T, eqb}
@@ -7,6 +7,7 @@ use lib.Ieee.{Float, binary64, toBits, ofBits, sum, add, mul}
 use Rattle.ieee754.specs.Literal.{num}
 use Rattle.ieee754.specs.Root.{sqrt, cbrt}
 use Rattle.ieee754.specs.Fma.{fma}
+use Rattle.ieee754.specs.Traced.{inRange, addRegular, mulRegular, divRegular}
 
 -- f gives at each row's first pattern its second
 unfoldable pub gives : (Float → Float) → List (ℕ × ℕ) → Bool
@@ -58,3 +59,32 @@ pub fma-examples : T (fmaGives (
     ∷ (0x7ff0_0000_0000_0000, 0x3ff0_0000_0000_0000, 0xfff0_0000_0000_0000, 0x7ff8_0000_0000_0000) ∷ (0x3ff0_0000_0000_0000, 0x7ff8_0000_0000_0000, 0x3ff0_0000_0000_0000, 0x7ff8_0000_0000_0000) ∷ []))
 unfolding fmaGives fma add mul sum toBits ofBits
 fma-examples = tt
+
+-- ---- the scaling rule's premise at its ends: whether the test says of each row's operands what stands beside them
+unfoldable pub says : (Float → Float → Bool) → List (ℕ × ℕ × Bool) → Bool
+says f [] = true
+says f (p ∷ ps) = Bool·beq (f (num (p .0)) (num (p .1))) (p .2) && says f ps
+
+-- The largest double is 2^1024 - 2^971. With 2^970 added it reaches 2^1024 - 2^970, with the double below that it does not. 2^-1022 + 2^-1074 - 2^-1022 is too small, 1 - 1 is zero.
+-- An infinity or a NaN leaves no exact result.
+pub add-premise : T (says addRegular (
+    (0x7fef_ffff_ffff_ffff, 0x7c90_0000_0000_0000, false) ∷ (0x7fef_ffff_ffff_ffff, 0x7c8f_ffff_ffff_ffff, true) ∷ (0xffef_ffff_ffff_ffff, 0xfc90_0000_0000_0000, false)
+    ∷ (0x0010_0000_0000_0001, 0x8010_0000_0000_0000, false) ∷ (0x3ff0_0000_0000_0000, 0xbff0_0000_0000_0000, true)
+    ∷ (0x7ff0_0000_0000_0000, 0xfff0_0000_0000_0000, true) ∷ (0x7ff8_0000_0000_0000, 0x0000_0000_0000_0001, true) ∷ []))
+unfolding says addRegular inRange ofBits
+add-premise = tt
+
+-- 2^-1022 * 1, and that times the double below 1; 2^512 * 2^512; a zero is no nonzero result, however small the other factor
+pub mul-premise : T (says mulRegular (
+    (0x0010_0000_0000_0000, 0x3ff0_0000_0000_0000, true) ∷ (0x0010_0000_0000_0000, 0x3fef_ffff_ffff_ffff, false) ∷ (0x5ff0_0000_0000_0000, 0x5ff0_0000_0000_0000, false)
+    ∷ (0x0000_0000_0000_0000, 0x0000_0000_0000_0001, true) ∷ (0x0000_0000_0000_0000, 0x7ff0_0000_0000_0000, true) ∷ []))
+unfolding says mulRegular inRange ofBits
+mul-premise = tt
+
+-- a divisor that is a zero of either sign, under 1, 0, an infinity and a NaN; 0 / 1, 1 / ∞, 2^-1022 / 2, 2^1023 / (1 / 2)
+pub div-premise : T (says divRegular (
+    (0x3ff0_0000_0000_0000, 0x0000_0000_0000_0000, false) ∷ (0x0000_0000_0000_0000, 0x8000_0000_0000_0000, false) ∷ (0x7ff0_0000_0000_0000, 0x8000_0000_0000_0000, false) ∷ (0x7ff8_0000_0000_0000, 0x0000_0000_0000_0000, false)
+    ∷ (0x0000_0000_0000_0000, 0x3ff0_0000_0000_0000, true) ∷ (0x3ff0_0000_0000_0000, 0x7ff0_0000_0000_0000, true)
+    ∷ (0x0010_0000_0000_0000, 0x4000_0000_0000_0000, false) ∷ (0x7fe0_0000_0000_0000, 0x3fe0_0000_0000_0000, false) ∷ []))
+unfolding says divRegular inRange ofBits
+div-premise = tt

@@ -109,13 +109,13 @@ odd-part zero (suc j) m o M O h = absurd (even m (o * 2 ^ j) M (h ∙ suc-power 
 odd-part (suc i) zero m o M O h = absurd (even o (m * 2 ^ i) O (sym h ∙ suc-power m i))
 odd-part (suc i) (suc j) m o M O h = odd-part i j m o M O (eq-of-mul-eq-mul-right 2 (zero-lt-suc 1) (m * 2 ^ i) (o * 2 ^ j) (sym (suc-power m i) ∙ h ∙ suc-power o j))
 
-left : (m a b c i : ℕ) → 2 ^ i ≡ a * (b * c) → m * 2 ^ i ≡ a * (m * b * c)
-left m a b c i h = ap (λ (x : ℕ). m * x) h ∙ mul-left-comm m a (b * c) ∙ ap (λ (x : ℕ). a * x) (sym (mul-assoc m b c))
+regroup : (m a b c i : ℕ) → 2 ^ i ≡ a * (b * c) → m * 2 ^ i ≡ a * (m * b * c)
+regroup m a b c i h = ap (λ (x : ℕ). m * x) h ∙ mul-left-comm m a (b * c) ∙ ap (λ (x : ℕ). a * x) (sym (mul-assoc m b c))
 
 -- the two sides of the test for a tie, as an odd number each times a power of two
 tie-parts : (p m : ℕ) (e : ℤ) (o k : ℕ) → 2 ^ p * (m * up e * 2 ^ (p * 1074)) ≡ o * (down e * 2 ^ (p * k)) → (i : ℕ) × (j : ℕ) × (m * 2 ^ i ≡ o * 2 ^ j)
-tie-parts p m (pos x) o k h = (p + (x + p * 1074), p * k, left m (2 ^ p) (2 ^ x) (2 ^ (p * 1074)) (p + (x + p * 1074)) (simp (pow-add, mul-assoc)) ∙ h ∙ ap (λ (y : ℕ). o * y) (one-mul (2 ^ (p * k))))
-tie-parts p m (negsuc x) o k h = (p + p * 1074, suc x + p * k, left m (2 ^ p) 1 (2 ^ (p * 1074)) (p + p * 1074) (pow-add 2 p (p * 1074) ∙ ap (λ (y : ℕ). 2 ^ p * y) (sym (one-mul (2 ^ (p * 1074))))) ∙ h ∙ ap (λ (y : ℕ). o * y) (sym (pow-add 2 (suc x) (p * k))))
+tie-parts p m (pos x) o k h = (p + (x + p * 1074), p * k, regroup m (2 ^ p) (2 ^ x) (2 ^ (p * 1074)) (p + (x + p * 1074)) (simp (pow-add, mul-assoc)) ∙ h ∙ ap (λ (y : ℕ). o * y) (one-mul (2 ^ (p * k))))
+tie-parts p m (negsuc x) o k h = (p + p * 1074, suc x + p * k, regroup m (2 ^ p) 1 (2 ^ (p * 1074)) (p + p * 1074) (pow-add 2 p (p * 1074) ∙ ap (λ (y : ℕ). 2 ^ p * y) (sym (one-mul (2 ^ (p * 1074))))) ∙ h ∙ ap (λ (y : ℕ). o * y) (sym (pow-add 2 (suc x) (p * k))))
 
 le-power : (p x : ℕ) → 0 < p → 0 < x → x ≤ x ^ p
 le-power zero x P X = absurd (lt-irrefl 0 P)
