@@ -13,6 +13,7 @@ use lib.Count.{trailingZeros}
 use lib.Ieee.{Float, nan, inf, fin, Format, binary64, prec, low, up, down, minus, nearest, odd, units, round}
 use lib.Ieee.Digits.{odd-val}
 use lib.Ieee.Fits.{down-pos}
+use lib.Ieee.Exact.{HasValue}
 use lib.Ieee.Nearest.{div-same}
 use lib.Ieee.Bits.{is-true}
 use Rattle.ieee754.specs.Root.{root, roundRoot}
@@ -22,7 +23,7 @@ use Rattle.ieee754.proofs.RootLaws.{mul-pow, pow-mul, pow-back, Drops, 
 use Rattle.ieee754.proofs.Nearest.{compare-same, compared}
 use Rattle.ieee754.proofs.RootValues.{roundRoot-same, roundRoot-one}
 use Rattle.ieee754.proofs.Sums.{sub-mul}
-use Rattle.ieee754.proofs.Powers.{Ratio, minus-add, ℤ-once, up-negative, down-negative}
+use Rattle.ieee754.proofs.Powers.{Ratio, moved-ratio, minus-add, ℤ-once, up-negative, down-negative}
 
 -- ---- the root of a normal fraction is not rounded up to 2 ^ 1024
 
@@ -157,7 +158,18 @@ module _ (p : ℕ) (P : 0 < p) (s : Bool) where
       ∙ odd-scale 54 s (keep p a c) k 1074 t
       ∙ sym (ap (λ (x : Float). scale (pos t) x) (roundRoot-odd a c C N))
 
--- ---- `scale` adds up, and undoes itself
+-- ---- `scale t` is a multiplication by 2 ^ t, which is the fraction up t / down t. It adds up, and undoes itself.
+pub scale-value : (t : ℤ) (x : Float) (s : Bool) (a c : ℕ) → HasValue x s a c → HasValue (scale t x) s (a * up t) (c * down t)
+unfolding scale
+scale-value t nan s a c v = v
+scale-value t (inf b) s a c v = v
+scale-value t (fin b m e) s a c v =
+    let e' = moved t m e in
+    (v .0, eq-of-mul-eq-mul-right (down e) (down-pos e) (m * up e' * (c * down t)) (a * up t * down e') (through (m * up e') (m * up e) (down e) (down e') (up t) (down t) a c (v .1) (moved-ratio t m e .cross)))
+  where
+    through : (x y d d' u w a c : ℕ) → y * c ≡ a * d → x * (d * w) ≡ y * (d' * u) → x * (c * w) * d ≡ a * u * d' * d
+    through x y d d' u w a c h k = omega (arith, ap (λ (z : ℕ). c * z) k, ap (λ (z : ℕ). z * (d' * u)) h)
+
 pub scale-scale : (t u : ℤ) (x : Float) → scale t (scale u x) ≡ scale (u +ℤ t) x
 unfolding scale
 scale-scale t u nan = refl
