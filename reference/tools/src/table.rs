@@ -92,7 +92,10 @@ macro_rules! answers {
                     "fast_cbrt" => vec![word($copy::fast_cbrt(d(0)))],
                     "refine" => {
                         let (updates, depths) = $copy::refine(
-                            doubles(input), doubles(&input[3..]), doubles(&input[6..]), input[9] as usize,
+                            doubles(input),
+                            doubles(&input[3..]),
+                            doubles(&input[6..]),
+                            input[9] as usize,
                         );
                         [vec![updates as u64], depths.map(word).to_vec()].concat()
                     }
@@ -100,9 +103,9 @@ macro_rules! answers {
                     "near" => vec![$copy::near(&doubles(input)) as u64],
                     "project" => found($copy::project(&doubles(input))),
                     "basis" => found($copy::basis(&doubles(input), &doubles(&input[3..]))),
-                    "edges" => $copy::edges(&doubles(input), &doubles(&input[3..]), &doubles(&input[6..]))
-                        .map(word)
-                        .to_vec(),
+                    "edges" => {
+                        $copy::edges(&doubles(input), &doubles(&input[3..]), &doubles(&input[6..])).map(word).to_vec()
+                    }
                     "eig" => match $copy::eig(&doubles(input)) {
                         Some((vectors, values)) => {
                             [vec![1], vectors.map(word).to_vec(), values.map(word).to_vec()].concat()
@@ -141,10 +144,18 @@ fn plus_if_nan(x: f64) -> f64 {
 
 answers!(asis, copy_asis, f64::cbrt, f64::max, f64::total_cmp, f64::from);
 answers!(
-    second, copy_second, copy_second::listed::Listed::listed_cbrt,
-    copy_second::listed::Listed::listed_max, copy_second::listed::Listed::listed_total_cmp, plus_if_nan
+    second,
+    copy_second,
+    copy_second::listed::Listed::listed_cbrt,
+    copy_second::listed::Listed::listed_max,
+    copy_second::listed::Listed::listed_total_cmp,
+    plus_if_nan
 );
 answers!(
-    counted, copy_counted, copy_counted::listed::Listed::listed_cbrt,
-    copy_counted::listed::Listed::listed_max, copy_counted::listed::Listed::listed_total_cmp, plus_if_nan
+    counted,
+    copy_counted,
+    copy_counted::listed::Listed::listed_cbrt,
+    copy_counted::listed::Listed::listed_max,
+    copy_counted::listed::Listed::listed_total_cmp,
+    plus_if_nan
 );

@@ -94,7 +94,9 @@ pub fn write(folder: &Path) -> Result<(), String> {
             .count();
         println!(
             "{}.bin: {} records, {size} bytes; the unchanged copy differs on {differ}{}",
-            function.name, records.len(), summary(function.name, &records)
+            function.name,
+            records.len(),
+            summary(function.name, &records)
         );
         total += size;
     }
