@@ -11,3 +11,4 @@ pub mod Gate
 pub mod Slots
 pub mod PushPose
 pub mod PoseScaling
+pub mod Cases
