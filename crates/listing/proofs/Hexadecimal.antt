@@ -14,7 +14,6 @@ unfolding hexadecimal
 length-hexadecimal zero n = refl
 length-hexadecimal (suc k) n = simp (length-append, length-hexadecimal k (n / 16)) (omega arith)
 
-
 -- Of the digits `all`, those from place i on have been put in place, and the ones before are r's.
 pub record Left (l : List ℕ) (at : ℕ) (all : List ℕ) (i r : ℕ) (out : List ℕ) : Type 0 where
   pub before : all ≡ hexadecimal i r ++ drop i all

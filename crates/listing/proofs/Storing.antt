@@ -9,7 +9,6 @@ use lib.ListN.{length, getD, take, set, length-append}
 use lib.Seq.{sets, set-comm, take-suc, length-take-le}
 use Rattle.listing.specs.Bytes.{ascii, Stored}
 
-
 pub sets-append : (xs ys : List ℕ) (l : List ℕ) (at : ℕ) → sets (sets l at xs) (at + length xs) ys ≡ sets l at (xs ++ ys)
 sets-append [] ys l at = rw add-zero
 sets-append (x ∷ xs) ys l at = rw (add-suc at (length xs), ← suc-add at (length xs)) (sets-append xs ys (set l at x) (suc at))

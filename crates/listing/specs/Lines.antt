@@ -19,6 +19,10 @@ wordOf x = ascii " " ++ hexadecimal 16 (toBits binary64 x)
 unfoldable pub wordsOf : Vector3 → List ℕ
 wordsOf v = wordOf (v .x) ++ wordOf (v .y) ++ wordOf (v .z)
 
+-- the rotation by columns, the translation
+unfoldable pub poseWords : Pose → List ℕ
+poseWords p = wordsOf (column0 (p .rotation)) ++ wordsOf (column1 (p .rotation)) ++ wordsOf (column2 (p .rotation)) ++ wordsOf (p .translation)
+
 -- poses v1
 unfoldable pub headerLine : List ℕ
 headerLine = ascii "poses v1\n"
@@ -31,11 +35,9 @@ refusedLine n r = decimal n ++ ascii " refused " ++ decimal r ++ ascii "\n"
 unfoldable pub acceptedLine : ℕ → ℕ → ℕ → List ℕ
 acceptedLine n k j = decimal n ++ ascii " poses " ++ decimal k ++ ascii " best " ++ decimal j ++ ascii "\n"
 
--- N.J updates U, and twelve words: the rotation by columns, the translation
+-- N.J updates U, and the twelve words
 unfoldable pub poseLine : ℕ → ℕ → ℕ → Pose → List ℕ
-poseLine n j u p =
-    decimal n ++ ascii "." ++ decimal j ++ ascii " updates " ++ decimal u
-    ++ wordsOf (column0 (p .rotation)) ++ wordsOf (column1 (p .rotation)) ++ wordsOf (column2 (p .rotation)) ++ wordsOf (p .translation) ++ ascii "\n"
+poseLine n j u p = decimal n ++ ascii "." ++ decimal j ++ ascii " updates " ++ decimal u ++ poseWords p ++ ascii "\n"
 
 -- stop R at N
 unfoldable pub stopLine : ℕ → ℕ → List ℕ

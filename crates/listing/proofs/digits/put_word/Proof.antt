@@ -42,11 +42,10 @@ loop-less c = omega arith
 loop-again : tie.Need-loop-again Inv-loop μ-loop
 loop-again c =
     let l = c .before .before .loop in
-    let a = c .before .before .before .before .args in
-    (
+    let a = c .before .before .before .before .args in (
       omega arith,
       subst (λ (g : ℕ). Left (a .out .now) (a .at) (hexadecimal 16 (a .word)) (l .i - 1) (l .rest / 16) (set (l .out) (a .at + (l .i - 1)) g)) (sym (c .glyph .ensures))
-        (turn (a .out .now) (a .at) (hexadecimal 16 (a .word)) (l .i) (l .rest) (l .out) (c .before .loop-test .taken) (l .inv .1)),
+          (turn (a .out .now) (a .at) (hexadecimal 16 (a .word)) (l .i) (l .rest) (l .out) (c .before .loop-test .taken) (l .inv .1)),
       simp length-set (l .inv .2),
     )
 
@@ -59,8 +58,7 @@ same-length c = c .before .loop .inv .2
 returns : tie.Need-returns Inv-loop μ-loop
 returns c =
     let l = c .before .loop in
-    let a = c .before .before .before .args in
-    (
+    let a = c .before .before .before .args in (
       record {
         next-at = ap (λ (k : ℕ). a .at + k) (sym (length-hexadecimal 16 (a .word)));
         holds = finish (a .out .now) (a .at) (hexadecimal 16 (a .word)) (l .i) (l .rest) (l .out) (c .loop-test .left) (l .inv .1);

@@ -40,8 +40,7 @@ loop-less c = omega arith
 loop-again : tie.Need-loop-again Inv-loop μ-loop
 loop-again c =
     let l = c .before .before .loop in
-    let a = c .before .before .before .args in
-    (
+    let a = c .before .before .before .args in (
       omega arith,
       ap (λ (x : List ℕ). set x (a .at + l .i) (getD (a .text .now) (l .i) 0)) (l .inv .1) ∙ sets-next (a .out .now) (a .at) (a .text .now) (l .i) (omega arith),
       simp length-set (l .inv .2),

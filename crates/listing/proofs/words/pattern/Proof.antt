@@ -1,10 +1,10 @@
--- `listing::double::pattern` meets its contract. Assumes nothing.
+-- `listing::words::pattern` meets its contract. Assumes nothing.
 use mathlib.Core.Path.{_≡_, refl, sym, ap, _∙_}
 use lib.Ieee.{nan, binary64, toBits}
 use borrow.Author.Needs.{needs}
 use Rattle.ieee754.proofs.Reading.{nan-of, not-nan}
-use Rattle.listing.proofs.double.pattern.Statement.{statement}
-use Rattle.listing.proofs.double.pattern.Tie as tie
+use Rattle.listing.proofs.words.pattern.Statement.{statement}
+use Rattle.listing.proofs.words.pattern.Tie as tie
 
 nan-bits : 0x7ff8_0000_0000_0000 ≡ toBits binary64 nan
 unfolding toBits
