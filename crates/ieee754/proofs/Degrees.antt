@@ -2,9 +2,9 @@
 -- A degree that is a literal computes, `pos 2 +ℤ pos 2` to `pos 4` and `pos 1 -ℤ pos 4` to `negsuc 2`, so no arithmetic shows. Where a degree is a variable, `degree` takes the equation that a literal would compute.
 -- An answer that is an enum or a struct has a relation of its own; the body of a `>>=` takes that relation's proof apart, and the formula's `match` computes with it. Assumes nothing.
 use mathlib.Core.Path.{_≡_, refl, sym, ap, ap₂, _∙_, subst, subst₂, subst₃}
-use mathlib.Core.Bool.{Bool, true, false, not, _&&_, true≢false, false≢true}
+use mathlib.Core.Bool.{Bool, true, false, _&&_, true≢false, false≢true}
 use lib.IntN.{ℤ, pos, _+ℤ_, _-ℤ_, _*ℤ_, zero-*ℤ}
-use lib.Dec.{T, T-not}
+use lib.Dec.{T}
 use lib.Ieee.{Float, binary64, neg, add, sub, mul, div, lt, eq, le, ne, isNan, ofBits}
 use lib.Ieee.Fits.{and-l, and-r}
 use lib.Ieee.Scale.{finite}

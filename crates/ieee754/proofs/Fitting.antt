@@ -1,13 +1,13 @@
 -- Every result of the crate's operations is a double: `sqrt-fits`, `cbrt-fits`, `fma-fits`, `abs-fits`, `copysign-fits`, `max-fits`, `clamp-fits`. Where an argument can come back as it is, it has to be one.
 -- And a double is written in one way, so that two with the same sign and size are equal (`fits-unique`). Assumes nothing.
-use mathlib.Core.Path.{_≡_, refl, sym, ap, ap₂, _∙_, subst}
+use mathlib.Core.Path.{_≡_, sym, ap, _∙_, subst}
 use Prim.Native.Nat.{ℕ, zero, suc, _+_, _-_, _*_, _/_, _%_, _^_, _≤_, _<_, compare}
 use native.Mathlib.Nat.{le-trans, le-of-eq, le-refl, lt-of-lt-of-le, lt-of-le-of-lt, zero-lt-suc, mul-right-comm}
 use mathlib.Core.Bool.{Bool, true, false, cond, _&&_, Bool·beq}
-use lib.IntN.{ℤ, pos}
+use lib.IntN.{ℤ}
 use lib.Dec.{T, leb, ltb, eqb, leb→le, ltb→lt, eqb→eq}
 use lib.Pow.{pow-lt}
-use lib.Ieee.{Float, nan, inf, fin, Format, binary64, prec, emax, low, top, hid, up, down, size, nearest, odd, units, round, sum, add, mul, lt, isNan, fits, toBits}
+use lib.Ieee.{Float, nan, inf, fin, Format, binary64, prec, emax, low, top, hid, up, down, size, nearest, odd, units, round, sum, mul, lt, isNan, fits, toBits}
 use lib.Ieee.Fits.{down-pos, and-l, and-r, odd-fits, nearest-le, round-fits, cond-fits, nan-fits, inf-fits, add-fits}
 use lib.Ieee.Nearest.{div-same}
 use lib.Ieee.Bits.{ofBits-toBits}

@@ -2,9 +2,9 @@
 -- and so it is with plus zero where the exact product is not zero (`fma-plus-zero`). Assumes nothing.
 use mathlib.Core.Path.{_≡_, refl, sym, ap, ap₂, _∙_}
 use mathlib.Core.Logic.{_⊎_, inl, inr}
-use Prim.Native.Nat.{ℕ, zero, suc, _+_, _-_, _*_, _<_, zero-le}
+use Prim.Native.Nat.{ℕ, zero, suc, _-_, _*_, _<_, zero-le}
 use native.Mathlib.Nat.{add-zero, sub-zero, mul-one, zero-mul, mul-pos, zero-lt-suc}
-use mathlib.Core.Bool.{Bool, true, false, cond, _&&_, Bool·beq, true≢false, false≢true}
+use mathlib.Core.Bool.{Bool, true, false, cond, true≢false, false≢true}
 use lib.IntN.{ℤ, pos}
 use lib.Dec.{ltb, eqb}
 use lib.Ieee.{Float, nan, inf, fin, binary64, up, down, unlike, round, sum, level, add, mul, eq, ofBits}

@@ -2,10 +2,10 @@
 -- has minus zero below plus zero (`order-zeros`) and NaN above every number (`order-nan`, `order-from-nan`). Assumes nothing.
 use mathlib.Core.Path.{_≡_, refl, sym, ap, ap₂, _∙_, subst}
 use Prim.Native.Nat.{ℕ, zero, suc, _+_, _*_, _≤_, _<_, compare, Ordering, Ordering·lt, Ordering·eq, Ordering·gt}
-use native.Mathlib.Nat.{le-of-eq, le-of-lt, le-refl, le-antisymm, zero-lt-suc}
+use native.Mathlib.Nat.{le-of-eq, le-of-lt, le-antisymm}
 use native.Mathlib.Omega.{arith}
-use mathlib.Core.Bool.{Bool, true, false, not, cond, _&&_, _||_, true≢false, false≢true}
-use mathlib.Core.Logic.{_⊎_, inl, inr, ⊎-elim}
+use mathlib.Core.Bool.{Bool, true, false, not, cond, _&&_, _||_}
+use mathlib.Core.Logic.{⊎-elim}
 use lib.IntN.{ℤ}
 use lib.Dec.{T, isLe, isEq, leb, ltb, eqb, leb→le, le→leb, ltb→lt}
 use lib.Arith.{lt→nleb}
@@ -15,9 +15,7 @@ use lib.Ieee.Bits.{is-true, is-false}
 use lib.Ieee.Positive.{through}
 use borrow.Author.Tests.{lt-ltb, le-ltb}
 use Rattle.ieee754.specs.Literal.{num}
-use Rattle.ieee754.specs.CopySign.{negative}
 use Rattle.ieee754.specs.TotalOrder.{totalOrder, totalCmp}
-use Rattle.ieee754.specs.declared.total_cmp.Order.{Order}
 use Rattle.ieee754.specs.declared.total_cmp.Order.the-variants.{Less, Equal, Greater}
 use Rattle.ieee754.proofs.Order.{lt-or-ge, or-left, or-right}
 use Rattle.ieee754.proofs.RootLaws.{Compared, compared}

@@ -1,13 +1,13 @@
 -- The root of a double is the nearest double, and no two are equally near: `sqrt-nearest`, `cbrt-nearest`. Numbers of smallest values 2 ^ -1074 stand for the doubles, and powers for the roots, so that
 -- all is said of whole numbers. Assumes nothing.
-use mathlib.Core.Path.{_≡_, refl, sym, ap, _∙_, subst}
-use mathlib.Core.Logic.{_⊎_, inl, inr, ⊎-elim}
-use Prim.Native.Nat.{ℕ, zero, suc, _+_, _-_, _*_, _/_, _%_, _^_, _≤_, _<_, compare, Ordering, Ordering·lt, Ordering·eq, Ordering·gt}
-use native.Mathlib.Nat.{le-trans, le-of-eq, le-of-lt, lt-of-lt-of-le, lt-of-le-of-lt, lt-of-not-le, not-le-of-lt, zero-lt-suc, mul-one, mul-assoc, mul-comm, mul-left-comm, mul-pos, mul-le-mul-right, mul-lt-mul-of-pos-right, lt-irrefl, one-le-pow, lt-of-mul-lt-mul-right, eq-of-mul-eq-mul-right, pow-suc, pow-zero, pow-le-pow-left, pow-lt-pow-left, one-mul, zero-mul}
+use mathlib.Core.Path.{_≡_, sym, ap, _∙_, subst}
+use mathlib.Core.Logic.{⊎-elim}
+use Prim.Native.Nat.{ℕ, zero, suc, _+_, _-_, _*_, _%_, _^_, _≤_, _<_, compare, Ordering, Ordering·lt, Ordering·eq, Ordering·gt}
+use native.Mathlib.Nat.{le-trans, le-of-eq, le-of-lt, lt-of-lt-of-le, lt-of-le-of-lt, not-le-of-lt, zero-lt-suc, mul-one, mul-assoc, mul-left-comm, mul-pos, mul-le-mul-right, mul-lt-mul-of-pos-right, lt-irrefl, one-le-pow, lt-of-mul-lt-mul-right, eq-of-mul-eq-mul-right, pow-suc, pow-le-pow-left, pow-lt-pow-left, one-mul}
 use native.Mathlib.Omega.{arith}
 use mathlib.Core.Bool.{Bool, true, false}
 use lib.IntN.{ℤ, pos, negsuc}
-use lib.Dec.{T, ltb→lt}
+use lib.Dec.{T}
 use lib.Pow.{pow-add, pow-pos, pow-mono, pow-lt}
 use lib.Ieee.{Float, nan, inf, fin, binary64, up, down, nearest, odd, fits}
 use lib.Ieee.Fits.{up-pos, down-pos}
@@ -15,14 +15,14 @@ use lib.Ieee.Exact.{HasValue, odd-sign}
 use lib.Ieee.Positive.{num, den, positive}
 use Rattle.ieee754.specs.Magnitude.{abs}
 use Rattle.ieee754.specs.CopySign.{negative}
-use Rattle.ieee754.specs.Root.{root, roundRoot, sqrt, cbrt}
+use Rattle.ieee754.specs.Root.{roundRoot, sqrt, cbrt}
 use Rattle.ieee754.specs.Traced.{inRange, sqrtRegular, cbrtRegular}
 use Rattle.ieee754.proofs.Order.{lt-or-ge}
 use Rattle.ieee754.proofs.Exponent.{odd-pow}
 use Rattle.ieee754.proofs.RootLaws.{Compared, compared, dropped-drops, root-whole}
 use Rattle.ieee754.proofs.RoundScale.{Normal, zero-or-normal, raised, drop, keep, roundRoot-odd}
 use Rattle.ieee754.proofs.RegularNormal.{part, whole-least}
-use Rattle.ieee754.proofs.Fitting.{Parts, fits-parts}
+use Rattle.ieee754.proofs.Fitting.{fits-parts}
 use Rattle.ieee754.proofs.RootRegular.{sqrt-regular, cbrt-regular}
 
 -- ---- what is said
@@ -114,7 +114,7 @@ regroup m a b c i h = ap (λ (x : ℕ). m * x) h ∙ mul-left-comm m a (b * c) �
 
 -- the two sides of the test for a tie, as an odd number each times a power of two
 tie-parts : (p m : ℕ) (e : ℤ) (o k : ℕ) → 2 ^ p * (m * up e * 2 ^ (p * 1074)) ≡ o * (down e * 2 ^ (p * k)) → (i : ℕ) × (j : ℕ) × (m * 2 ^ i ≡ o * 2 ^ j)
-tie-parts p m (pos x) o k h = (p + (x + p * 1074), p * k, regroup m (2 ^ p) (2 ^ x) (2 ^ (p * 1074)) (p + (x + p * 1074)) (simp (pow-add, mul-assoc)) ∙ h ∙ ap (λ (y : ℕ). o * y) (one-mul (2 ^ (p * k))))
+tie-parts p m (pos x) o k h = (p + (x + p * 1074), p * k, regroup m (2 ^ p) (2 ^ x) (2 ^ (p * 1074)) (p + (x + p * 1074)) (simp pow-add) ∙ h ∙ ap (λ (y : ℕ). o * y) (one-mul (2 ^ (p * k))))
 tie-parts p m (negsuc x) o k h = (p + p * 1074, suc x + p * k, regroup m (2 ^ p) 1 (2 ^ (p * 1074)) (p + p * 1074) (pow-add 2 p (p * 1074) ∙ ap (λ (y : ℕ). 2 ^ p * y) (sym (one-mul (2 ^ (p * 1074))))) ∙ h ∙ ap (λ (y : ℕ). o * y) (sym (pow-add 2 (suc x) (p * k))))
 
 le-power : (p x : ℕ) → 0 < p → 0 < x → x ≤ x ^ p

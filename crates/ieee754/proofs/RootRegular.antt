@@ -1,15 +1,14 @@
 -- No root of a double is irregular: `sqrt-regular`, `cbrt-regular`. The p-th root of a double lies within the range from 2 ^ -1022 up and below 2 ^ 1024 - 2 ^ 970 for each p above 1. Assumes nothing.
-use mathlib.Core.Path.{_≡_, sym}
 use Prim.Native.Nat.{ℕ, zero, suc, _-_, _*_, _^_, _≤_, _<_}
 use native.Mathlib.Nat.{le-trans, le-of-eq, lt-of-lt-of-le, zero-lt-suc, zero-mul, mul-comm, mul-pos, mul-le-mul-left, le-mul-of-pos-right}
-use mathlib.Core.Bool.{Bool, true, false, _&&_, _||_}
+use mathlib.Core.Bool.{Bool, true, false}
 use lib.IntN.{ℤ}
 use lib.Dec.{T, leb, ltb, eqb, le→leb, lt→ltb, lit≤}
 use lib.Ieee.{Float, nan, inf, fin, binary64, up, down, fits}
 use lib.Ieee.Fits.{up-pos, and-i, eq→eqb}
 use Rattle.ieee754.specs.Traced.{inRange, sqrtRegular, cbrtRegular}
 use Rattle.ieee754.proofs.Order.{or-left, or-right}
-use Rattle.ieee754.proofs.Fitting.{Parts, fits-parts}
+use Rattle.ieee754.proofs.Fitting.{fits-parts}
 
 -- the two ends of the range, and the p-th powers that they have to reach
 root-regular : (p : ℕ) → 2 ^ 1074 ≤ 2 ^ (p * 1022) → 2 ^ 1024 ≤ (2 ^ 1024 - 2 ^ 970) ^ p → (s : Bool) (m : ℕ) (e : ℤ) → T (fits binary64 (fin s m e)) → T (inRange p (m * up e) (down e))

@@ -1,6 +1,6 @@
 -- The copied sign: the result has the magnitude of one (`copysign-abs`) and the sign of the other (`copysign-negative`). The magnitude has no sign (`abs-negative`) and is its own (`abs-abs`). Assumes nothing.
 use mathlib.Core.Path.{_≡_, refl}
-use mathlib.Core.Bool.{Bool, true, false, true≢false}
+use mathlib.Core.Bool.{false, true≢false}
 use lib.Ieee.{Float, nan, inf, fin, isNan}
 use Rattle.ieee754.specs.Magnitude.{abs}
 use Rattle.ieee754.specs.CopySign.{negative, copysign}
