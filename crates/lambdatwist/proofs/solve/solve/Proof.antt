@@ -1,7 +1,7 @@
 -- `lambdatwist::solve::solve` meets its contract. Assumes nothing.
 use borrow.Author.Needs.{needs}
 use borrow.Author.Tests.{not-true, not-false}
-use Rattle.lambdatwist.specs.Solve as definition
+use Rattle.lambdatwist.specs.Solve.{solve}
 use Rattle.lambdatwist.proofs.solve.solve.Statement.{statement}
 use Rattle.lambdatwist.proofs.solve.solve.Tie as tie
 
@@ -12,14 +12,14 @@ refused-requires : tie.Need-refused-requires
 refused-requires c κs = search needs
 
 returns : tie.Need-returns
-unfolding definition.solve
+unfolding solve
 returns c = rw (← c .before .before .input-finite .ensures, not-true (c .before .before .input-finite .result) (c .before .if1 .taken), ← c .refused .ensures)
 
 solve-ordered-requires : tie.Need-solve-ordered-requires
 solve-ordered-requires c κs = search needs
 
 returns-2 : tie.Need-returns-2
-unfolding definition.solve
+unfolding solve
 returns-2 c = rw (← c .before .before .input-finite .ensures, not-false (c .before .before .input-finite .result) (c .before .if1 .left)) (c .solve-ordered .ensures)
 
 pub solve-spec : {M : Type 1} → statement M
