@@ -40,16 +40,16 @@ def signed_units(bits):
     return -units(bits) if negative(bits) else units(bits)
 
 
-def nearest(below):
-    """The pattern of the double nearest to a positive number x, where below(n) is the sign of n * 2^-1075 - x."""
+def nearest(compare):
+    """The pattern of the double nearest to a positive number x, where compare(n) is the sign of n * 2^-1075 - x."""
     low, high = 0, INFINITY
     while high - low > 1:
         middle = (low + high) // 2
-        if below(units(middle)) <= 0:
+        if compare(units(middle)) <= 0:
             low = middle
         else:
             high = middle
-    side = below((units(low) + units(high)) // 2)
+    side = compare((units(low) + units(high)) // 2)
     if side == 0:
         return low if low % 2 == 0 else high
     return high if side < 0 else low

@@ -107,6 +107,18 @@ def tiny(r, count):
     return found
 
 
+def subnormal_factors(r, count):
+    """A subnormal number times a normal one, with an addend that is zero or of the size of the product."""
+    found = []
+    for _ in range(count):
+        n = r.bits(1 + r.below(52)) | 1
+        e = r.below(900)
+        a, b = n | r.sign(), normal(r.significand(), e) | r.sign()
+        size = n.bit_length() + e - 1074
+        found += [(a, b, r.sign()), (b, a, normal(r.significand(), max(size + r.below(110) - 55, -1074)) | r.sign())]
+    return found
+
+
 def huge(r, count):
     """Both sides of the largest double and of 2^1024 - 2^970, also where the product alone overflows."""
     found = []
@@ -136,6 +148,7 @@ def fma_arguments(r):
         "cancellation": cancellations(r, 60),
         "far apart": far_apart(r, 100),
         "subnormal result": tiny(r, 100),
+        "subnormal factor": subnormal_factors(r, 60),
         "overflow edge": huge(r, 80),
         "random": [tuple(r.bits(64) for _ in range(3)) for _ in range(150)],
         "random, of like size": [

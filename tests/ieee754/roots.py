@@ -3,6 +3,10 @@
 from exact import INFINITY, SIGN, is_finite
 from values import GRID, LEADING, NANS, neighbours, normal, whole
 
+# The cube root of HARD_CUBE * 2^-51 is the middle MIDDLE * 2^-53 of two doubles but for less than 2^-54 of their distance.
+HARD_CUBE, MIDDLE = 0x19b78223aa307c, 13293282978278199
+assert abs(MIDDLE ** 3 - (HARD_CUBE << 108)) * 2 ** 53 < 3 * (MIDDLE - 1) ** 2
+
 
 def roots_modulo(c, digits):
     """The odd z below 2^digits whose square is c modulo 2^digits, for a c that is 1 modulo 8."""
@@ -15,7 +19,7 @@ def roots_modulo(c, digits):
 
 
 def hard_squares(limit):
-    """Arguments whose square root is as near to the middle of two doubles as that of any other: the root of n * 2^52, n of 53 or 54
+    """The arguments whose square roots are the nearest of all to the middle of two doubles: the root of n * 2^52, n of 53 or 54
     digits, has the middle z / 2 beside it where z * z - n * 2^54 = c is small. For c above 0 the root is below the middle."""
     found = []
     for c in range(1 - 8 * limit, 8 * limit, 8):
@@ -93,8 +97,7 @@ def sqrt_arguments(r):
 
 def cbrt_arguments(r):
     exact, near = powers(r, 3, 250), near_cubes(r, 150, 300)
-    # the hardest of all doubles: the root is within 2^-54 of the distance of two doubles from their middle
-    near += neighbours(normal(0x19b78223aa307c, -51))
+    near += neighbours(normal(HARD_CUBE, -51))
     return {
         "special": [(b,) for b in GRID + NANS],
         "exact": [(b | r.sign(),) for b in exact],

@@ -16,3 +16,4 @@ pub mod DepthSlots
 pub mod Poses
 pub mod Permutation
 pub mod Solve
+pub mod ScalingRule

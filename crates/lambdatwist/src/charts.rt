@@ -23,7 +23,13 @@ pub fn no_divisor(denominator: f64) -> bool
 }
 
 // One root of the first chart's quadratic.
-pub fn first_turn(edges: SquaredEdges, b: Factors, u: Vector3, found: Candidates, tau: f64) -> Candidates
+pub fn first_turn(
+    edges: SquaredEdges,
+    b: Factors,
+    u: Vector3,
+    found: Candidates,
+    tau: f64,
+) -> Candidates
     ensures { λ r. ⌜ r ≡ firstTurn edges b u found tau .value ⌝ }
 {
     let u0 = u.x;
@@ -61,10 +67,9 @@ pub fn first_chart(edges: SquaredEdges, b: Factors, u: Vector3, found: Candidate
     if no_divisor(denominator) {
         return found;
     }
-    let quadratic_b =
-        (2.0 * (a12 - a01) * u0 * u2 + a01 * b12 * u0 * u1 - a12 * b01 * u1 * u2) / denominator;
-    let quadratic_c =
-        ((a12 - a01) * u0 * u0 + a12 * u1 * u1 - a12 * b01 * u0 * u1) / denominator;
+    let quadratic_b = (2.0 * (a12 - a01) * u0 * u2 + a01 * b12 * u0 * u1 - a12 * b01 * u1 * u2)
+        / denominator;
+    let quadratic_c = ((a12 - a01) * u0 * u0 + a12 * u1 * u1 - a12 * b01 * u0 * u1) / denominator;
     let Roots::Two(first, second) = quadratic_real_monic(quadratic_b, quadratic_c) else {
         return found;
     };
@@ -102,7 +107,13 @@ pub fn second_turn(
 }
 
 // The second chart, by the weights w0 and w1.
-pub fn weight_chart(edges: SquaredEdges, b: Factors, w0: f64, w1: f64, found: Candidates) -> Candidates
+pub fn weight_chart(
+    edges: SquaredEdges,
+    b: Factors,
+    w0: f64,
+    w1: f64,
+    found: Candidates,
+) -> Candidates
     ensures { λ r. ⌜ r ≡ weightChart edges b w0 w1 found .value ⌝ }
 {
     let a01 = edges.a01;
@@ -113,8 +124,7 @@ pub fn weight_chart(edges: SquaredEdges, b: Factors, w0: f64, w1: f64, found: Ca
     if no_divisor(denominator) {
         return found;
     }
-    let quadratic_b =
-        (a02 * b01 * w1 - a01 * b02 * w0 - 2.0 * w0 * w1 * (a01 - a02)) / denominator;
+    let quadratic_b = (a02 * b01 * w1 - a01 * b02 * w0 - 2.0 * w0 * w1 * (a01 - a02)) / denominator;
     let quadratic_c = ((a02 - a01) * w0 * w0 + a02 * b01 * w0 + a02) / denominator;
     let Roots::Two(first, second) = quadratic_real_monic(quadratic_b, quadratic_c) else {
         return found;

@@ -31,9 +31,7 @@ pub fn cubic_coefficients(edges: SquaredEdges, sines: Sines) -> Coefficients
     Coefficients {
         cubic3: a02 * (a12 * s20 - a02 * s12),
         cubic2: 2.0 * triple * a12 * a02 + a02 * (2.0 * a01 + a02) * s12 + a12 * (a12 - a01) * s20,
-        cubic1: a12 * (a02 - a12) * s01
-            - a01 * a01 * s12
-            - 2.0 * a01 * (triple * a12 + a02 * s12),
+        cubic1: a12 * (a02 - a12) * s01 - a01 * a01 * s12 - 2.0 * a01 * (triple * a12 + a02 * s12),
         cubic0: a01 * (a01 * s12 - a12 * s01),
     }
 }

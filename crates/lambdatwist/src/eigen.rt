@@ -4,8 +4,8 @@ ghost use mathlib.Core.Path.{_≡_};
 ghost use Rattle.lambdatwist.specs.KnownZero.{systemOfPair, eigWithKnownZero};
 use crate::eigenvalues::Eigenvalues;
 use crate::eigenvalues::eigenvalue_pair;
-use crate::eigenvector::eigenvector;
 use crate::eigenvector::eigen_minors;
+use crate::eigenvector::eigenvector;
 use crate::row_crosses::Eigenvector;
 use crate::zero_vector::zero_vector;
 use linalg::matrix3::Matrix3;
@@ -17,7 +17,13 @@ pub enum Eigensystem {
 }
 
 // The system of a matrix, by the eigenvector of zero, the square of the entry (0, 1) and the other two eigenvalues.
-pub fn system_of_pair(m: Matrix3, zero: Vector3, square: f64, first: f64, second: f64) -> Eigensystem
+pub fn system_of_pair(
+    m: Matrix3,
+    zero: Vector3,
+    square: f64,
+    first: f64,
+    second: f64,
+) -> Eigensystem
     ensures { λ r. ⌜ r ≡ systemOfPair m zero square first second .value ⌝ }
 {
     let p = eigen_minors(m, square);

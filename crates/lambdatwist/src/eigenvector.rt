@@ -13,6 +13,7 @@ use linalg::vector3::Vector3;
 
 // f64::EPSILON, f64::MIN_POSITIVE
 const EPSILON: f64 = 2.220446049250313e-16;
+
 const MIN_POSITIVE: f64 = 2.2250738585072014e-308;
 
 // off_diagonal_squared, product00_11, precomputed0 and precomputed1
@@ -48,7 +49,12 @@ pub fn denominator_scale(m: Matrix3, p: Minors, eigenvalue: f64) -> f64
     linear + product + eigenvalue * eigenvalue + p.square
 }
 
-pub fn eigenvector_by_minors(m: Matrix3, p: Minors, eigenvalue: f64, denominator: f64) -> Eigenvector
+pub fn eigenvector_by_minors(
+    m: Matrix3,
+    p: Minors,
+    eigenvalue: f64,
+    denominator: f64,
+) -> Eigenvector
     ensures { λ r. ⌜ r ≡ eigenvectorByMinors m p eigenvalue denominator .value ⌝ }
 {
     let first = -(eigenvalue * m.m02 + p.pre0) / denominator;

@@ -10,3 +10,5 @@ pub mod ProjectedPose
 pub mod Gate
 pub mod Slots
 pub mod PushPose
+pub mod PoseScaling
+pub mod Cases

@@ -1,2 +1,3 @@
 pub mod QuadraticScaling
 pub mod CubicScaling
+pub mod RootCases

@@ -9,3 +9,4 @@ pub mod CubicStart
 pub mod Newton
 pub mod PolishedRoot
 pub mod RootScaling
+pub mod Cases

@@ -1,0 +1,64 @@
+-- Solutions of two runs stay alike as a pose is pushed: the same count and updates, the poses at their degrees. Assumes nothing.
+use mathlib.Core.Path.{_≡_, refl, ap, subst}
+use mathlib.Core.Bool.{Bool}
+use mathlib.Core.List.{List, [], _∷_}
+use Prim.Native.Nat.{ℕ, zero, suc, _+_}
+use lib.IntN.{ℤ, pos}
+use lib.Dec.{ltb}
+use lib.ListN.{set}
+use Rattle.ieee754.specs.Scaling.{Both}
+use Rattle.ieee754.proofs.Degrees.{pure, _>>=_, choose}
+use Rattle.linalg.specs.Matrices.{zeroPose}
+use Rattle.linalg.specs.declared.vector3.Vector3.{Vector3}
+use Rattle.linalg.specs.declared.matrix3.Matrix3.{Matrix3}
+use Rattle.linalg.specs.declared.pose.Pose.{Pose}
+use Rattle.linalg.specs.VectorScaling.{AtVector}
+use Rattle.linalg.proofs.VectorDegrees.{null-vector}
+use Rattle.p3p_common.specs.declared.input.P3pInput.{P3pInput}
+use Rattle.p3p_common.specs.declared.gate.Gated.{Gated}
+use Rattle.p3p_common.specs.declared.solutions.Solutions.{Solutions}
+use Rattle.p3p_common.specs.Slots.{empty, push}
+use Rattle.p3p_common.specs.PushPose.{pushGated, pushPose}
+use Rattle.p3p_common.specs.PoseScaling.{AtInput, AtPose, AtGated, passed-at, projected-at, dropped-at, AtPoses, no-poses, more-poses, AtSolutions}
+use Rattle.p3p_common.proofs.GateScaling.{gate-scales}
+
+module _ {k : ℤ} where
+  zeroPose-at : AtPose k zeroPose zeroPose
+  zeroPose-at = record { rotation = refl; translation = null-vector }
+
+  pub empty-scales : AtSolutions k empty empty
+  unfolding empty
+  empty-scales = record {
+    count = refl;
+    poses = more-poses zeroPose-at (more-poses zeroPose-at (more-poses zeroPose-at (more-poses zeroPose-at no-poses)));
+    updates = refl;
+  }
+
+  set-scales : (i : ℕ) {ps ps' : List Pose} {p p' : Pose} → AtPoses k ps ps' → AtPose k p p' → AtPoses k (set ps i p) (set ps' i p')
+  set-scales i no-poses h = no-poses
+  set-scales zero (more-poses q qs) h = more-poses h qs
+  set-scales (suc i) (more-poses q qs) h = more-poses q (set-scales i qs h)
+
+  pub push-scales : {s s' : Solutions} {p p' : Pose} (u : ℕ) → AtSolutions k s s' → AtPose k p p' → AtSolutions k (push s p u) (push s' p' u)
+  unfolding push
+  push-scales {s} {s'} {p} {p'} u h q =
+      choose (AtSolutions k) (ap (λ (n : ℕ). ltb n 4) (h .count))
+      (record {
+        count = ap (λ (n : ℕ). n + 1) (h .count);
+        poses = subst (λ (n : ℕ). AtPoses k (set (s .poses) (s .count) p) (set (s' .poses) n p')) (h .count) (set-scales (s .count) (h .poses) q);
+        updates = λ i. set (h .updates i) (h .count i) u;
+      })
+      h
+
+  pushGated-scales : {s s' : Solutions} {g g' : Gated} (u : ℕ) → AtSolutions k s s' → AtGated k g g' → AtSolutions k (pushGated s g u) (pushGated s' g' u)
+  unfolding pushGated
+  pushGated-scales u s (passed-at p) = push-scales u s p
+  pushGated-scales u s (projected-at p) = push-scales u s p
+  pushGated-scales u s dropped-at = s
+
+  pub pushPose-scales : {input input' : P3pInput} {s s' : Solutions} (raw : Matrix3) {t t' : Vector3} (u : ℕ) → AtInput k input input' → AtSolutions k s s' → AtVector k (pos 1) t t'
+      → Both (AtSolutions k) (pushPose input s raw t u) (pushPose input' s' raw t' u)
+  unfolding pushPose
+  pushPose-scales raw u input s t =
+      gate-scales raw input t >>= λ _ _ gated.
+      pure (pushGated-scales u s gated)
