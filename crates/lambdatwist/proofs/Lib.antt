@@ -4,6 +4,7 @@ mod PoseTurns
 mod PoseCount
 mod Retries
 pub mod NanCondition
+pub mod MarkedCases
 pub mod Equal
 pub mod SquaredLength
 pub mod EdgeScaling
@@ -19,3 +20,4 @@ pub mod SolveScaling
 pub mod TimesPower
 pub mod FiniteTranslation
 pub mod ScalingRule
+pub mod ScalingExamples

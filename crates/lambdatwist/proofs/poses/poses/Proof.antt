@@ -3,7 +3,7 @@ use borrow.Author.Needs.{needs}
 use native.Mathlib.Omega.{arith}
 use Prim.Native.Nat.{_-_, _≤_}
 use mathlib.Core.Path.{_≡_, refl, sym, _∙_}
-use lib.ListN.{take, drop}
+use lib.ListN.{length, take, drop}
 use Rattle.linalg.specs.Vectors.{zeros}
 use Rattle.lambdatwist.specs.Poses.{poseTurns, poses}
 use Rattle.lambdatwist.proofs.PoseTurns.{turns-go, turns-stop, turns-end, four-slots}
@@ -61,7 +61,8 @@ returns-2 c =
     let loop = c .before .loop in
     let start = c .before .before .before .before in
     let four = four-slots (start .args .found) (start .good .1 .1 .1 .1 .0) in
-    rw (← c .before .before .empty .ensures) (turns-end _ _ _ _ zeros _ _ (loop .at) (loop .output) (omega (arith, c .loop-test .left, four)) ∙ loop .inv .1)
+    let past : length (start .args .found .depths) ≤ loop .at = omega (arith, c .loop-test .left, four) in
+    rw (← c .before .before .empty .ensures) (turns-end _ _ _ _ zeros _ _ (loop .at) (loop .output) past ∙ loop .inv .1)
 
 pub poses-spec : {M : Type 1} → statement M
 poses-spec =
