@@ -62,7 +62,7 @@ returns-2 c =
     let start = c .before .before .before .before in
     let four = four-slots (start .args .found) (start .good .1 .1 .1 .1 .0) in
     let past : length (start .args .found .depths) ≤ loop .at = omega (arith, c .loop-test .left, four) in
-    rw (← c .before .before .empty .ensures) (turns-end _ _ _ _ zeros _ _ (loop .at) (loop .output) past ∙ loop .inv .1)
+    rw (← c .before .before .empty .ensures) (turns-end _ _ _ _ zeros (start .args .found .count) (start .args .found .depths) (loop .at) (loop .output) past ∙ loop .inv .1)
 
 pub poses-spec : {M : Type 1} → statement M
 poses-spec =
