@@ -1,3 +1,10 @@
+-- What the proofs of several functions use; what is stated of the choice of permutation; and the scaling laws of the stages, in the order of a solve, up to the scaling rule.
+mod NoRoots
+mod PoseTurns
+mod PoseCount
+mod Retries
+pub mod NanCondition
+pub mod MarkedCases
 pub mod Equal
 pub mod SquaredLength
 pub mod EdgeScaling
@@ -13,3 +20,4 @@ pub mod SolveScaling
 pub mod TimesPower
 pub mod FiniteTranslation
 pub mod ScalingRule
+pub mod ScalingExamples

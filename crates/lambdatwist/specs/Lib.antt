@@ -17,3 +17,5 @@ pub mod Poses
 pub mod Permutation
 pub mod Solve
 pub mod ScalingRule
+pub mod Cases
+pub mod Plates

@@ -1,6 +1,7 @@
 // The solve of eighteen doubles: solve_ordered, solve_best_conditioned_permutation and solve_solver_minimal of lambdatwist.rs,
 // with the refusals of document 01.
 ghost use mathlib.Core.Path.{_≡_};
+ghost use Prim.Native.Nat.{_≤_};
 ghost use Rattle.lambdatwist.specs.Solve as Solve;
 use crate::angles::Factors;
 use crate::angles::bearing_factors;
@@ -42,31 +43,33 @@ const EPSILON: f64 = 2.220446049250313e-16;
 // count hold plus zeros.
 pub struct Answer {
     pub refusal: u32,
-    pub count: usize,
+    pub count: u32,
     pub poses: [Pose; 4],
     pub updates: [u32; 4],
 }
 
-pub fn answered(number: u32, solutions: Solutions) -> Answer
+fn answered(number: u32, solutions: Solutions) -> Answer
+    requires { ⌜ solutions .count ≤ 4 ⌝ }
     ensures { λ r. ⌜ r ≡ Solve.answered number solutions ⌝ }
 {
     let poses = solutions.poses;
     let updates = solutions.updates;
     Answer {
         refusal: number,
-        count: solutions.count,
+        count: solutions.count as u32,
         poses,
         updates,
     }
 }
 
-pub fn refused(number: u32) -> Answer
+fn refused(number: u32) -> Answer
     ensures { λ r. ⌜ r ≡ Solve.refused number ⌝ }
 {
     answered(number, Solutions::empty())
 }
 
-pub fn if_kept(solutions: Solutions) -> Answer
+fn if_kept(solutions: Solutions) -> Answer
+    requires { ⌜ solutions .count ≤ 4 ⌝ }
     ensures { λ r. ⌜ r ≡ Solve.ifKept solutions ⌝ }
 {
     if solutions.count == 0 {
@@ -75,7 +78,7 @@ pub fn if_kept(solutions: Solutions) -> Answer
     answered(0, solutions)
 }
 
-pub fn solve_candidates(
+fn solve_candidates(
     view: View,
     vectors: EdgeVectors,
     edges: SquaredEdges,
@@ -92,7 +95,7 @@ pub fn solve_candidates(
     if_kept(poses(view, edges, cosines, inverse, found))
 }
 
-pub fn solve_root(
+fn solve_root(
     view: View,
     vectors: EdgeVectors,
     edges: SquaredEdges,
@@ -113,7 +116,7 @@ pub fn solve_root(
     solve_candidates(view, vectors, edges, cosines, found)
 }
 
-pub fn solve_cubic(
+fn solve_cubic(
     view: View,
     vectors: EdgeVectors,
     edges: SquaredEdges,
@@ -133,7 +136,7 @@ pub fn solve_cubic(
     solve_root(view, vectors, edges, cosines, b, g)
 }
 
-pub fn solve_ordered(view: View, retries: u32) -> Answer
+fn solve_ordered(view: View, retries: u32) -> Answer
     ensures { λ r. ⌜ r ≡ Solve.solveOrdered retries view .value ⌝ }
 {
     let vectors = edge_vectors(view.world);
@@ -151,7 +154,7 @@ pub fn solve_ordered(view: View, retries: u32) -> Answer
     solve_cubic(view, vectors, edges, cosines, b, cubic)
 }
 
-pub fn solve_best_conditioned_permutation(input: P3pInput, retries: u32) -> Answer
+fn solve_best_conditioned_permutation(input: P3pInput, retries: u32) -> Answer
     ensures { λ r. ⌜ r ≡ Solve.solveBestConditionedPermutation retries input .value ⌝ }
 {
     let best = best_permutation(input);

@@ -1,35 +1,28 @@
+-- `lambdatwist::charts::chart` meets its contract. Assumes nothing.
 use borrow.Author.Needs.{needs}
+use Rattle.lambdatwist.specs.Charts.{chart}
 use Rattle.lambdatwist.proofs.charts.chart.Statement.{statement}
 use Rattle.lambdatwist.proofs.charts.chart.Tie as tie
-use Rattle.lambdatwist.proofs.charts.chart.Reads as reads
-use Rattle.lambdatwist.proofs.charts.chart.Lts as lts
-use Rattle.ieee754.proofs.abs.abs.Reads as abs-reads
-use Rattle.lambdatwist.proofs.charts.first_chart.Reads as first-chart-reads
-use Rattle.lambdatwist.proofs.charts.second_chart.Reads as second-chart-reads
 
--- src/charts.rt:144:8
 abs-requires : tie.Need-abs-requires
 abs-requires c κs = search needs
 
--- src/charts.rt:144:19
 abs-requires-2 : tie.Need-abs-requires-2
 abs-requires-2 c κs = search needs
 
--- src/charts.rt:145:9
 first-chart-requires : tie.Need-first-chart-requires
 first-chart-requires c κs = search needs
 
--- src/charts.rt:145:9
 returns : tie.Need-returns
-returns c = ?
+unfolding chart
+returns c = rw (← c .before .before .before .abs .ensures, ← c .before .before .abs2 .ensures, c .before .if1 .taken, ← c .first-chart .ensures)
 
--- src/charts.rt:147:5
 second-chart-requires : tie.Need-second-chart-requires
 second-chart-requires c κs = search needs
 
--- src/charts.rt:141:1
 returns-2 : tie.Need-returns-2
-returns-2 c = ?
+unfolding chart
+returns-2 c = rw (← c .before .before .before .abs .ensures, ← c .before .before .abs2 .ensures, c .before .if1 .left, ← c .second-chart .ensures)
 
 pub chart-spec : {M : Type 1} → statement M
 chart-spec =

@@ -1,35 +1,30 @@
+-- `lambdatwist::condition::leading_share` meets its contract. Assumes nothing.
 use borrow.Author.Needs.{needs}
+use borrow.Author.Tests.{not-true, not-false}
+use Rattle.lambdatwist.specs.Condition.{leadingShare}
 use Rattle.lambdatwist.proofs.condition.leading_share.Statement.{statement}
 use Rattle.lambdatwist.proofs.condition.leading_share.Tie as tie
-use Rattle.lambdatwist.proofs.condition.leading_share.Reads as reads
-use Rattle.lambdatwist.proofs.condition.leading_share.Lts as lts
-use Rattle.ieee754.proofs.abs.abs.Reads as abs-reads
-use Rattle.ieee754.proofs.is_finite.is_finite.Reads as is-finite-reads
-use Rattle.lambdatwist.proofs.condition.folded_scale.Reads as folded-scale-reads
 
--- src/condition.rt:29:9
 folded-scale-requires : tie.Need-folded-scale-requires
 folded-scale-requires c κs = search needs
 
--- src/condition.rt:31:9
 returns : tie.Need-returns
-returns c = ?
+unfolding leadingShare
+returns c = rw (← c .before .folded-scale .ensures, c .if1 .taken)
 
--- src/condition.rt:33:9
 is-finite-requires : tie.Need-is-finite-requires
 is-finite-requires c κs = search needs
 
--- src/condition.rt:34:9
 returns-2 : tie.Need-returns-2
-returns-2 c = ?
+unfolding leadingShare
+returns-2 c = rw (← c .before .before .before .folded-scale .ensures, c .before .before .if1 .left, ← c .before .is-finite .ensures, not-true (c .before .is-finite .result) (c .if2 .taken))
 
--- src/condition.rt:36:5
 abs-requires : tie.Need-abs-requires
 abs-requires c κs = search needs
 
--- src/condition.rt:26:1
 returns-3 : tie.Need-returns-3
-returns-3 c = ?
+unfolding leadingShare
+returns-3 c = rw (← c .before .before .before .before .folded-scale .ensures, c .before .before .before .if1 .left, ← c .before .before .is-finite .ensures, not-false (c .before .before .is-finite .result) (c .before .if2 .left), ← c .abs .ensures)
 
 pub leading-share-spec : {M : Type 1} → statement M
 leading-share-spec =

@@ -1,31 +1,26 @@
+-- `lambdatwist::cubic::is_unusable` meets its contract. Assumes nothing.
 use borrow.Author.Needs.{needs}
+use borrow.Author.Tests.{not-true, not-false}
+use Rattle.lambdatwist.specs.Cubic.{isUnusable}
 use Rattle.lambdatwist.proofs.cubic.is_unusable.Statement.{statement}
 use Rattle.lambdatwist.proofs.cubic.is_unusable.Tie as tie
-use Rattle.lambdatwist.proofs.cubic.is_unusable.Reads as reads
-use Rattle.lambdatwist.proofs.cubic.is_unusable.Lts as lts
-use Rattle.ieee754.proofs.abs.abs.Reads as abs-reads
-use Rattle.ieee754.proofs.is_finite.is_finite.Reads as is-finite-reads
-use Rattle.lambdatwist.proofs.cubic.coefficient_scale.Reads as coefficient-scale-reads
 
--- src/cubic.rt:54:9
 coefficient-scale-requires : tie.Need-coefficient-scale-requires
 coefficient-scale-requires c κs = search needs
 
--- src/cubic.rt:55:9
 is-finite-requires : tie.Need-is-finite-requires
 is-finite-requires c κs = search needs
 
--- src/cubic.rt:56:9
 returns : tie.Need-returns
-returns c = ?
+unfolding isUnusable
+returns c = rw (← c .before .before .coefficient-scale .ensures, ← c .before .is-finite .ensures, not-true (c .before .is-finite .result) (c .if1 .taken))
 
--- src/cubic.rt:58:5
 abs-requires : tie.Need-abs-requires
 abs-requires c κs = search needs
 
--- src/cubic.rt:51:1
 returns-2 : tie.Need-returns-2
-returns-2 c = ?
+unfolding isUnusable
+returns-2 c = rw (← c .before .before .before .coefficient-scale .ensures, ← c .before .before .is-finite .ensures, not-false (c .before .before .is-finite .result) (c .before .if1 .left), ← c .abs .ensures)
 
 pub is-unusable-spec : {M : Type 1} → statement M
 is-unusable-spec =

@@ -1,55 +1,44 @@
+-- `lambdatwist::eigen::system_of_pair` meets its contract. Assumes nothing.
 use borrow.Author.Needs.{needs}
+use Rattle.lambdatwist.specs.KnownZero.{systemOfPair, orNotFound}
 use Rattle.lambdatwist.proofs.eigen.system_of_pair.Statement.{statement}
 use Rattle.lambdatwist.proofs.eigen.system_of_pair.Tie as tie
-use Rattle.lambdatwist.proofs.eigen.system_of_pair.Reads as reads
-use Rattle.lambdatwist.proofs.eigen.system_of_pair.Lts as lts
-use Rattle.lambdatwist.proofs.eigenvector.eigen_minors.Reads as eigen-minors-reads
-use Rattle.lambdatwist.proofs.eigenvector.eigenvector.Reads as eigenvector-reads
-use Rattle.linalg.proofs.matrix3.Matrix3.from_columns.Reads as from-columns-reads
 
--- src/eigen.rt:23:9
 eigen-minors-requires : tie.Need-eigen-minors-requires
 eigen-minors-requires c κs = search needs
 
--- src/eigen.rt:24:38
 eigenvector-requires : tie.Need-eigenvector-requires
 eigenvector-requires c κs = search needs
 
--- src/eigen.rt:24:27
 enum-known-column0 : tie.Need-enum-known-column0
 enum-known-column0 c = search needs
 
--- src/eigen.rt:25:9
 enum-told : tie.Need-enum-told
 enum-told c = search needs
 
--- src/eigen.rt:25:9
 returns : tie.Need-returns
-returns c = ?
+unfolding systemOfPair orNotFound
+returns c = rw (← c .before .before .before .eigen-minors .ensures, ← c .before .before .eigenvector .ensures, c .enum-told .given .1)
 
--- src/eigen.rt:27:38
 eigenvector-requires-2 : tie.Need-eigenvector-requires-2
 eigenvector-requires-2 c κs = search needs
 
--- src/eigen.rt:27:27
 enum-known-column1 : tie.Need-enum-known-column1
 enum-known-column1 c = search needs
 
--- src/eigen.rt:28:9
 enum-told-2 : tie.Need-enum-told-2
 enum-told-2 c = search needs
 
--- src/eigen.rt:28:9
 returns-2 : tie.Need-returns-2
-returns-2 c = ?
+unfolding systemOfPair orNotFound
+returns-2 c = rw (← c .before .before .before .before .before .before .before .eigen-minors .ensures, ← c .before .before .before .before .before .before .eigenvector .ensures, c .before .before .before .before .column0 .given .1, ← c .before .before .eigenvector2 .ensures, c .enum-told2 .given .1)
 
--- src/eigen.rt:35:24
 from-columns-requires : tie.Need-from-columns-requires
 from-columns-requires c κs = search needs
 
--- src/eigen.rt:20:1
 returns-3 : tie.Need-returns-3
-returns-3 c = ?
+unfolding systemOfPair orNotFound
+returns-3 c = rw (← c .before .before .before .before .before .before .before .before .before .eigen-minors .ensures, ← c .before .before .before .before .before .before .before .before .eigenvector .ensures, c .before .before .before .before .before .before .column0 .given .1, ← c .before .before .before .before .eigenvector2 .ensures, c .before .before .column1 .given .1, ← c .from-columns .ensures)
 
 pub system-of-pair-spec : {M : Type 1} → statement M
 system-of-pair-spec =

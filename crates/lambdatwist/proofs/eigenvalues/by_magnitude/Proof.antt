@@ -1,34 +1,28 @@
+-- `lambdatwist::eigenvalues::by_magnitude` meets its contract. Assumes nothing.
 use borrow.Author.Needs.{needs}
+use Rattle.lambdatwist.specs.EigenPair.{byMagnitude}
 use Rattle.lambdatwist.proofs.eigenvalues.by_magnitude.Statement.{statement}
 use Rattle.lambdatwist.proofs.eigenvalues.by_magnitude.Tie as tie
-use Rattle.lambdatwist.proofs.eigenvalues.by_magnitude.Reads as reads
-use Rattle.lambdatwist.proofs.eigenvalues.by_magnitude.Lts as lts
-use Rattle.ieee754.proofs.abs.abs.Reads as abs-reads
-use Rattle.lambdatwist.proofs.eigenvalues.nonzero_pair.Reads as nonzero-pair-reads
 
--- src/eigenvalues.rt:36:8
 abs-requires : tie.Need-abs-requires
 abs-requires c κs = search needs
 
--- src/eigenvalues.rt:36:21
 abs-requires-2 : tie.Need-abs-requires-2
 abs-requires-2 c κs = search needs
 
--- src/eigenvalues.rt:37:9
 nonzero-pair-requires : tie.Need-nonzero-pair-requires
 nonzero-pair-requires c κs = search needs
 
--- src/eigenvalues.rt:37:9
 returns : tie.Need-returns
-returns c = ?
+unfolding byMagnitude
+returns c = rw (← c .before .before .before .abs .ensures, ← c .before .before .abs2 .ensures, c .before .if1 .taken, ← c .nonzero-pair .ensures)
 
--- src/eigenvalues.rt:39:5
 nonzero-pair-requires-2 : tie.Need-nonzero-pair-requires-2
 nonzero-pair-requires-2 c κs = search needs
 
--- src/eigenvalues.rt:33:1
 returns-2 : tie.Need-returns-2
-returns-2 c = ?
+unfolding byMagnitude
+returns-2 c = rw (← c .before .before .before .abs .ensures, ← c .before .before .abs2 .ensures, c .before .if1 .left, ← c .nonzero-pair2 .ensures)
 
 pub by-magnitude-spec : {M : Type 1} → statement M
 by-magnitude-spec =

@@ -1,40 +1,32 @@
+-- `lambdatwist::eigenvalues::eigenvalue_pair` meets its contract. Assumes nothing.
 use borrow.Author.Needs.{needs}
+use Rattle.lambdatwist.proofs.NoRoots.{no-pair}
+use Rattle.lambdatwist.specs.EigenPair.{eigenvaluePair, pairOfRoots}
 use Rattle.lambdatwist.proofs.eigenvalues.eigenvalue_pair.Statement.{statement}
 use Rattle.lambdatwist.proofs.eigenvalues.eigenvalue_pair.Tie as tie
-use Rattle.lambdatwist.proofs.eigenvalues.eigenvalue_pair.Reads as reads
-use Rattle.lambdatwist.proofs.eigenvalues.eigenvalue_pair.Lts as lts
-use Rattle.lambdatwist.proofs.eigenvalues.by_magnitude.Reads as by-magnitude-reads
-use Rattle.lambdatwist.proofs.eigenvalues.pair_coefficient.Reads as pair-coefficient-reads
-use Rattle.linalg.proofs.matrix3.Matrix3.trace.Reads as trace-reads
-use Rattle.polynomial.proofs.quadratic.quadratic_real_monic.Reads as quadratic-real-monic-reads
 
--- src/eigenvalues.rt:46:59
 trace-requires : tie.Need-trace-requires
 trace-requires c κs = search needs
 
--- src/eigenvalues.rt:46:70
 pair-coefficient-requires : tie.Need-pair-coefficient-requires
 pair-coefficient-requires c κs = search needs
 
--- src/eigenvalues.rt:46:37
 quadratic-real-monic-requires : tie.Need-quadratic-real-monic-requires
 quadratic-real-monic-requires c κs = search needs
 
--- src/eigenvalues.rt:46:20
 enum-known-first : tie.Need-enum-known-first
 enum-known-first c = search needs
 
--- src/eigenvalues.rt:48:9
 returns : tie.Need-returns
-returns c = ?
+unfolding eigenvaluePair pairOfRoots
+returns c = rw (← c .before .before .before .trace .ensures, ← c .before .before .pair-coefficient .ensures, ← c .before .quadratic-real-monic .ensures) (no-pair (c .before .quadratic-real-monic .result) (c .match .keys2))
 
--- src/eigenvalues.rt:50:5
 by-magnitude-requires : tie.Need-by-magnitude-requires
 by-magnitude-requires c κs = search needs
 
--- src/eigenvalues.rt:43:1
 returns-2 : tie.Need-returns-2
-returns-2 c = ?
+unfolding eigenvaluePair pairOfRoots
+returns-2 c = rw (← c .before .before .before .before .before .before .trace .ensures, ← c .before .before .before .before .before .pair-coefficient .ensures, ← c .before .before .before .before .quadratic-real-monic .ensures, c .before .before .first .given .1, ← c .by-magnitude .ensures)
 
 pub eigenvalue-pair-spec : {M : Type 1} → statement M
 eigenvalue-pair-spec =

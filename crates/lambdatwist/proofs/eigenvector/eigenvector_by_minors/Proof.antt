@@ -1,26 +1,23 @@
+-- `lambdatwist::eigenvector::eigenvector_by_minors` meets its contract. Assumes nothing.
 use borrow.Author.Needs.{needs}
+use borrow.Author.Tests.{not-true, not-false}
+use Rattle.lambdatwist.specs.EigenvectorOf.{eigenvectorByMinors, ifFinite}
 use Rattle.lambdatwist.proofs.eigenvector.eigenvector_by_minors.Statement.{statement}
 use Rattle.lambdatwist.proofs.eigenvector.eigenvector_by_minors.Tie as tie
-use Rattle.lambdatwist.proofs.eigenvector.eigenvector_by_minors.Reads as reads
-use Rattle.lambdatwist.proofs.eigenvector.eigenvector_by_minors.Lts as lts
-use Rattle.ieee754.proofs.sqrt.sqrt.Reads as sqrt-reads
-use Rattle.linalg.proofs.vector3.Vector3.all_finite.Reads as all-finite-reads
 
--- src/eigenvector.rt:56:30
 sqrt-requires : tie.Need-sqrt-requires
 sqrt-requires c κs = search needs
 
--- src/eigenvector.rt:62:9
 all-finite-requires : tie.Need-all-finite-requires
 all-finite-requires c κs = search needs
 
--- src/eigenvector.rt:63:9
 returns : tie.Need-returns
-returns c = ?
+unfolding eigenvectorByMinors ifFinite
+returns c = rw (← c .before .before .sqrt .ensures, ← c .before .all-finite .ensures, not-true (c .before .all-finite .result) (c .if1 .taken))
 
--- src/eigenvector.rt:51:1
 returns-2 : tie.Need-returns-2
-returns-2 c = ?
+unfolding eigenvectorByMinors ifFinite
+returns-2 c = rw (← c .before .before .sqrt .ensures, ← c .before .all-finite .ensures, not-false (c .before .all-finite .result) (c .if1 .left))
 
 pub eigenvector-by-minors-spec : {M : Type 1} → statement M
 eigenvector-by-minors-spec =

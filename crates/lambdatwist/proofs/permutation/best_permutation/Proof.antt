@@ -63,7 +63,7 @@ better-requires-4 c κs = search needs
 
 returns : tie.Need-returns
 unfolding bestPermutation bestOf
-returns c = cc
+returns c = rw (← c .before .before .before .before .before .before .before .before .before .before .before .before .before .before .before .before .before .before .points .ensures, ← c .before .before .before .before .before .before .before .before .before .before .before .before .before .before .before .before .before .rays .ensures, ← c .before .before .before .before .before .before .before .before .before .before .before .before .before .before .before .before .with-condition .ensures, ← c .before .before .before .before .before .before .before .before .before .before .before .before .before .before .before .points2 .ensures, ← c .before .before .before .before .before .before .before .before .before .before .before .before .before .before .rays2 .ensures, ← c .before .before .before .before .before .before .before .before .before .before .before .before .before .with-condition2 .ensures, ← c .before .before .before .before .before .before .before .before .before .before .before .before .better .ensures, ← c .before .before .before .before .before .before .before .before .before .before .before .points3 .ensures, ← c .before .before .before .before .before .before .before .before .before .before .rays3 .ensures, ← c .before .before .before .before .before .before .before .before .before .with-condition3 .ensures, ← c .before .before .before .before .before .before .before .before .better2 .ensures, ← c .before .before .before .before .before .before .before .points4 .ensures, ← c .before .before .before .before .before .before .rays4 .ensures, ← c .before .before .before .before .before .with-condition4 .ensures, ← c .before .before .before .before .better3 .ensures, ← c .before .before .before .points5 .ensures, ← c .before .before .rays5 .ensures, ← c .before .with-condition5 .ensures, ← c .better4 .ensures)
 
 pub best-permutation-spec : {M : Type 1} → statement M
 best-permutation-spec =

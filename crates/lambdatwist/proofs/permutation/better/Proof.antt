@@ -1,15 +1,15 @@
+-- `lambdatwist::permutation::better` meets its contract. Assumes nothing.
+use Rattle.lambdatwist.specs.Permutation.{better}
 use Rattle.lambdatwist.proofs.permutation.better.Statement.{statement}
 use Rattle.lambdatwist.proofs.permutation.better.Tie as tie
-use Rattle.lambdatwist.proofs.permutation.better.Reads as reads
-use Rattle.lambdatwist.proofs.permutation.better.Lts as lts
 
--- src/permutation.rt:46:9
 returns : tie.Need-returns
-returns c = ?
+unfolding better
+returns c = rw (c .if1 .taken)
 
--- src/permutation.rt:42:1
 returns-2 : tie.Need-returns-2
-returns-2 c = ?
+unfolding better
+returns-2 c = rw (c .if1 .left)
 
 pub better-spec : {M : Type 1} → statement M
 better-spec = tie.close (tie.spec returns returns-2)

@@ -1,31 +1,26 @@
+-- `lambdatwist::poses::pose_turn` meets its contract. Assumes nothing.
 use borrow.Author.Needs.{needs}
+use borrow.Author.Tests.{not-true, not-false}
+use Rattle.lambdatwist.specs.Poses.{poseTurn}
 use Rattle.lambdatwist.proofs.poses.pose_turn.Statement.{statement}
 use Rattle.lambdatwist.proofs.poses.pose_turn.Tie as tie
-use Rattle.lambdatwist.proofs.poses.pose_turn.Reads as reads
-use Rattle.lambdatwist.proofs.poses.pose_turn.Lts as lts
-use Rattle.lambdatwist.proofs.poses.all_positive.Reads as all-positive-reads
-use Rattle.lambdatwist.proofs.poses.push_depths.Reads as push-depths-reads
-use Rattle.p3p_common.proofs.refine_depths.refine_depths.Reads as refine-depths-reads
 
--- src/poses.rt:86:9
 refine-depths-requires : tie.Need-refine-depths-requires
 refine-depths-requires c κs = search needs
 
--- src/poses.rt:87:9
 all-positive-requires : tie.Need-all-positive-requires
 all-positive-requires c κs = search needs
 
--- src/poses.rt:88:9
 returns : tie.Need-returns
-returns c = ?
+unfolding poseTurn
+returns c = rw (← c .before .before .refine-depths .ensures, ← c .before .all-positive .ensures, not-true (c .before .all-positive .result) (c .if1 .taken))
 
--- src/poses.rt:90:5
 push-depths-requires : tie.Need-push-depths-requires
 push-depths-requires c κs = search needs
 
--- src/poses.rt:76:1
 returns-2 : tie.Need-returns-2
-returns-2 c = ?
+unfolding poseTurn
+returns-2 c = rw (← c .before .before .before .refine-depths .ensures, ← c .before .before .all-positive .ensures, not-false (c .before .before .all-positive .result) (c .before .if1 .left), ← c .push-depths .ensures)
 
 pub pose-turn-spec : {M : Type 1} → statement M
 pose-turn-spec =

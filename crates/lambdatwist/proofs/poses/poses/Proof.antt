@@ -1,3 +1,12 @@
+-- `lambdatwist::poses::poses` meets its contract: what is left of the loop gives what the whole does. Assumes nothing.
+use borrow.Author.Needs.{needs}
+use native.Mathlib.Omega.{arith}
+use Prim.Native.Nat.{_-_, _≤_}
+use mathlib.Core.Path.{_≡_, refl, sym, _∙_}
+use lib.ListN.{length, take, drop}
+use Rattle.linalg.specs.Vectors.{zeros}
+use Rattle.lambdatwist.specs.Poses.{poseTurns, poses}
+use Rattle.lambdatwist.proofs.PoseTurns.{turns-go, turns-stop, turns-end, four-slots}
 use Rattle.lambdatwist.proofs.poses.poses.Statement.{statement}
 use Rattle.lambdatwist.proofs.poses.poses.Tie as tie
 use Rattle.lambdatwist.proofs.poses.poses.Reads as reads
@@ -6,50 +15,54 @@ use Rattle.lambdatwist.proofs.poses.pose_turn.Reads as pose-turn-reads
 use Rattle.p3p_common.proofs.solutions.Solutions.empty.Reads as empty-reads
 
 abbrev Inv-loop : tie.InvT-loop
-Inv-loop view edges cosines inverse count depths output₀ at₀ output at = ?
+Inv-loop view edges cosines inverse count depths output₀ at₀ output at =
+    (at ≤ 4) × (poseTurns view edges cosines inverse (drop at (take count depths)) output .value ≡ poseTurns view edges cosines inverse (take count depths) output₀ .value)
 
 abbrev μ-loop : tie.MeasureT-loop
-μ-loop view edges cosines inverse count depths output₀ at₀ output at = ?
+μ-loop view edges cosines inverse count depths output₀ at₀ output at = 4 - at
 
--- src/poses.rt:104:9
 empty-requires : tie.Need-empty-requires Inv-loop μ-loop
-empty-requires c κs = ?
+empty-requires c κs = search needs
 
--- src/poses.rt:106:5
 loop-holds : tie.Need-loop-holds Inv-loop μ-loop
-loop-holds c = ?
+loop-holds c = (search needs, refl)
 
--- src/poses.rt:108:13
 returns : tie.Need-returns Inv-loop μ-loop
-returns c = ?
+unfolding poses
+returns c =
+    let loop = c .before .before .loop in
+    rw (← c .before .before .before .empty .ensures) (turns-stop _ _ _ _ zeros _ _ (loop .at) (loop .output) (c .if1 .taken) ∙ loop .inv .1)
 
--- src/poses.rt:110:67
 mul-pose-turn : tie.Need-mul-pose-turn Inv-loop μ-loop
-mul-pose-turn c = ?
+mul-pose-turn c = search needs
 
--- src/poses.rt:110:67
 array-copy-out-pose-turn : tie.Need-array-copy-out-pose-turn Inv-loop μ-loop
-array-copy-out-pose-turn c = ?
+array-copy-out-pose-turn c = search needs
 
--- src/poses.rt:110:9
 pose-turn-requires : tie.Need-pose-turn-requires Inv-loop μ-loop
-pose-turn-requires c κs = ?
+pose-turn-requires c κs = search needs
 
--- src/poses.rt:111:9
 add-at : tie.Need-add-at Inv-loop μ-loop
-add-at c = ?
+add-at c = search needs
 
--- src/poses.rt:106:5
 loop-less : tie.Need-loop-less Inv-loop μ-loop
-loop-less c = ?
+loop-less c = omega arith
 
--- src/poses.rt:106:5
 loop-again : tie.Need-loop-again Inv-loop μ-loop
-loop-again c = ?
+loop-again c =
+    let start = c .before .before .before .before .before .before .before in
+    let loop = c .before .before .before .before .loop in
+    let four = four-slots (start .args .found) (start .good .1 .1 .1 .1 .0) in
+    (search needs, rw (c .pose-turn .ensures) (turns-go _ _ _ _ _ _ _ (loop .at) (loop .output) (c .before .before .if1 .left) (omega (arith, c .before .before .before .loop-test .taken, four)) ∙ loop .inv .1))
 
--- src/poses.rt:93:1
 returns-2 : tie.Need-returns-2 Inv-loop μ-loop
-returns-2 c = ?
+unfolding poses
+returns-2 c =
+    let loop = c .before .loop in
+    let start = c .before .before .before .before in
+    let four = four-slots (start .args .found) (start .good .1 .1 .1 .1 .0) in
+    let past : length (start .args .found .depths) ≤ loop .at = omega (arith, c .loop-test .left, four) in
+    rw (← c .before .before .empty .ensures) (turns-end _ _ _ _ zeros (start .args .found .count) (start .args .found .depths) (loop .at) (loop .output) past ∙ loop .inv .1)
 
 pub poses-spec : {M : Type 1} → statement M
 poses-spec =

@@ -1,11 +1,9 @@
 -- `lambdatwist::row_crosses::eigenvector_from_row_crosses` meets its contract. Assumes nothing.
 use borrow.Author.Needs.{needs}
 use Rattle.lambdatwist.specs.RowCrosses.{eigenvectorFromRowCrosses}
-use Rattle.lambdatwist.proofs.row_crosses.eigenvector_from_row_crosses.Statement.{
+use Rattle.lambdatwist.proofs.row_crosses.eigenvector_from_row_crosses.Statement.{statement}
 use Rattle.lambdatwist.proofs.row_crosses.eigenvector_from_row_crosses.Tie as tie
 
-  statement,
-}
 
 cross-requires : tie.Need-cross-requires
 cross-requires c κs = search needs

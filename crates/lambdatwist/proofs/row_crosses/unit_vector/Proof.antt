@@ -1,35 +1,29 @@
+-- `lambdatwist::row_crosses::unit_vector` meets its contract. Assumes nothing.
 use borrow.Author.Needs.{needs}
+use Rattle.lambdatwist.specs.RowCrosses.{unitVector}
 use Rattle.lambdatwist.proofs.row_crosses.unit_vector.Statement.{statement}
 use Rattle.lambdatwist.proofs.row_crosses.unit_vector.Tie as tie
-use Rattle.lambdatwist.proofs.row_crosses.unit_vector.Reads as reads
-use Rattle.lambdatwist.proofs.row_crosses.unit_vector.Lts as lts
-use Rattle.ieee754.proofs.is_finite.is_finite.Reads as is-finite-reads
-use Rattle.linalg.proofs.vector3.Vector3.div.Reads as div-reads
-use Rattle.linalg.proofs.vector3.Vector3.norm.Reads as norm-reads
 
--- src/row_crosses.rt:33:9
 norm-requires : tie.Need-norm-requires
 norm-requires c κs = search needs
 
--- src/row_crosses.rt:34:9
 div-requires : tie.Need-div-requires
 div-requires c κs = search needs
 
--- src/row_crosses.rt:36:12
 is-finite-requires : tie.Need-is-finite-requires
 is-finite-requires c κs = search needs
 
--- src/row_crosses.rt:37:13
 returns : tie.Need-returns
-returns c = ?
+unfolding unitVector
+returns c = rw (← c .before .before .before .before .norm .ensures, ← c .before .before .before .div .ensures, c .before .before .if1 .taken, ← c .before .is-finite .ensures, c .if2 .taken)
 
--- src/row_crosses.rt:30:1
 returns-2 : tie.Need-returns-2
-returns-2 c = ?
+unfolding unitVector
+returns-2 c = rw (← c .before .before .before .before .norm .ensures, ← c .before .before .before .div .ensures, c .before .before .if1 .taken, ← c .before .is-finite .ensures, c .if2 .left)
 
--- src/row_crosses.rt:30:1
 returns-3 : tie.Need-returns-3
-returns-3 c = ?
+unfolding unitVector
+returns-3 c = rw (← c .before .before .norm .ensures, ← c .before .div .ensures, c .if1 .left)
 
 pub unit-vector-spec : {M : Type 1} → statement M
 unit-vector-spec =

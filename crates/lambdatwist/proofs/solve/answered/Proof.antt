@@ -1,12 +1,16 @@
 -- `lambdatwist::solve::answered` meets its contract. Assumes nothing.
+use borrow.Author.Needs.{needs}
 use mathlib.Core.Path.{refl}
 use Rattle.lambdatwist.specs.Solve.{answered}
 use Rattle.lambdatwist.proofs.solve.answered.Statement.{statement}
 use Rattle.lambdatwist.proofs.solve.answered.Tie as tie
+
+cast-t5 : tie.Need-cast-t5
+cast-t5 c = search needs
 
 returns : tie.Need-returns
 unfolding answered
 returns c = refl
 
 pub answered-spec : {M : Type 1} → statement M
-answered-spec = tie.close (tie.spec returns)
+answered-spec = tie.close (tie.spec cast-t5 returns)

@@ -1,26 +1,23 @@
+-- `lambdatwist::solve::if_kept` meets its contract. Assumes nothing.
 use borrow.Author.Needs.{needs}
+use borrow.Author.Tests.{eq-eqb, ne-eqb}
+use Rattle.lambdatwist.specs.Solve.{ifKept}
 use Rattle.lambdatwist.proofs.solve.if_kept.Statement.{statement}
 use Rattle.lambdatwist.proofs.solve.if_kept.Tie as tie
-use Rattle.lambdatwist.proofs.solve.if_kept.Reads as reads
-use Rattle.lambdatwist.proofs.solve.if_kept.Lts as lts
-use Rattle.lambdatwist.proofs.solve.answered.Reads as answered-reads
-use Rattle.lambdatwist.proofs.solve.refused.Reads as refused-reads
 
--- src/solve.rt:73:9
 refused-requires : tie.Need-refused-requires
 refused-requires c κs = search needs
 
--- src/solve.rt:73:9
 returns : tie.Need-returns
-returns c = ?
+unfolding ifKept
+returns c = rw (eq-eqb _ _ (c .before .if1 .taken), ← c .refused .ensures)
 
--- src/solve.rt:75:5
 answered-requires : tie.Need-answered-requires
 answered-requires c κs = search needs
 
--- src/solve.rt:69:1
 returns-2 : tie.Need-returns-2
-returns-2 c = ?
+unfolding ifKept
+returns-2 c = rw (ne-eqb _ _ (c .before .if1 .left), ← c .answered .ensures)
 
 pub if-kept-spec : {M : Type 1} → statement M
 if-kept-spec = tie.close (tie.spec refused-requires returns answered-requires returns-2)

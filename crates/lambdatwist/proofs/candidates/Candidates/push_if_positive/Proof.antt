@@ -1,32 +1,30 @@
+-- `lambdatwist::candidates::Candidates::push_if_positive` meets its contract. Assumes nothing.
 use borrow.Author.Needs.{needs}
+use borrow.Author.Tests.{lt-ltb, le-ltb}
+use Rattle.lambdatwist.specs.DepthSlots.{pushIfPositive}
 use Rattle.lambdatwist.proofs.candidates.Candidates.push_if_positive.Statement.{statement}
 use Rattle.lambdatwist.proofs.candidates.Candidates.push_if_positive.Tie as tie
-use Rattle.lambdatwist.proofs.candidates.Candidates.push_if_positive.Reads as reads
-use Rattle.lambdatwist.proofs.candidates.Candidates.push_if_positive.Lts as lts
 
--- src/candidates.rt:29:17
 mul-depths : tie.Need-mul-depths
 mul-depths c = search needs
 
--- src/candidates.rt:29:17
 element-set-from-depths : tie.Need-element-set-from-depths
 element-set-from-depths c = search needs
 
--- src/candidates.rt:30:30
 add-self : tie.Need-add-self
 add-self c = search needs
 
--- src/candidates.rt:23:5
 returns : tie.Need-returns
-returns c = ?
+unfolding pushIfPositive
+returns c = rw (c .before .if1 .taken, lt-ltb _ _ (c .if2 .taken))
 
--- src/candidates.rt:23:5
 returns-2 : tie.Need-returns-2
-returns-2 c = ?
+unfolding pushIfPositive
+returns-2 c = rw (c .before .if1 .taken, le-ltb _ _ (c .if2 .left))
 
--- src/candidates.rt:23:5
 returns-3 : tie.Need-returns-3
-returns-3 c = ?
+unfolding pushIfPositive
+returns-3 c = rw (c .if1 .left)
 
 pub push-if-positive-spec : {M : Type 1} → statement M
 push-if-positive-spec =

@@ -1,0 +1,42 @@
+-- The ordered solve by what its stages give: an ordering that is unusable is refused where no retry is left, and else retried; a usable one goes on to the cubic. Assumes nothing.
+use mathlib.Core.Path.{_≡_, refl}
+use mathlib.Core.Bool.{true, false}
+use Prim.Native.Nat.{ℕ, zero, suc, _+_, _-_, _<_}
+use native.Mathlib.Omega.{arith}
+use Rattle.p3p_common.specs.declared.refine_depths.SquaredEdges.{SquaredEdges}
+use Rattle.p3p_common.specs.declared.refine_depths.Cosines.{Cosines}
+use Rattle.lambdatwist.specs.Edges.{edgeVectors, squaredEdges}
+use Rattle.lambdatwist.specs.Angles.{cosines, squaredSines, bearingFactors}
+use Rattle.lambdatwist.specs.Cubic.{cubicCoefficients, isUnusable}
+use Rattle.lambdatwist.specs.Solve.{refused, orderedOr, bestOr, solveCubic, solveOrdered, solveBestConditionedPermutation}
+use Rattle.lambdatwist.specs.declared.edges.EdgeVectors.{EdgeVectors}
+use Rattle.lambdatwist.specs.declared.angles.Sines.{Sines}
+use Rattle.lambdatwist.specs.declared.angles.Factors.{Factors}
+use Rattle.lambdatwist.specs.declared.cubic.Coefficients.{Coefficients}
+use Rattle.lambdatwist.specs.declared.poses.View.{View}
+
+module _ (view : View) {vectors : EdgeVectors} {edges : SquaredEdges} {m : Cosines} {angles : Sines} {b : Factors} {cubic : Coefficients}
+    (e₀ : vectors ≡ edgeVectors (view .world) .value) (e₁ : edges ≡ squaredEdges vectors .value) (e₂ : m ≡ cosines (view .bearings) .value) (e₃ : angles ≡ squaredSines m .value)
+    (e₄ : b ≡ bearingFactors m .value) (e₅ : cubic ≡ cubicCoefficients edges angles .value) where
+  pub out-of-retries : isUnusable cubic .value ≡ true → refused 2 ≡ solveOrdered 0 view .value
+  unfolding solveOrdered orderedOr
+  out-of-retries h = rw (← e₀, ← e₁, ← e₂, ← e₃, ← e₅, h)
+
+  pub retried : (n : ℕ) → isUnusable cubic .value ≡ true → solveBestConditionedPermutation n (view .input) .value ≡ solveOrdered (suc n) view .value
+  unfolding solveOrdered orderedOr solveBestConditionedPermutation
+  retried n h = rw (← e₀, ← e₁, ← e₂, ← e₃, ← e₅, h)
+
+  pub usable : (n : ℕ) → isUnusable cubic .value ≡ false → solveCubic view vectors edges m b cubic .value ≡ solveOrdered n view .value
+  unfolding solveOrdered orderedOr
+  usable zero h = rw (← e₀, ← e₁, ← e₂, ← e₃, ← e₄, ← e₅, h)
+  usable (suc n) h = rw (← e₀, ← e₁, ← e₂, ← e₃, ← e₄, ← e₅, h)
+
+-- ---- the allowance
+pub one-less : (n : ℕ) → (n ≡ 0 → ⊥) → n ≡ suc (n - 1)
+one-less zero h = absurd (h refl)
+one-less (suc n) h = omega arith
+
+-- 2 * n for the ordered solve, and one more for the retry
+pub retry-falls : (n : ℕ) → (n ≡ 0 → ⊥) → (n - 1) + (n - 1) + 1 < n + n
+retry-falls zero h = absurd (h refl)
+retry-falls (suc n) h = omega arith

@@ -1,0 +1,37 @@
+-- `lambdatwist::solve::solve_cubic` meets its contract. Assumes nothing.
+use borrow.Author.Needs.{needs}
+use Rattle.lambdatwist.proofs.NoRoots.{no-root}
+use Rattle.lambdatwist.specs.Solve.{solveCubic, orNoRoot}
+use Rattle.lambdatwist.proofs.solve.solve_cubic.Statement.{statement}
+use Rattle.lambdatwist.proofs.solve.solve_cubic.Tie as tie
+
+polished-cubic-root-requires : tie.Need-polished-cubic-root-requires
+polished-cubic-root-requires c κs = search needs
+
+enum-known-g : tie.Need-enum-known-g
+enum-known-g c = search needs
+
+refused-requires : tie.Need-refused-requires
+refused-requires c κs = search needs
+
+returns : tie.Need-returns
+unfolding solveCubic orNoRoot
+returns c = rw (← c .before .before .polished-cubic-root .ensures, c .refused .ensures) (no-root (c .before .before .polished-cubic-root .result) _ (c .before .match .keys2))
+
+solve-root-requires : tie.Need-solve-root-requires
+solve-root-requires c κs = search needs
+
+returns-2 : tie.Need-returns-2
+unfolding solveCubic orNoRoot
+returns-2 c = rw (← c .before .before .before .before .polished-cubic-root .ensures, c .before .before .g .given .1, ← c .solve-root .ensures)
+
+pub solve-cubic-spec : {M : Type 1} → statement M
+solve-cubic-spec =
+    tie.close
+    (tie.spec
+    polished-cubic-root-requires
+    enum-known-g
+    refused-requires
+    returns
+    solve-root-requires
+    returns-2)
