@@ -1,6 +1,6 @@
 // The proved single operations beside others, bit for bit, every NaN as one value: the square root and the fused multiply-add beside
-// the C library's, and the cube root by whole numbers.
-//   compare [COUNT [SEED]]     COUNT arguments of sqrt and fma, a hundredth of that of cbrt
+// the C library's, the cube root by whole numbers, and copied sign, maximum and total order by the order of bit patterns.
+//   compare [COUNT [SEED]]     COUNT arguments of sqrt and fma, a hundredth of that of the others
 #include <inttypes.h>
 #include <stdio.h>
 #include <stdlib.h>
@@ -102,6 +102,27 @@ static long compare_cbrt(long count) {
     return report("cbrt", count, differ, results);
 }
 
+// The place of a double among the others: minus zero is below plus zero, and NaN above every number.
+static int64_t place(double x) {
+    if (isnan(x)) return INT64_MAX;
+    return signbit(x) ? -(int64_t)(bits(x) & ~SIGN) - 1 : (int64_t)bits(x);
+}
+
+static long compare_pairs(long count) {
+    long differ[3] = {0};
+    for (long i = 0; i < count; i++) {
+        double x = of(below(2) ? special() : next()), y = of(below(2) ? special() : below(2) ? bits(x) + below(3) - 1 : next());
+        int64_t a = place(x), b = place(y);
+        double larger = isnan(x) ? y : isnan(y) ? x : a < b ? y : x;
+        differ[0] += !same(p3p_copysign(x, y), isnan(y) ? fabs(x) : copysign(x, y));
+        differ[1] += !same(p3p_max(x, y), larger);
+        differ[2] += p3p_total_cmp(x, y) != (a > b) - (a < b);
+    }
+    const char *names[] = {"copysign", "max", "total_cmp"};
+    for (int i = 0; i < 3; i++) printf("%s %ld compared, %ld differ\n", names[i], count, differ[i]);
+    return differ[0] + differ[1] + differ[2];
+}
+
 // The test of a cube root refuses the neighbours of a right result.
 static long try_the_test(long count) {
     long taken = 0;
@@ -118,6 +139,6 @@ int main(int argc, char **argv) {
     long count = argc > 1 ? atol(argv[1]) : 1000000;
     seed = argc > 2 ? strtoull(argv[2], 0, 0) : 0x9e3779b97f4a7c15;
     printf("seed %016" PRIx64 "\n", seed);
-    long differ = compare_sqrt(count) + compare_fma(count) + compare_cbrt(count / 100) + try_the_test(count / 1000);
+    long differ = compare_sqrt(count) + compare_fma(count) + compare_cbrt(count / 100) + compare_pairs(count / 100) + try_the_test(count / 1000);
     return differ != 0;
 }

@@ -22,9 +22,10 @@ const FILES: [(&str, &str); 3] = [
 
 fn main() {
     println!("cargo:rerun-if-env-changed=P3P_SOURCES");
-    let sources = PathBuf::from(env::var("P3P_SOURCES").unwrap_or_else(|_| {
-        panic!("set P3P_SOURCES to the folder of the original sources (reference/README.md)")
-    }));
+    let sources = PathBuf::from(
+        env::var("P3P_SOURCES")
+            .unwrap_or_else(|_| panic!("set P3P_SOURCES to the folder of the original sources (reference/README.md)")),
+    );
     let out = PathBuf::from(env::var("OUT_DIR").unwrap());
     let edits = Path::new("../../edits");
     let scripts: &[&str] = match env::var("CARGO_PKG_NAME").unwrap().as_str() {
@@ -111,12 +112,14 @@ fn apply(text: &str, file: &str, list: &[Edit]) -> String {
             continue;
         }
         let (start, end) = if edit.function == "*" { (0, text.len()) } else { function(text, &edit.function) };
-        let found: Vec<usize> =
-            text[start..end].match_indices(&edit.old).map(|(at, _)| start + at).collect();
+        let found: Vec<usize> = text[start..end].match_indices(&edit.old).map(|(at, _)| start + at).collect();
         assert!(
             found.len() == edit.places,
             "{file}, {}: {:?} stands {} times, not {}",
-            edit.function, edit.old, found.len(), edit.places
+            edit.function,
+            edit.old,
+            found.len(),
+            edit.places
         );
         for (index, &at) in found.iter().enumerate() {
             if edit.place.is_none_or(|place| place == index + 1) {
@@ -154,9 +157,5 @@ fn function(text: &str, name: &str) -> (usize, usize) {
 
 /// The counters' labels: the first string in each call of crate::reach.
 fn labels_of(edit: &Edit) -> Vec<String> {
-    edit.new
-        .split("crate::reach::")
-        .skip(1)
-        .map(|call| call.split('"').nth(1).expect("a label").to_string())
-        .collect()
+    edit.new.split("crate::reach::").skip(1).map(|call| call.split('"').nth(1).expect("a label").to_string()).collect()
 }

@@ -111,8 +111,7 @@ fn words(matrix: &Matrix3<f64>) -> [f64; 9] {
 /// The reference: solve_solver_minimal on three world points and three bearings.
 pub fn solve(input: &[f64; 18]) -> Answer {
     let world = std::array::from_fn(|index| Point3::from(vector(&input[3 * index..])));
-    let bearings =
-        std::array::from_fn(|index| UnitVector3::new_unchecked(vector(&input[9 + 3 * index..])));
+    let bearings = std::array::from_fn(|index| UnitVector3::new_unchecked(vector(&input[9 + 3 * index..])));
     record::start();
     let count = pose::p3p::solve(world, bearings);
     record::answer(count)
@@ -120,14 +119,12 @@ pub fn solve(input: &[f64; 18]) -> Answer {
 
 /// Two roots, or 4 or 5.
 pub fn quadratic(b: f64, c: f64) -> Result<[f64; 2], u32> {
-    polynomial::quadratic_real_monic(b, c)
-        .ok_or(if b.is_finite() && c.is_finite() { 5 } else { 4 })
+    polynomial::quadratic_real_monic(b, c).ok_or(if b.is_finite() && c.is_finite() { 5 } else { 4 })
 }
 
 /// One root, or 4 or 6.
 pub fn cubic(b: f64, c: f64, d: f64) -> Result<f64, u32> {
-    polynomial::polished_cubic_root(b, c, d)
-        .ok_or(if b.is_finite() && c.is_finite() && d.is_finite() { 6 } else { 4 })
+    polynomial::polished_cubic_root(b, c, d).ok_or(if b.is_finite() && c.is_finite() && d.is_finite() { 6 } else { 4 })
 }
 
 pub fn fast_cbrt(x: f64) -> f64 {

@@ -1,5 +1,6 @@
 //! Document 01's three listed calls, as the second copy makes them.
 
+use crate::reach;
 use std::cmp::Ordering;
 
 pub trait Listed: Sized {
@@ -11,6 +12,7 @@ pub trait Listed: Sized {
 impl Listed for f64 {
     /// The cube root rounded to nearest; zeros, infinities and NaN return themselves.
     fn listed_cbrt(self) -> f64 {
+        reach::listed(0);
         if self == 0.0 || !self.is_finite() {
             return self;
         }
@@ -21,13 +23,19 @@ impl Listed for f64 {
     fn listed_total_cmp(&self, other: &f64) -> Ordering {
         match (self.is_nan(), other.is_nan()) {
             (false, false) => self.total_cmp(other),
-            (left, right) => left.cmp(&right),
+            (left, right) => {
+                reach::listed(1);
+                left.cmp(&right)
+            }
         }
     }
 
     /// Of two zeros of opposite sign plus zero; a NaN beside a number is passed over.
     fn listed_max(self, other: f64) -> f64 {
         if self == 0.0 && other == 0.0 {
+            if self.is_sign_positive() != other.is_sign_positive() {
+                reach::listed(2);
+            }
             return if self.is_sign_positive() { self } else { other };
         }
         self.max(other)

@@ -25,6 +25,17 @@ pub fn here(label: &'static str) {
     at(label, true);
 }
 
+/// The listed calls' labels, which stand in copies/listed.rs and not in the edits.
+pub const LISTED: [&str; 3] =
+    ["listed call: cbrt", "listed call: total_cmp on a NaN", "listed call: max of zeros of opposite sign"];
+
+/// A listed call is made (noted in copy-counted alone).
+pub fn listed(index: usize) {
+    if !LABELS.is_empty() {
+        here(LISTED[index]);
+    }
+}
+
 /// What was reached since the last call.
 pub fn take() -> Vec<(&'static str, bool)> {
     REACHED.with(|list| std::mem::take(&mut *list.borrow_mut()))

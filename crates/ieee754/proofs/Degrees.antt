@@ -2,9 +2,9 @@
 -- A degree that is a literal computes, `pos 2 +ℤ pos 2` to `pos 4` and `pos 1 -ℤ pos 4` to `negsuc 2`, so no arithmetic shows. Where a degree is a variable, `degree` takes the equation that a literal would compute.
 -- An answer that is an enum or a struct has a relation of its own; the body of a `>>=` takes that relation's proof apart, and the formula's `match` computes with it. Assumes nothing.
 use mathlib.Core.Path.{_≡_, refl, sym, ap, ap₂, _∙_, subst, subst₂, subst₃}
-use mathlib.Core.Bool.{Bool, true, false, not, _&&_, true≢false, false≢true}
+use mathlib.Core.Bool.{Bool, true, false, _&&_, true≢false, false≢true}
 use lib.IntN.{ℤ, pos, _+ℤ_, _-ℤ_, _*ℤ_, zero-*ℤ}
-use lib.Dec.{T, T-not}
+use lib.Dec.{T}
 use lib.Ieee.{Float, binary64, neg, add, sub, mul, div, lt, eq, le, ne, isNan, ofBits}
 use lib.Ieee.Fits.{and-l, and-r}
 use lib.Ieee.Scale.{finite}
@@ -195,3 +195,9 @@ module _ {A : Type 0} {R : A → A → Type 0} where
 -- a computation whose inputs are equal in the two runs
 pub alike : {A : Type 0} {m : Traced A} → Both _≡_ m m
 alike = record { results = λ r r'. refl }
+
+-- results that are equal in the two runs: what follows them needs to be shown of one value
+module _ {A B : Type 0} {S : B → B → Type 0} where
+  infixl 50 _>>≡_
+  pub _>>≡_ : {m m' : Traced A} {f f' : A → Traced B} → Both _≡_ m m' → ((x : A) → Both S (f x) (f' x)) → Both S (traced._>>=_ m f) (traced._>>=_ m' f')
+  _>>≡_ {f = f} {f' = f'} h g = h >>= λ x x' e. subst (λ (y : A). Both S (f x) (f' y)) e (g x)

@@ -42,7 +42,7 @@ digits-lt p n P h =
     lt-of-lt-of-le (shl-lt (52 + p) (52 * (p - 1)) h) (le-of-eq (ap (λ (x : ℕ). 2 ^ x) e))
 
 -- a power of an odd number is odd
-odd-pow : (p w : ℕ) → (2 * w + 1) ^ p % 2 ≡ 1
+pub odd-pow : (p w : ℕ) → (2 * w + 1) ^ p % 2 ≡ 1
 odd-pow zero w = ap (λ (x : ℕ). x % 2) (pow-zero (2 * w + 1))
 odd-pow (suc p) w = ap (λ (x : ℕ). x % 2) (pow-suc (2 * w + 1) p) ∙ step ((2 * w + 1) ^ p) (odd-pow p w)
   where

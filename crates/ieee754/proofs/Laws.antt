@@ -1,6 +1,6 @@
 -- How the operations on binary64 go with `scale`: of operands 2 ^ t and 2 ^ u times as large the product is 2 ^ (t + u) times as large, and so on, where both operations are regular.
 -- Each law of an operation that rounds is `round-scale` at the operation's fraction, or `roundRoot-scale` at a root's. What does not round asks for nothing. Assumes nothing.
-use mathlib.Core.Path.{_≡_, refl, sym, ap, ap₂, _∙_, subst}
+use mathlib.Core.Path.{_≡_, refl, ap, ap₂, _∙_}
 use Prim.Native.Nat.{ℕ, zero, suc, _+_, _-_, _*_, _<_}
 use native.Mathlib.Nat.{zero-lt-suc, mul-pos}
 use mathlib.Core.Bool.{Bool, true, false, not, cond, _&&_, _||_, Bool·beq}

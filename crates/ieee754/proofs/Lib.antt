@@ -17,3 +17,10 @@ pub mod Laws
 pub mod Degrees
 pub mod RegularNormal
 pub mod MinPositive
+pub mod Fitting
+pub mod RootRegular
+pub mod RootNearest
+pub mod FmaLaws
+pub mod SignLaws
+pub mod OrderLaws
+pub mod Examples

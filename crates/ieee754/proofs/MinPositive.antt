@@ -1,6 +1,6 @@
 -- The two places where f64::MIN_POSITIVE, which does not scale, stands in the Rust beside a value that does. `max(x, MIN_POSITIVE)` is always multiplied by a small factor, and where that product is
 -- regular the maximum is x (`floored`). And `norm > MIN_POSITIVE` asks of the root of a regular sum only whether the sum is above zero (`norm-at`). Assumes nothing.
-use mathlib.Core.Path.{_≡_, refl, sym, ap, _∙_, subst}
+use mathlib.Core.Path.{_≡_, refl, sym, _∙_, subst}
 use mathlib.Core.Logic.{_⊎_, inl, inr}
 use mathlib.Core.Bool.{Bool, true, false, not, cond, _&&_}
 use lib.IntN.{ℤ, pos, _+ℤ_}
@@ -15,7 +15,7 @@ use Rattle.ieee754.specs.Traced as traced
 use Rattle.ieee754.specs.Traced.{Traced, inRange, mulRegular, sqrtRegular}
 use Rattle.ieee754.specs.Scaling.{Both, At, Scales}
 use Rattle.ieee754.proofs.RegularNormal.{zeroOrNormal, sqrt-above}
-use Rattle.ieee754.proofs.Degrees.{null, !_, _⊗_, √_, lt-same, both-and}
+use Rattle.ieee754.proofs.Degrees.{null, !_, _⊗_, √_, lt-same}
 
 -- ---- max(x, MIN_POSITIVE)
 pub max-either : (x y : Float) → (max x y ≡ x) ⊎ (max x y ≡ y)

@@ -3,15 +3,14 @@
 use mathlib.Core.Path.{_≡_, refl, sym, ap, _∙_, subst}
 use mathlib.Core.Logic.{_⊎_, inl, inr}
 use Prim.Native.Nat.{ℕ, zero, suc, _+_, _-_, _*_, _/_, _^_, _≤_, _<_, compare}
-use native.Mathlib.Nat.{zero-lt-suc, le-trans, le-of-eq, lt-of-le-of-lt, lt-of-lt-of-le, mul-assoc, mul-comm, mul-pos, mul-le-mul-left, mul-le-mul-right, mul-lt-mul-of-pos-right, lt-of-mul-lt-mul-right, le-of-mul-le-mul-right, le-mul-of-pos-right, one-mul}
+use native.Mathlib.Nat.{zero-lt-suc, le-trans, le-of-eq, lt-of-le-of-lt, lt-of-lt-of-le, mul-assoc, mul-pos, mul-le-mul-left, mul-le-mul-right, mul-lt-mul-of-pos-right, lt-of-mul-lt-mul-right, le-of-mul-le-mul-right, le-mul-of-pos-right, one-mul}
 use native.Mathlib.Omega.{arith}
 use mathlib.Core.Bool.{Bool, true, false, cond, _&&_, _||_, Bool·beq, true≢false}
-use lib.IntN.{ℤ, pos}
 use lib.Dec.{T, leb, ltb, eqb, leb→le, le→leb, lt→ltb, lit≤, eqb·suc-zero}
 use lib.Pow.{pow-add, pow-pos, pow-mono}
-use lib.Ieee.{Float, nan, inf, fin, binary64, up, down, nearest, odd, units, round, sum, neg, add, sub, mul, div, lt, ofBits, unlike}
+use lib.Ieee.{Float, nan, inf, fin, binary64, up, down, odd, units, round, sum, neg, add, sub, mul, div, lt, ofBits, unlike}
 use lib.Ieee.Fits.{down-pos, up-pos, and-r}
-use lib.Ieee.Exact.{HasValue, odd-sign, units-val}
+use lib.Ieee.Exact.{HasValue, odd-sign}
 use lib.Ieee.Nearest.{nearest-ge}
 use lib.Ieee.Bits.{is-true}
 use borrow.Author.Tests.{le-ltb}
@@ -19,6 +18,7 @@ use Rattle.ieee754.specs.Literal.{num, minPositive}
 use Rattle.ieee754.specs.Root.{root, roundRoot, sqrt, cbrt}
 use Rattle.ieee754.specs.Fma.{fma}
 use Rattle.ieee754.specs.Traced.{Traced, _⊕_, _⊖_, _⊗_, _⊘_, mulAdd, inRange, magnitude, addRegular, mulRegular, divRegular, fmaRegular, sqrtRegular, cbrtRegular}
+use Rattle.ieee754.proofs.Order.{or-right}
 use Rattle.ieee754.proofs.RootLaws.{mul-pow, pow-mul, pow-back, dropped-drops, root-whole, roundRoot-is}
 use Rattle.ieee754.proofs.RootValues.{roundRoot-one}
 use Rattle.ieee754.proofs.RoundScale.{Normal, zero-or-normal, raised, least-units, drops-least, drop, keep, roundRoot-zero, roundRoot-odd}
@@ -36,25 +36,34 @@ whole-above p j n c k w h l = omega (arith, pow-back p c (2 * 2 ^ j) (2 * suc w 
     powers : (2 * 2 ^ j) ^ p * c ≡ 2 ^ p * (2 ^ (p * j) * c)
     powers = ap (λ (x : ℕ). x * c) (mul-pow 2 (2 ^ j) p ∙ ap (λ (x : ℕ). 2 ^ p * x) (pow-mul 2 j p)) ∙ mul-assoc (2 ^ p) (2 ^ (p * j)) c
 
+-- the whole part of the root of a / c, in units of what is dropped
+abbrev pub part : ℕ → ℕ → ℕ → ℕ
+part p a c = root p 53 (a * 2 ^ (p * 1074) / (c * 2 ^ (p * drop p a c)))
+
 module _ (p : ℕ) (P : 0 < p) (a c : ℕ) (C : 0 < c) (least : c ≤ a * 2 ^ (p * 1022)) where
-  -- the whole part is below what is kept, or is it
-  reach : (j : ℕ) → 2 ^ (p * j) * c ≤ a * 2 ^ (p * 1074) → 2 ^ j < suc (keep p a c) * 2 ^ drop p a c
+  reach : (j : ℕ) → 2 ^ (p * j) * c ≤ a * 2 ^ (p * 1074) → 2 ^ j < suc (part p a c) * 2 ^ drop p a c
   reach j h =
       let n = a * 2 ^ (p * 1074) in
       let k = drop p a c in
-      let u = c * 2 ^ (p * k) in
-      let w = root p 53 (n / u) in
-      let more : w ≤ keep p a c = nearest-ge w (compare (2 ^ p * n) ((2 * w + 1) ^ p * u)) in
-      lt-of-lt-of-le (whole-above p j n c k w h (root-whole p binary64 n c k P C (dropped-drops p binary64 n c P C .0) .1)) (mul-le-mul-right (2 ^ k) (omega arith))
+      whole-above p j n c k (part p a c) h (root-whole p binary64 n c k P C (dropped-drops p binary64 n c P C .0) .1)
 
-  -- what is kept has 53 digits
-  pub keep-least : 2 ^ 52 ≤ keep p a c
-  keep-least =
+  -- it has 53 digits, and so has what is kept, which is no less
+  pub whole-least : 2 ^ 52 ≤ part p a c
+  whole-least =
       let n = a * 2 ^ (p * 1074) in
       let k = drop p a c in
-      let all : 2 ^ (52 + k) < suc (keep p a c) * 2 ^ k = reach (52 + k) (drops-least p binary64 n c k (least-units p a c least) (dropped-drops p binary64 n c P C .1)) in
-      let cut : 2 ^ 52 * 2 ^ k < suc (keep p a c) * 2 ^ k = lt-of-le-of-lt (le-of-eq (sym (pow-add 2 52 k))) all in
+      let all : 2 ^ (52 + k) < suc (part p a c) * 2 ^ k = reach (52 + k) (drops-least p binary64 n c k (least-units p a c least) (dropped-drops p binary64 n c P C .1)) in
+      let cut : 2 ^ 52 * 2 ^ k < suc (part p a c) * 2 ^ k = lt-of-le-of-lt (le-of-eq (sym (pow-add 2 52 k))) all in
       omega (arith, lt-of-mul-lt-mul-right (2 ^ k) cut)
+
+  keep-ge : part p a c ≤ keep p a c
+  keep-ge =
+      let n = a * 2 ^ (p * 1074) in
+      let u = c * 2 ^ (p * drop p a c) in
+      nearest-ge (part p a c) (compare (2 ^ p * n) ((2 * part p a c + 1) ^ p * u))
+
+  keep-least : 2 ^ 52 ≤ keep p a c
+  keep-least = le-trans whole-least keep-ge
 
 -- ---- a finite value of w units, w being z at least or more than that, where l is y * z: its magnitude is 1 / y at least or more than that
 value-ge : (d m y z l w : ℕ) → 0 < z → y * z ≡ l → m * l ≡ w * d → z ≤ w → d ≤ m * y
@@ -62,10 +71,6 @@ value-ge d m y z l w Z e v h = le-of-mul-le-mul-right (omega (arith, mul-le-mul-
 
 value-gt : (d m y z l w : ℕ) → 0 < d → y * z ≡ l → m * l ≡ w * d → z < w → d < m * y
 value-gt d m y z l w D e v h = lt-of-mul-lt-mul-right z (omega (arith, mul-lt-mul-of-pos-right h D, ap (λ (x : ℕ). m * x) e))
-
-or-right : (a b : Bool) → T b → T (a || b)
-or-right true b t = tt
-or-right false b t = t
 
 value-normal : (x : Float) (s : Bool) (w : ℕ) → HasValue x s w (2 ^ 1074) → 2 ^ 52 ≤ w → T (zeroOrNormal x)
 value-normal nan s w v h = tt
@@ -211,17 +216,17 @@ sqrt-above (fin false (suc m) e) r =
     let k = drop 2 a c in
     let least : c ≤ a * 2 ^ 1022 = leb→le c (a * 2 ^ 1022) (rw (eqb·suc-zero m) at r) in
     let least2 : c ≤ a * 2 ^ (2 * 1022) = le-trans least (mul-le-mul-left a (pow-mono {i = 1022} {j = 2044} (lit≤ tt))) in
-    let far : 2 ^ 563 < suc q * 2 ^ k = reach 2 (zero-lt-suc 1) a c (down-pos e) least2 563 (times c a (2 ^ 1022) (2 ^ 1126) (2 ^ 2148) refl least) in
+    let far : 2 ^ 563 < suc (part 2 a c) * 2 ^ k = reach 2 (zero-lt-suc 1) a c (down-pos e) least2 563 (times c a (2 ^ 1022) (2 ^ 1126) (2 ^ 2148) refl least) in
     let one : 1 ≤ q = le-trans (pow-pos 52) (keep-least 2 (zero-lt-suc 1) a c (down-pos e) least2) in
     let root : lt minPositive (roundRoot 2 binary64 false a c) ≡ true =
-    ap (λ (x : Float). lt minPositive x) (roundRoot-is 2 binary64 false a c) ∙ units-above q k (enough q (2 ^ k) (2 ^ 563) (2 ^ 52) far one (lit≤ tt)) in
+    ap (λ (x : Float). lt minPositive x) (roundRoot-is 2 binary64 false a c) ∙ units-above q k (enough (part 2 a c) q (2 ^ k) (2 ^ 563) (2 ^ 52) far (keep-ge 2 (zero-lt-suc 1) a c (down-pos e) least2) one (lit≤ tt)) in
     root ∙ sym (is-true (ltb (0 * down e) (a * 1)) (lt→ltb (0 * down e) (a * 1) (some (down e) a (mul-pos (zero-lt-suc m) (up-pos e)))))
   where
     times : (c a x y z : ℕ) → x * y ≡ z → c ≤ a * x → y * c ≤ a * z
     times c a x y z e h = omega (arith, mul-le-mul-right y h, ap (λ (w : ℕ). a * w) e)
 
-    enough : (q u j b : ℕ) → j < suc q * u → 1 ≤ q → 2 * b ≤ j → b < q * u
-    enough q u j b h o l = omega (arith, mul-le-mul-right u o)
+    enough : (w q u j b : ℕ) → j < suc w * u → w ≤ q → 1 ≤ q → 2 * b ≤ j → b < q * u
+    enough w q u j b h g o l = omega (arith, mul-le-mul-right u o, mul-le-mul-right u g)
 
 -- ---- the same of the lifted operations
 pub ⊕-normal : (x y : Traced Float) → T ((x ⊕ y) .regular) → T (zeroOrNormal ((x ⊕ y) .value))

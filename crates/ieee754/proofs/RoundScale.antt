@@ -1,28 +1,29 @@
 -- The law of rounding under scaling, once for every degree p of a root: 2 ^ (p * t) times a radicand gives 2 ^ t times its root, for a whole number t of either sign, where both roots are zero or
 -- in range (`inRange` of specs/Traced). At p = 1 it is a law of lib.Ieee's `round` (`round-scale`). All the laws on operations follow from these two. Assumes nothing.
-use mathlib.Core.Path.{_≡_, refl, sym, ap, ap₂, _∙_, subst}
+use mathlib.Core.Path.{_≡_, refl, sym, ap, _∙_, subst}
 use mathlib.Core.Logic.{_⊎_, inl, inr}
-use Prim.Native.Nat.{ℕ, zero, suc, _+_, _-_, _*_, _/_, _^_, _≤_, _<_, zero-le, compare, Ordering}
+use Prim.Native.Nat.{ℕ, zero, suc, _+_, _-_, _*_, _/_, _^_, _≤_, _<_, compare, Ordering}
 use native.Mathlib.Nat.{lt-irrefl, zero-lt-suc, le-trans, le-of-eq, add-zero, add-right-comm, lt-of-lt-of-le, lt-of-le-of-lt, lt-of-not-le, not-le-of-lt, mul-assoc, mul-comm, mul-left-comm, mul-right-comm, mul-add, mul-pos, mul-zero, zero-mul, one-le-pow, mul-le-mul-left, mul-le-mul-right, mul-lt-mul-of-pos-left, mul-lt-mul-of-pos-right, lt-of-mul-lt-mul-right, eq-of-mul-eq-mul-right, le-of-mul-le-mul-right}
 use native.Mathlib.Omega.{arith}
-use mathlib.Core.Bool.{Bool, true, false, not, _&&_, _||_}
-use lib.IntN.{ℤ, pos, negsuc, negℤ, _+ℤ_, _*ℤ_, +ℤ-assoc, +ℤ-idr, +ℤ-invr}
+use mathlib.Core.Bool.{Bool, true, false, _&&_, _||_}
+use lib.IntN.{ℤ, pos, negsuc, _+ℤ_, _*ℤ_, +ℤ-assoc, +ℤ-idr, +ℤ-invr}
 use lib.Dec.{T, leb, ltb, eqb, leb→le, ltb→lt, lt→ltb, eqb→eq}
-use lib.Pow.{pow-add, pow-pos, pow-mono, pow-lt}
+use lib.Pow.{pow-add, pow-pos, pow-mono}
 use lib.Count.{trailingZeros}
-use lib.Ieee.{Float, nan, inf, fin, Format, binary64, prec, low, up, down, minus, nearest, odd, units, round}
+use lib.Ieee.{Float, nan, inf, fin, Format, binary64, prec, up, down, minus, nearest, odd, units, round}
 use lib.Ieee.Digits.{odd-val}
 use lib.Ieee.Fits.{down-pos}
+use lib.Ieee.Exact.{HasValue}
 use lib.Ieee.Nearest.{div-same}
 use lib.Ieee.Bits.{is-true}
 use Rattle.ieee754.specs.Root.{root, roundRoot}
 use Rattle.ieee754.specs.Traced.{inRange}
 use Rattle.ieee754.specs.Scaling.{scale, moved}
-use Rattle.ieee754.proofs.RootLaws.{mul-pow, pow-mul, pow-back, Drops, dropped, dropped-drops, drops-dropped, Near, core, roundRoot-is, chosen-near, root-whole}
+use Rattle.ieee754.proofs.RootLaws.{mul-pow, pow-mul, pow-back, Drops, dropped, dropped-drops, drops-dropped, Near, roundRoot-is, chosen-near, root-whole}
 use Rattle.ieee754.proofs.Nearest.{compare-same, compared}
 use Rattle.ieee754.proofs.RootValues.{roundRoot-same, roundRoot-one}
 use Rattle.ieee754.proofs.Sums.{sub-mul}
-use Rattle.ieee754.proofs.Powers.{Ratio, minus-add, ℤ-once, up-negative, down-negative}
+use Rattle.ieee754.proofs.Powers.{Ratio, moved-ratio, minus-add, ℤ-once, up-negative, down-negative}
 
 -- ---- the root of a normal fraction is not rounded up to 2 ^ 1024
 
@@ -157,7 +158,18 @@ module _ (p : ℕ) (P : 0 < p) (s : Bool) where
       ∙ odd-scale 54 s (keep p a c) k 1074 t
       ∙ sym (ap (λ (x : Float). scale (pos t) x) (roundRoot-odd a c C N))
 
--- ---- `scale` adds up, and undoes itself
+-- ---- `scale t` is a multiplication by 2 ^ t, which is the fraction up t / down t. It adds up, and undoes itself.
+pub scale-value : (t : ℤ) (x : Float) (s : Bool) (a c : ℕ) → HasValue x s a c → HasValue (scale t x) s (a * up t) (c * down t)
+unfolding scale
+scale-value t nan s a c v = v
+scale-value t (inf b) s a c v = v
+scale-value t (fin b m e) s a c v =
+    let e' = moved t m e in
+    (v .0, eq-of-mul-eq-mul-right (down e) (down-pos e) (m * up e' * (c * down t)) (a * up t * down e') (through (m * up e') (m * up e) (down e) (down e') (up t) (down t) a c (v .1) (moved-ratio t m e .cross)))
+  where
+    through : (x y d d' u w a c : ℕ) → y * c ≡ a * d → x * (d * w) ≡ y * (d' * u) → x * (c * w) * d ≡ a * u * d' * d
+    through x y d d' u w a c h k = omega (arith, ap (λ (z : ℕ). c * z) k, ap (λ (z : ℕ). z * (d' * u)) h)
+
 pub scale-scale : (t u : ℤ) (x : Float) → scale t (scale u x) ≡ scale (u +ℤ t) x
 unfolding scale
 scale-scale t u nan = refl

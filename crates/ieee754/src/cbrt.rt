@@ -12,7 +12,7 @@ ghost use Rattle.ieee754.specs.inner.Nearest.{IsNearest, Settled, cubeTo
 use crate::format::LEADING;
 use crate::is_finite::is_finite;
 use crate::normal::normalise;
-use crate::pack::pack;
+use crate::pack::pack_finite;
 use crate::unpack::unpack;
 use crate::wide::Wide;
 use crate::wide::add_wide;
@@ -114,7 +114,7 @@ fn scaled(negative: bool, sig: u64, exp: u64) -> f64
     ensures { λ r. ⌜ r ≡ Root.roundRoot 3 binary64 negative (sig * 2 ^ exp) (2 ^ 1126) ⌝ }
 {
     let y = exp + 1992;
-    pack(negative, nearest(sig, y % 3), y / 3)
+    pack_finite(negative, nearest(sig, y % 3), y / 3)
 }
 
 // The cube root of a finite x: it has the sign of x, that of a zero too.

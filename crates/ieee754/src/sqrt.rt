@@ -13,12 +13,11 @@ ghost use Rattle.ieee754.specs.inner.Nearest.{IsNearest, Settled, IsResi
 use crate::format::LEADING;
 use crate::is_finite::is_finite;
 use crate::normal::normalise;
-use crate::pack::pack;
+use crate::pack::pack_finite;
 use crate::unpack::unpack;
 use crate::wide::Wide;
-use crate::wide::less_wide;
 use crate::wide::product;
-use crate::wide::sub_wide;
+use crate::wide::word_difference;
 
 // What `residue` adds: 2^55, which is 8 * 2^52.
 const BIAS: u64 = 0x80_0000_0000_0000;
@@ -55,9 +54,9 @@ fn guess(m: u64, odd: u64) -> u64
     let x = f64::from_bits(bits);
     let half = x * 0.5;
     let mut y = f64::from_bits(0x5fe6_eb50_c7b5_37a9 - bits / 2);
-    y = y * (1.5 - half * y * y);
-    y = y * (1.5 - half * y * y);
-    y = y * (1.5 - half * y * y);
+    y = 1.5 * y - half * y * (y * y);
+    y = 1.5 * y - half * y * (y * y);
+    y = 1.5 * y - half * y * (y * y);
     let r = x * y;
     let root = r + (x - r * r) * (y * 0.5);
     if root < 4.0 {
@@ -78,16 +77,8 @@ fn residue(n: u64, q: u64) -> u64
         hi: raised / 0x1000,
         lo: raised % 0x1000 * LEADING,
     };
-    if less_wide(target, square) {
-        return 0;
-    }
-    let rest = sub_wide(target, square);
-    if rest.hi == 0 {
-        if rest.lo < 0x200_0000_0000_0000 {
-            return rest.lo;
-        }
-    }
-    0
+    let rest = word_difference(target, square);
+    if rest < 0x200_0000_0000_0000 { rest } else { 0 }
 }
 
 // The whole number nearest to the root of n * 2^52, if that is q or a neighbour of q, and 0 if not.
@@ -127,7 +118,7 @@ fn scaled(sig: u64, exp: u64) -> f64
     ensures { λ r. ⌜ r ≡ Root.roundRoot 2 binary64 false (sig * 2 ^ exp) (2 ^ 1126) ⌝ }
 {
     let y = exp + 970;
-    pack(false, nearest(sig, y % 2), y / 2)
+    pack_finite(false, nearest(sig, y % 2), y / 2)
 }
 
 // The root of a finite x: a zero keeps its sign, and below zero there is none.

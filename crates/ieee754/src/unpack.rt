@@ -20,7 +20,7 @@ pub fn unpack(x: f64) -> Unpacked
 {
     let bits = f64::to_bits(x);
     let negative = SIGN <= bits;
-    let field = bits % SIGN / LEADING;
+    let field = bits / LEADING % 0x800;
     let digits = bits % LEADING;
     if field == 0 {
         Unpacked {

@@ -74,6 +74,21 @@ pub fn sub_wide(a: Wide, b: Wide) -> Wide
     }
 }
 
+// a - b, if that is not below 0 and fits a word, and 0 if not.
+pub fn word_difference(a: Wide, b: Wide) -> u64
+    requires { ⌜ b .hi + 1 < 2 ^ 64 ⌝ }
+    ensures { λ r. ⌜ ((r ≡ 0 → ⊥) → r + value b ≡ value a) ⌝ }
+{
+    let lo = wrapping_sub_u64(a.lo, b.lo);
+    if a.lo < b.lo {
+        if a.hi == b.hi + 1 {
+            return lo;
+        }
+        return 0;
+    }
+    if a.hi == b.hi { lo } else { 0 }
+}
+
 // Whether a < b.
 pub fn less_wide(a: Wide, b: Wide) -> bool
     ensures { λ r. ⌜ r ≡ ltb (value a) (value b) ⌝ }

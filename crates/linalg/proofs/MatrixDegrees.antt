@@ -1,9 +1,8 @@
 -- The operations on matrices scale. In a product the degrees of a column of the left and of the entry, or row, of the right that it meets add up to one degree, the same for all three. Assumes nothing.
 use mathlib.Core.Path.{_≡_}
-use mathlib.Core.Bool.{Bool, _&&_}
+use mathlib.Core.Bool.{_&&_}
 use lib.IntN.{ℤ, pos, _+ℤ_}
-use lib.Ieee.{Float}
-use Rattle.ieee754.specs.Scaling.{Both, At, Scales}
+use Rattle.ieee754.specs.Scaling.{Both, Scales}
 use Rattle.ieee754.proofs.Degrees.{same, at-zero, null, !_, _⊗_, _⊕_, degree, pure, _>>=_}
 use Rattle.linalg.specs.declared.vector3.Vector3.{Vector3}
 use Rattle.linalg.specs.declared.matrix3.Matrix3.{Matrix3}

@@ -1,6 +1,6 @@
 -- The operations on vectors scale: at the degrees of their operands, they give a result at theirs. Each proof is the formula, with the hypotheses on its inputs in their places. Assumes nothing.
-use mathlib.Core.Path.{_≡_, ap₂, _∙_}
-use mathlib.Core.Bool.{Bool, _&&_}
+use mathlib.Core.Path.{_≡_}
+use mathlib.Core.Bool.{_&&_}
 use lib.IntN.{ℤ, pos, _+ℤ_, _-ℤ_}
 use lib.Ieee.{Float}
 use Rattle.ieee754.specs.Scaling.{Both, At, Scales}

@@ -11,7 +11,8 @@ use Rattle.linalg.specs.declared.matrix3.Matrix3.{Matrix3}
 use Rattle.linalg.specs.VectorScaling.{AtVector, AtRows}
 use Rattle.linalg.proofs.VectorDegrees.{vecMul-scales, normSquared-scales, cross-scales}
 use Rattle.linalg.proofs.MatrixDegrees.{matrix-at-zero, fromColumns-at, fromRows-at, matMul-scales}
-use Rattle.p3p_common.specs.WorldBasisInverse.{one, sixtyFour, dualBasis, isSingular, worldBasisInverse}
+use Rattle.p3p_common.specs.Literal.{one, sixtyFour}
+use Rattle.p3p_common.specs.WorldBasisInverse.{dualBasis, isSingular, worldBasisInverse}
 use Rattle.p3p_common.specs.RotationFromEdges.{rotationFromEdges}
 use Rattle.p3p_common.specs.PoseScaling.{AtBasis, inverse-at, singular-at}
 

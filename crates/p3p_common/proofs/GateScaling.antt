@@ -1,9 +1,7 @@
 -- The gate decides the same in the two runs, and a pose that it lets by has the same rotation and its translation at degree 1. Assumes nothing.
-use mathlib.Core.Path.{_≡_, refl, subst}
-use mathlib.Core.Bool.{Bool}
+use mathlib.Core.Path.{refl, subst}
 use lib.IntN.{ℤ, pos}
-use Rattle.ieee754.specs.Traced.{Traced}
-use Rattle.ieee754.specs.Scaling.{Both, At}
+use Rattle.ieee754.specs.Scaling.{Both}
 use Rattle.ieee754.proofs.Degrees.{pure, if_then_else_, _>>=_, choose, alike}
 use Rattle.linalg.specs.declared.vector3.Vector3.{Vector3}
 use Rattle.linalg.specs.declared.matrix3.Matrix3.{Matrix3}
@@ -15,7 +13,7 @@ use Rattle.p3p_common.specs.declared.input.P3pInput.{P3pInput}
 use Rattle.p3p_common.specs.declared.project_to_rotation.Projection.{Projection}
 use Rattle.p3p_common.specs.declared.project_to_rotation.Projection.the-variants.{Rotation, Refused}
 use Rattle.p3p_common.specs.declared.gate.Gated.{Gated}
-use Rattle.p3p_common.specs.declared.gate.Gated.the-variants.{Passed, Projected, Dropped}
+use Rattle.p3p_common.specs.declared.gate.Gated.the-variants.{Passed, Projected}
 use Rattle.p3p_common.specs.NearOrthonormal.{hasNearOrthonormalColumns}
 use Rattle.p3p_common.specs.ProjectToRotation.{projectToRotation}
 use Rattle.p3p_common.specs.Gate.{ifValid, keepPoint0, projectedGate, gate}

@@ -2,17 +2,16 @@
 use mathlib.Core.Path.{_≡_, refl, ap₂}
 use mathlib.Core.Bool.{Bool, false, _&&_}
 use lib.IntN.{ℤ, pos}
-use lib.Ieee.{Float}
-use Rattle.ieee754.specs.Scaling.{Both, At}
+use Rattle.ieee754.specs.Scaling.{Both}
 use Rattle.ieee754.proofs.Degrees.{same, null, !_, _⊗_, pure, if_then_else_, _>>=_, lt-same, le-same, finite-same}
 use Rattle.linalg.specs.declared.vector3.Vector3.{Vector3}
 use Rattle.linalg.specs.declared.matrix3.Matrix3.{Matrix3}
 use Rattle.linalg.specs.VectorScaling.{AtVector}
 use Rattle.linalg.proofs.VectorDegrees.{same-vector, vecAdd-scales, dot-scales, normSquared-scales, cross-scales}
 use Rattle.linalg.proofs.MatrixDegrees.{same-matrix, columns-at, matVec-scales}
-use Rattle.p3p_common.specs.declared.input.Bearings.{Bearings}
 use Rattle.p3p_common.specs.declared.input.P3pInput.{P3pInput}
-use Rattle.p3p_common.specs.RayFits.{projectedRayTolerance, rayFits}
+use Rattle.p3p_common.specs.Literal.{projectedRayTolerance}
+use Rattle.p3p_common.specs.RayFits.{rayFits}
 use Rattle.p3p_common.specs.ProjectedPose.{cameraPoint, observationFits, projectedPoseFitsMinimalSample}
 use Rattle.p3p_common.specs.PoseScaling.{AtInput}
 

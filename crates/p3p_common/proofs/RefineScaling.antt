@@ -1,5 +1,5 @@
 -- The refinement scales: depths at degree 1 from squared edges at 2, with the same number of updates. The residuals have degree 2, the denominator 3 and its inverse -3. Assumes nothing.
-use mathlib.Core.Path.{_≡_, refl, ap₂}
+use mathlib.Core.Path.{refl, ap₂}
 use mathlib.Core.Bool.{Bool, not, _||_}
 use Prim.Native.Nat.{ℕ, zero, suc, _+_}
 use lib.IntN.{ℤ, pos}
@@ -15,7 +15,8 @@ use Rattle.p3p_common.specs.declared.refine_depths.Cosines.{Cosines}
 use Rattle.p3p_common.specs.declared.refine_depths.Refined.{Refined}
 use Rattle.p3p_common.specs.declared.refine_depths.Step.{Step}
 use Rattle.p3p_common.specs.declared.refine_depths.Step.the-variants.{Next, Stop}
-use Rattle.p3p_common.specs.RefineDepths.{residualFactor, half, two, depthResidual, ifFinite, depthUpdate, depthStep, afterStep, refineTurns, refineDepths}
+use Rattle.p3p_common.specs.Literal.{half, two, ten⁻¹⁰}
+use Rattle.p3p_common.specs.RefineDepths.{depthResidual, ifFinite, depthUpdate, depthStep, afterStep, refineTurns, refineDepths}
 use Rattle.p3p_common.specs.PoseScaling.{AtEdges, AtRefined}
 
 -- both stop, or both go on
@@ -99,5 +100,5 @@ module _ {k : ℤ} (cosines : Cosines) where
       → Both (AtRefined k) (refineDepths depths edges cosines iterations) (refineDepths depths' edges' cosines iterations)
   unfolding refineDepths
   refineDepths-scales iterations depths edges =
-      ! same residualFactor ⊗ ! max-at (max-at (edges .a01) (edges .a02)) (edges .a12) >>= λ _ _ tolerance.
+      ! same ten⁻¹⁰ ⊗ ! max-at (max-at (edges .a01) (edges .a02)) (edges .a12) >>= λ _ _ tolerance.
       refineTurns-scales edges tolerance iterations 0 depths

@@ -6,7 +6,6 @@ use lib.Ieee.{Float}
 use Rattle.linalg.specs.declared.vector3.Vector3.{Vector3}
 use Rattle.p3p_common.specs.declared.refine_depths.SquaredEdges.{SquaredEdges}
 use Rattle.p3p_common.specs.declared.refine_depths.Cosines.{Cosines}
-use Rattle.p3p_common.specs.declared.refine_depths.Refined.{Refined}
 use Rattle.p3p_common.specs.declared.refine_depths.Step.the-variants.{Next, Stop}
 use Rattle.p3p_common.specs.RefineDepths.{depthStep, afterStep, refineTurns}
 

@@ -1,12 +1,10 @@
 -- What becomes of a pose recovered from edges and positive depths: push_pose_with_cheirality of pose/p3p/common.rs where `edge_basis_with_positive_depths` holds, with the test of push_valid_rotation.
-use mathlib.Core.Bool.{Bool}
 use Rattle.ieee754.specs.Traced.{Traced, pure, _>>=_, if_then_else_}
 use Rattle.linalg.specs.Vectors.{allFinite, vecSub}
 use Rattle.linalg.specs.Matrices.{matVec}
 use Rattle.linalg.specs.declared.vector3.Vector3.{Vector3}
 use Rattle.linalg.specs.declared.matrix3.Matrix3.{Matrix3}
 use Rattle.linalg.specs.declared.pose.Pose.{Pose}
-use Rattle.p3p_common.specs.declared.input.World.{World}
 use Rattle.p3p_common.specs.declared.input.P3pInput.{P3pInput}
 use Rattle.p3p_common.specs.declared.project_to_rotation.Projection.{Projection}
 use Rattle.p3p_common.specs.declared.project_to_rotation.Projection.the-variants.{Rotation, Refused}

@@ -1,4 +1,5 @@
 -- The definitions that the contracts of this crate cite, in the order of a solve, and the relations of the scaling rule between two runs.
+pub mod Literal
 pub mod Input
 pub mod RefineDepths
 pub mod WorldBasisInverse
@@ -11,3 +12,4 @@ pub mod Gate
 pub mod Slots
 pub mod PushPose
 pub mod PoseScaling
+pub mod Cases

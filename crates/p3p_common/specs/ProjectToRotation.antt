@@ -1,5 +1,4 @@
 -- project_to_rotation of pose/p3p/common.rs: modified Gram-Schmidt on the first two columns, their cross product for the third.
-use mathlib.Core.Bool.{Bool}
 use lib.Ieee.{le}
 use Rattle.ieee754.specs.Literal.{epsilon}
 use Rattle.ieee754.specs.Traced.{Traced, pure, _>>=_, if_then_else_, !_, √_}

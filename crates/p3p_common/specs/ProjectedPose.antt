@@ -5,8 +5,6 @@ use Rattle.linalg.specs.Vectors.{vecAdd}
 use Rattle.linalg.specs.Matrices.{matVec}
 use Rattle.linalg.specs.declared.vector3.Vector3.{Vector3}
 use Rattle.linalg.specs.declared.matrix3.Matrix3.{Matrix3}
-use Rattle.p3p_common.specs.declared.input.World.{World}
-use Rattle.p3p_common.specs.declared.input.Bearings.{Bearings}
 use Rattle.p3p_common.specs.declared.input.P3pInput.{P3pInput}
 use Rattle.p3p_common.specs.RayFits.{rayFits}
 

@@ -1,6 +1,6 @@
 -- refine_depths of pose/p3p/common.rs; document 01, module 4. The test of the residual comes before each update, and none follows the last. The updates are counted.
 use Prim.Native.Nat.{ℕ, zero, suc, _+_}
-use mathlib.Core.Bool.{Bool, not, _||_}
+use mathlib.Core.Bool.{not, _||_}
 use lib.Ieee.{Float, lt, eq}
 use lib.Ieee.Scale.{finite}
 use Rattle.ieee754.specs.Literal.{num}
@@ -13,16 +13,7 @@ use Rattle.p3p_common.specs.declared.refine_depths.Cosines.{Cosines}
 use Rattle.p3p_common.specs.declared.refine_depths.Refined.{Refined}
 use Rattle.p3p_common.specs.declared.refine_depths.Step.{Step}
 use Rattle.p3p_common.specs.declared.refine_depths.Step.the-variants.{Next, Stop}
-
--- the literals 1e-10, 0.5 and 2.0
-abbrev pub residualFactor : Float
-residualFactor = num 0x3ddb_7cdf_d9d7_bdbb
-
-abbrev pub half : Float
-half = num 0x3fe0_0000_0000_0000
-
-abbrev pub two : Float
-two = num 0x4000_0000_0000_0000
+use Rattle.p3p_common.specs.Literal.{half, two, ten⁻¹⁰}
 
 -- d0 * d0 - 2.0 * d0 * d1 * m01 + d1 * d1 - a01,
 -- d0 * d0 - 2.0 * d0 * d2 * m02 + d2 * d2 - a02,
@@ -86,5 +77,5 @@ refineTurns (suc n) depths squaredEdges bearingCosines residualTolerance updates
 unfoldable pub refineDepths : Vector3 → SquaredEdges → Cosines → ℕ → Traced Refined
 refineDepths depths squaredEdges bearingCosines iterations = do
   -- let residual_tolerance = 1e-10 * a01.max(a02).max(a12);
-  residualTolerance ← ! residualFactor ⊗ ! max (max (squaredEdges .a01) (squaredEdges .a02)) (squaredEdges .a12)
+  residualTolerance ← ! ten⁻¹⁰ ⊗ ! max (max (squaredEdges .a01) (squaredEdges .a02)) (squaredEdges .a12)
   refineTurns iterations depths squaredEdges bearingCosines residualTolerance 0

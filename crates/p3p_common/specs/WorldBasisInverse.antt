@@ -2,7 +2,7 @@
 use mathlib.Core.Bool.{Bool, true}
 use lib.Ieee.{Float, le}
 use lib.Ieee.Scale.{finite}
-use Rattle.ieee754.specs.Literal.{num, epsilon}
+use Rattle.ieee754.specs.Literal.{epsilon}
 use Rattle.ieee754.specs.Maximum.{max}
 use Rattle.ieee754.specs.Traced.{Traced, pure, _>>=_, if_then_else_, _⊗_, _⊘_, !_}
 use Rattle.linalg.specs.Vectors.{normSquared, cross, vecMul}
@@ -11,15 +11,12 @@ use Rattle.linalg.specs.declared.vector3.Vector3.{Vector3}
 use Rattle.linalg.specs.declared.matrix3.Matrix3.{Matrix3}
 use Rattle.p3p_common.specs.declared.world_basis_inverse.Basis.{Basis}
 use Rattle.p3p_common.specs.declared.world_basis_inverse.Basis.the-variants.{Inverse, Singular}
+use Rattle.p3p_common.specs.Literal.{one, sixtyFour}
 
--- the literals 1.0 and 64.0
-abbrev pub one : Float
-one = num 0x3ff0_0000_0000_0000
-
-abbrev pub sixtyFour : Float
-sixtyFour = num 0x4050_0000_0000_0000
-
--- from `let inverse_determinant = determinant.recip();` to the rows
+-- let inverse_determinant = determinant.recip();
+-- let dual_first = second_edge.cross(&normal) * inverse_determinant;
+-- let dual_second = normal.cross(&first_edge) * inverse_determinant;
+-- let dual_normal = normal * inverse_determinant;
 unfoldable pub dualBasis : Vector3 → Vector3 → Vector3 → Float → Traced Matrix3
 dualBasis firstEdge secondEdge normal determinant = do
   inverseDeterminant ← ! one ⊘ ! determinant
@@ -38,6 +35,7 @@ isSingular determinant geometryScaleSquared =
       pure (le determinant limit))
     else pure true
 
+-- the larger of the two squared lengths is the geometry's scale squared
 unfoldable pub worldBasisInverse : Vector3 → Vector3 → Traced Basis
 worldBasisInverse firstEdge secondEdge = do
   normal ← cross firstEdge secondEdge

@@ -29,7 +29,7 @@ impl Counts {
 
 /// Labels of places, which have no false side.
 pub fn is_place(label: &str) -> bool {
-    PLACES.contains(&label)
+    PLACES.contains(&label) || reach::LISTED.contains(&label)
 }
 
 const PLACES: &[&str] = &[
@@ -52,11 +52,18 @@ enum By {
     Search,
 }
 
-const BOUNDED: &str = "the leading coefficient is above 2^-46 of the largest, so b, c and d are below 2^46 in magnitude";
-const PRODUCTS: &str = "cubic2 holds a02 (2 a01 + a02), and a coefficient that is not finite has ended the solve before";
+const BOUNDED: &str =
+    "the leading coefficient is above 2^-46 of the largest, so b, c and d are below 2^46 in magnitude";
+const PRODUCTS: &str =
+    "cubic2 holds a02 (2 a01 + a02), and a coefficient that is not finite has ended the solve before";
 
 const UNREACHABLE: &[(&str, bool, By, &str)] = &[
-    ("quadratic: q zero", true, By::Any, "the discriminant is above zero, so its root is at least 2^-537 and has b's sign"),
+    (
+        "quadratic: q zero",
+        true,
+        By::Any,
+        "the discriminant is above zero, so its root is at least 2^-537 and has b's sign",
+    ),
     ("fast_cbrt: zero", true, By::Frame, "the argument is at least the root of a discriminant above zero"),
     ("fast_cbrt: not finite", true, By::Frame, BOUNDED),
     ("fast_cbrt: subnormal", true, By::Frame, "the root of a discriminant above zero is at least 2^-537"),
@@ -66,23 +73,73 @@ const UNREACHABLE: &[(&str, bool, By, &str)] = &[
     ("cubic_variable_scale: b large", true, By::Frame, BOUNDED),
     ("cubic_variable_scale: c large", true, By::Frame, BOUNDED),
     ("cubic_variable_scale: d large", true, By::Frame, BOUNDED),
-    ("cubic: d not finite", true, By::Frame, "what makes cubic0 not a number (a01 a01 s12, a12 s01) stands in cubic1 too"),
+    (
+        "cubic: d not finite",
+        true,
+        By::Frame,
+        "what makes cubic0 not a number (a01 a01 s12, a12 s01) stands in cubic1 too",
+    ),
     ("cubic: value not finite", true, By::Frame, BOUNDED),
-    ("cubic: derivative not finite", true, By::Any, "where the value is finite the root is below 1e60 in magnitude, b at most 1e50 and c at most 1e100"),
-    ("cubic: candidate not finite", true, By::Search, "a derivative below 2^-1024 of the value, which the start (at a simple root, or off the turning point by the root of a rounding error) does not give"),
+    (
+        "cubic: derivative not finite",
+        true,
+        By::Any,
+        "where the value is finite the root is below 1e60 in magnitude, b at most 1e50 and c at most 1e100",
+    ),
+    (
+        "cubic: candidate not finite",
+        true,
+        By::Search,
+        "a derivative below 2^-1024 of the value, which the start (at a simple root, or off the turning point by the root of a rounding error) does not give",
+    ),
     ("cubic: root finite", false, By::Frame, BOUNDED),
     ("world_basis_inverse: determinant not finite", true, By::Frame, PRODUCTS),
-    ("eig: entry not finite", true, By::Frame, "squared edges are below 2^512 and the cubic's root below 2^47 in magnitude"),
-    ("eig: first eigenvalue zero", true, By::Frame, "a frame's matrix is symmetric: with trace and pair coefficient zero it is all but zero, and the row crosses have refused it"),
-    ("eigenvector: denominator not finite", true, By::Frame, "a frame's matrix is symmetric: an eigenvalue of 2^511 or more makes the row crosses overflow, which refuses it"),
-    ("solve_ordered: ratio not finite", true, By::Any, "both eigenvalues are finite and not zero, the second the smaller"),
-    ("first chart: denominator not finite", true, By::Any, "eigenvector entries are at most one and squared edges below 2^512"),
+    (
+        "eig: entry not finite",
+        true,
+        By::Frame,
+        "squared edges are below 2^512 and the cubic's root below 2^47 in magnitude",
+    ),
+    (
+        "eig: first eigenvalue zero",
+        true,
+        By::Frame,
+        "a frame's matrix is symmetric: with trace and pair coefficient zero it is all but zero, and the row crosses have refused it",
+    ),
+    (
+        "eigenvector: denominator not finite",
+        true,
+        By::Frame,
+        "a frame's matrix is symmetric: an eigenvalue of 2^511 or more makes the row crosses overflow, which refuses it",
+    ),
+    (
+        "solve_ordered: ratio not finite",
+        true,
+        By::Any,
+        "both eigenvalues are finite and not zero, the second the smaller",
+    ),
+    (
+        "first chart: denominator not finite",
+        true,
+        By::Any,
+        "eigenvector entries are at most one and squared edges below 2^512",
+    ),
     ("first chart: room", false, By::Any, "two signs with two roots each"),
     ("second chart: room", false, By::Any, "two signs with two roots each"),
     ("second chart: u0 not finite", true, By::Any, "eigenvectors are finite, their entries at most one"),
-    ("solve_ordered: refined depth not finite", true, By::Search, "refine_depths keeps no candidate that is not finite, so the first chart's quotient by u1 would have to overflow"),
+    (
+        "solve_ordered: refined depth not finite",
+        true,
+        By::Search,
+        "refine_depths keeps no candidate that is not finite, so the first chart's quotient by u1 would have to overflow",
+    ),
     ("retry: no permutation", true, By::Any, "the first of the five is always taken"),
-    ("retry: condition a NaN", true, By::Search, "cubic3 of the first permutation would be a NaN beside a finite coefficient, and the given ordering was usable then"),
+    (
+        "retry: condition a NaN",
+        true,
+        By::Search,
+        "cubic3 of the first permutation would be a NaN beside a finite coefficient, and the given ordering was usable then",
+    ),
 ];
 
 pub fn print(folder: &Path) -> Result<(), String> {
@@ -104,7 +161,7 @@ pub fn print(folder: &Path) -> Result<(), String> {
     println!("| test | frames: yes | frames: no | all vectors: yes | all vectors: no | |");
     println!("|---|---:|---:|---:|---:|---|");
     let mut missing = 0;
-    for &label in reach::LABELS {
+    for &label in reach::LABELS.iter().chain(&reach::LISTED) {
         let mut notes = Vec::new();
         let outcomes: &[bool] = if is_place(label) { &[true] } else { &[true, false] };
         for &outcome in outcomes {
@@ -135,7 +192,11 @@ pub fn print(folder: &Path) -> Result<(), String> {
         };
         println!(
             "| {label} | {} | {} | {} | {} | {} |",
-            count(&frames, true), count(&frames, false), count(&all, true), count(&all, false), notes.join(". ")
+            count(&frames, true),
+            count(&frames, false),
+            count(&all, true),
+            count(&all, false),
+            notes.join(". ")
         );
     }
     println!("\nOutcomes neither reached nor named as unreachable: {missing}");

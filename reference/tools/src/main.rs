@@ -5,6 +5,7 @@ mod check;
 mod choice;
 mod coverage;
 mod frames;
+mod orders;
 mod pieces;
 #[cfg(port)]
 mod port;
@@ -19,6 +20,7 @@ const USAGE: &str = "\
 reference check FILE..           both copies over vectors written as text, every answer required
 reference vectors FOLDER         write the stored vectors
 reference coverage FOLDER        which branches of the Rust the stored vectors reach
+reference orders                 nalgebra's orders of operations, with a witness for each
 reference beside [COUNT [SEED]]  the port and both copies on the same random inputs
 reference search FUNCTION N SEED COUNT | FILE
                                  inputs that reach what fewer than N stored ones reach";
@@ -31,6 +33,7 @@ fn main() {
         ["check", ..] => check::run(&arguments[1..]),
         ["vectors", folder] => vectors::write(Path::new(folder)),
         ["coverage", folder] => coverage::print(Path::new(folder)),
+        ["orders"] => orders::print(vectors::SEED),
         ["beside"] => beside::run(100_000, vectors::SEED),
         ["beside", count] => number(count).and_then(|count| beside::run(count, vectors::SEED)),
         ["beside", count, seed] => {

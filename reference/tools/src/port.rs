@@ -71,8 +71,7 @@ fn result(number: u32, roots: &[f64]) -> Vec<u64> {
 /// The number and the best, from 1.
 fn choose(poses: &[f64; 48], count: u32, target: &[f64; 3], bearing: &[f64; 3]) -> (u32, u64) {
     let mut best = LENT_WHOLE;
-    let number =
-        unsafe { p3p_choose(poses.as_ptr(), count, target.as_ptr(), bearing.as_ptr(), &mut best) };
+    let number = unsafe { p3p_choose(poses.as_ptr(), count, target.as_ptr(), bearing.as_ptr(), &mut best) };
     match number {
         0 => (0, best as u64),
         _ => (number, if best == LENT_WHOLE { 0 } else { WROTE }),
@@ -81,12 +80,10 @@ fn choose(poses: &[f64; 48], count: u32, target: &[f64; 3], bearing: &[f64; 3]) 
 
 fn frame(input: &[f64; 24]) -> Vec<u64> {
     let (mut poses, mut updates, mut count) = ([LENT; 48], [LENT_WHOLE; 4], LENT_WHOLE);
-    let number =
-        unsafe { p3p_solve(input.as_ptr(), poses.as_mut_ptr(), updates.as_mut_ptr(), &mut count) };
+    let number = unsafe { p3p_solve(input.as_ptr(), poses.as_mut_ptr(), updates.as_mut_ptr(), &mut count) };
     if number != 0 {
-        let kept = poses.iter().all(|x| x.to_bits() == LENT.to_bits())
-            && updates == [LENT_WHOLE; 4]
-            && count == LENT_WHOLE;
+        let kept =
+            poses.iter().all(|x| x.to_bits() == LENT.to_bits()) && updates == [LENT_WHOLE; 4] && count == LENT_WHOLE;
         let mut words = vec![0; 55];
         (words[0], words[1]) = (number as u64, if kept { 0 } else { WROTE });
         return words;

@@ -7,11 +7,7 @@ pub type Vector = [f64; 3];
 
 /// 2^k for any k from -1074 to 1023.
 pub fn power(k: i64) -> f64 {
-    if k < -1022 {
-        f64::from_bits(1 << (k + 1074))
-    } else {
-        f64::from_bits(((k + 1023) as u64) << 52)
-    }
+    if k < -1022 { f64::from_bits(1 << (k + 1074)) } else { f64::from_bits(((k + 1023) as u64) << 52) }
 }
 
 /// x moved by a number of places among the doubles (x finite and not near zero).
@@ -114,9 +110,22 @@ impl Random {
     /// Numbers at the edges of the format.
     pub fn special(&mut self) -> f64 {
         let x = self.pick(&[
-            0.0, 1.0, 2.0, 0.5, 3.0, f64::MIN_POSITIVE, f64::MAX, f64::from_bits(1),
-            f64::from_bits(0x000f_ffff_ffff_ffff), f64::EPSILON, 1.0 + f64::EPSILON,
-            1.0 - f64::EPSILON / 2.0, f64::INFINITY, f64::NAN, 1e154, 1e-154,
+            0.0,
+            1.0,
+            2.0,
+            0.5,
+            3.0,
+            f64::MIN_POSITIVE,
+            f64::MAX,
+            f64::from_bits(1),
+            f64::from_bits(0x000f_ffff_ffff_ffff),
+            f64::EPSILON,
+            1.0 + f64::EPSILON,
+            1.0 - f64::EPSILON / 2.0,
+            f64::INFINITY,
+            f64::NAN,
+            1e154,
+            1e-154,
         ]);
         x * self.sign()
     }

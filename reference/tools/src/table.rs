@@ -58,7 +58,7 @@ fn found<const N: usize>(answer: Option<[f64; N]>) -> Vec<u64> {
 }
 
 macro_rules! answers {
-    ($module:ident, $copy:ident, $cbrt:expr, $max:expr, $order:expr) => {
+    ($module:ident, $copy:ident, $cbrt:expr, $max:expr, $order:expr, $sign:expr) => {
         pub mod $module {
             use super::*;
 
@@ -92,7 +92,10 @@ macro_rules! answers {
                     "fast_cbrt" => vec![word($copy::fast_cbrt(d(0)))],
                     "refine" => {
                         let (updates, depths) = $copy::refine(
-                            doubles(input), doubles(&input[3..]), doubles(&input[6..]), input[9] as usize,
+                            doubles(input),
+                            doubles(&input[3..]),
+                            doubles(&input[6..]),
+                            input[9] as usize,
                         );
                         [vec![updates as u64], depths.map(word).to_vec()].concat()
                     }
@@ -100,9 +103,9 @@ macro_rules! answers {
                     "near" => vec![$copy::near(&doubles(input)) as u64],
                     "project" => found($copy::project(&doubles(input))),
                     "basis" => found($copy::basis(&doubles(input), &doubles(&input[3..]))),
-                    "edges" => $copy::edges(&doubles(input), &doubles(&input[3..]), &doubles(&input[6..]))
-                        .map(word)
-                        .to_vec(),
+                    "edges" => {
+                        $copy::edges(&doubles(input), &doubles(&input[3..]), &doubles(&input[6..])).map(word).to_vec()
+                    }
                     "eig" => match $copy::eig(&doubles(input)) {
                         Some((vectors, values)) => {
                             [vec![1], vectors.map(word).to_vec(), values.map(word).to_vec()].concat()
@@ -122,7 +125,7 @@ macro_rules! answers {
                     "sqrt" => vec![word(d(0).sqrt())],
                     "cbrt" => vec![word($cbrt(d(0)))],
                     "fma" => vec![word(d(0).mul_add(d(1), d(2)))],
-                    "copysign" => vec![word(d(0).copysign(d(1)))],
+                    "copysign" => vec![word(d(0).copysign($sign(d(1))))],
                     "max" => vec![word($max(d(0), d(1)))],
                     "clamp" => vec![word(d(0).clamp(d(1), d(2)))],
                     "totalorder" => vec![$order(&d(0), &d(1)) as i64 as u64],
@@ -133,12 +136,26 @@ macro_rules! answers {
     };
 }
 
-answers!(asis, copy_asis, f64::cbrt, f64::max, f64::total_cmp);
+/// The sign of a NaN is open; where a single operation shows it, it is plus here. No solve
+/// reaches that.
+fn plus_if_nan(x: f64) -> f64 {
+    if x.is_nan() { 1.0 } else { x }
+}
+
+answers!(asis, copy_asis, f64::cbrt, f64::max, f64::total_cmp, f64::from);
 answers!(
-    second, copy_second, copy_second::listed::Listed::listed_cbrt,
-    copy_second::listed::Listed::listed_max, copy_second::listed::Listed::listed_total_cmp
+    second,
+    copy_second,
+    copy_second::listed::Listed::listed_cbrt,
+    copy_second::listed::Listed::listed_max,
+    copy_second::listed::Listed::listed_total_cmp,
+    plus_if_nan
 );
 answers!(
-    counted, copy_counted, copy_counted::listed::Listed::listed_cbrt,
-    copy_counted::listed::Listed::listed_max, copy_counted::listed::Listed::listed_total_cmp
+    counted,
+    copy_counted,
+    copy_counted::listed::Listed::listed_cbrt,
+    copy_counted::listed::Listed::listed_max,
+    copy_counted::listed::Listed::listed_total_cmp,
+    plus_if_nan
 );

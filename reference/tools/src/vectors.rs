@@ -3,7 +3,7 @@
 use crate::coverage::Counts;
 use crate::frames::{self, Frame};
 use crate::pieces;
-use crate::random::Random;
+use crate::random::{Random, power};
 use crate::stored;
 use crate::table::{self, FUNCTIONS};
 use std::path::Path;
@@ -94,13 +94,36 @@ pub fn write(folder: &Path) -> Result<(), String> {
             .count();
         println!(
             "{}.bin: {} records, {size} bytes; the unchanged copy differs on {differ}{}",
-            function.name, records.len(), summary(function.name, &records)
+            function.name,
+            records.len(),
+            summary(function.name, &records)
         );
         total += size;
     }
     println!("{total} bytes in all");
+    println!("scaled frames: {}, each answer exactly scaled", scaled_exactly()?);
     kinds();
     Ok(())
+}
+
+/// Requires of each scaled frame the answer of its frame, the translation times 2^k.
+fn scaled_exactly() -> Result<usize, String> {
+    let mut count = 0;
+    let list = frames();
+    for group in list.chunks(1 + POWERS.len()).take_while(|group| group[1].0.ends_with(", scaled")) {
+        let (answer, best) = table::second::frame(&group[0].1);
+        for (k, (_, frame)) in POWERS.into_iter().zip(&group[1..]) {
+            let mut expected = answer;
+            for pose in &mut expected.poses[..answer.count] {
+                pose[9..].iter_mut().for_each(|x| *x *= power(k));
+            }
+            if table::second::frame(frame) != (expected, best) {
+                return Err(format!("not scaled by 2^{k}: {frame:?}"));
+            }
+            count += 1;
+        }
+    }
+    Ok(count)
 }
 
 /// What the answers are, in a few words.

@@ -3,7 +3,7 @@ use borrow.Author.Needs.{needs}
 use native.Mathlib.Nat.{sub-zero}
 use native.Mathlib.Omega.{arith}
 use Prim.Native.Nat.{_-_, _≤_}
-use mathlib.Core.Path.{_≡_, refl, sym, _∙_}
+use mathlib.Core.Path.{_≡_, sym, _∙_}
 use Rattle.p3p_common.specs.RefineDepths.{refineTurns, refineDepths}
 use Rattle.p3p_common.proofs.Turns.{turns-stop, turns-go, turns-end}
 use Rattle.p3p_common.proofs.refine_depths.refine_depths.Statement.{statement}

@@ -1,0 +1,167 @@
+-- The charts: their quadratics have their coefficients at degree 0, and the depth candidates are at degree 1, as many in both runs. Assumes nothing.
+use mathlib.Core.Path.{_≡_, refl, ap, ap₂, subst}
+use mathlib.Core.Bool.{Bool, not, _||_}
+use mathlib.Core.List.{List, [], _∷_}
+use Prim.Native.Nat.{ℕ, zero, suc, _+_}
+use lib.Dec.{ltb}
+use lib.ListN.{set}
+use lib.IntN.{ℤ, pos}
+use lib.Ieee.{Float, neg, lt}
+use Rattle.ieee754.specs.Magnitude.{abs}
+use Rattle.ieee754.specs.Traced.{Traced}
+use Rattle.ieee754.specs.Scaling.{Both, At}
+use Rattle.ieee754.proofs.Degrees.{same, null, !_, ⊝_, √_, _⊗_, _⊘_, _⊕_, _⊖_, pure, _>>=_, _>>≡_, if_then_else_, choose, lt-same, le-same, eq-same, finite-same, alike}
+use Rattle.linalg.specs.declared.vector3.Vector3.{Vector3}
+use Rattle.linalg.specs.declared.matrix3.Matrix3.{Matrix3}
+use Rattle.linalg.specs.Vectors.{vecSub, vecMul}
+use Rattle.linalg.specs.Matrices.{column0, column1}
+use Rattle.linalg.specs.VectorScaling.{AtVector}
+use Rattle.linalg.proofs.VectorDegrees.{null-vector}
+use Rattle.p3p_common.specs.declared.refine_depths.SquaredEdges.{SquaredEdges}
+use Rattle.p3p_common.specs.PoseScaling.{AtEdges}
+use Rattle.polynomial.specs.declared.Roots.{Roots}
+use Rattle.polynomial.specs.RootScaling.{AtRoots, two-at, one-at, refused-at}
+use Rattle.polynomial.proofs.QuadraticScaling.{quadratic-scales}
+use Rattle.lambdatwist.specs.Literal.{one, two}
+use Rattle.lambdatwist.specs.DepthSlots.{noCandidates, pushIfPositive}
+use Rattle.lambdatwist.specs.Charts.{forRoots, noDivisor, firstTurn, firstChart, secondTurn, weightChart, secondChart, chart}
+use Rattle.lambdatwist.specs.Poses.{signTurn, candidates}
+use Rattle.lambdatwist.specs.declared.angles.Factors.{Factors}
+use Rattle.lambdatwist.specs.declared.candidates.Candidates.{Candidates}
+use Rattle.lambdatwist.proofs.Equal.{equal}
+
+pub data AtVectors (k : ℤ) : List Vector3 → List Vector3 → Type 0 where
+  no-vectors : AtVectors k [] []
+  more-vectors : {v v' : Vector3} {vs vs' : List Vector3} → AtVector k (pos 1) v v' → AtVectors k vs vs' → AtVectors k (v ∷ vs) (v' ∷ vs')
+
+pub record AtCandidates (k : ℤ) (c c' : Candidates) : Type 0 where
+  pub count : c .count ≡ c' .count
+  pub depths : AtVectors k (c .depths) (c' .depths)
+
+module _ {k : ℤ} where
+  -- ---- the slots
+  noCandidates-at : AtCandidates k noCandidates noCandidates
+  unfolding noCandidates
+  noCandidates-at = record { count = refl; depths = more-vectors null-vector (more-vectors null-vector (more-vectors null-vector (more-vectors null-vector no-vectors))) }
+
+  set-at : (i : ℕ) {vs vs' : List Vector3} {v v' : Vector3} → AtVectors k vs vs' → AtVector k (pos 1) v v' → AtVectors k (set vs i v) (set vs' i v')
+  set-at i no-vectors h = no-vectors
+  set-at zero (more-vectors w ws) h = more-vectors h ws
+  set-at (suc i) (more-vectors w ws) h = more-vectors w (set-at i ws h)
+
+  pushIfPositive-at : {c c' : Candidates} {d d' : Float} {v v' : Vector3} → AtCandidates k c c' → At k (pos 1) d d' → AtVector k (pos 1) v v' → AtCandidates k (pushIfPositive c d v) (pushIfPositive c' d' v')
+  unfolding pushIfPositive
+  pushIfPositive-at {c} {c'} {v = v} {v'} found depth depths =
+      choose (AtCandidates k) (lt-same null depth)
+      (choose (AtCandidates k) (ap (λ (n : ℕ). ltb n 4) (found .count))
+      (record {
+        count = ap (λ (n : ℕ). n + 1) (found .count);
+        depths = subst (λ (n : ℕ). AtVectors k (set (c .depths) (c .count) v) (set (c' .depths) n v')) (found .count) (set-at (c .count) (found .depths) depths);
+      })
+      found)
+      found
+
+  forRoots-scales : {r r' : Roots} {turn turn' : Candidates → Float → Traced Candidates} {c c' : Candidates} → AtRoots k (pos 0) r r'
+      → ((c c' : Candidates) (t t' : Float) → AtCandidates k c c' → At k (pos 0) t t' → Both (AtCandidates k) (turn c t) (turn' c' t')) → AtCandidates k c c' → Both (AtCandidates k) (forRoots r turn c) (forRoots r' turn' c')
+  unfolding forRoots
+  forRoots-scales (two-at first second) turn found = turn _ _ _ _ found first >>= λ _ _ once. turn _ _ _ _ once second
+  forRoots-scales (one-at root) turn found = pure found
+  forRoots-scales (refused-at number) turn found = pure found
+
+  noDivisor-same : {n : ℤ} {d d' : Float} → At k n d d' → noDivisor d ≡ noDivisor d'
+  unfolding noDivisor
+  noDivisor-same d = ap₂ (λ (a b : Bool). a || not b) (eq-same d null) (finite-same d)
+
+  module _ {e e' : SquaredEdges} (b : Factors) (E : AtEdges k e e') where
+    -- ---- the chart for u0.abs() < u1.abs()
+    module _ (nullVector : Vector3) where
+      firstTurn-scales : (c c' : Candidates) (t t' : Float) → AtCandidates k c c' → At k (pos 0) t t' → Both (AtCandidates k) (firstTurn e b nullVector c t) (firstTurn e' b nullVector c' t')
+      unfolding firstTurn
+      firstTurn-scales _ _ _ _ found tau =
+          let u0 = same (nullVector .x) in
+          let u1 = same (nullVector .y) in
+          let u2 = same (nullVector .z) in
+          ! tau ⊗ (! tau ⊕ ! same (b .b02)) ⊕ ! same one >>= λ _ _ depthDenominator.
+          if ap₂ _||_ (le-same tau null) (le-same depthDenominator null) then pure found
+          else (
+          √_ {n = pos 1} (! (E .a02) ⊘ ! depthDenominator) >>= λ _ _ depth0.
+          ! tau ⊗ ! depth0 >>= λ _ _ depth2.
+          ⊝ (! u0 ⊗ ! depth0 ⊕ ! u2 ⊗ ! depth2) ⊘ ! u1 >>= λ _ _ depth1.
+          pure (pushIfPositive-at found depth1 (record { x = depth0; y = depth1; z = depth2 })))
+
+      firstChart-scales : {c c' : Candidates} → AtCandidates k c c' → Both (AtCandidates k) (firstChart e b nullVector c) (firstChart e' b nullVector c')
+      unfolding firstChart
+      firstChart-scales found =
+          let a01 = E .a01 in
+          let a12 = E .a12 in
+          let b01 = same (b .b01) in
+          let b12 = same (b .b12) in
+          let u0 = same (nullVector .x) in
+          let u1 = same (nullVector .y) in
+          let u2 = same (nullVector .z) in
+          (! a12 ⊖ ! a01) ⊗ ! u2 ⊗ ! u2 ⊖ ! a01 ⊗ ! u1 ⊗ ! u1 ⊕ ! a01 ⊗ ! b12 ⊗ ! u1 ⊗ ! u2 >>= λ _ _ denominator.
+          if noDivisor-same denominator then pure found
+          else (
+          (! same two ⊗ (! a12 ⊖ ! a01) ⊗ ! u0 ⊗ ! u2 ⊕ ! a01 ⊗ ! b12 ⊗ ! u0 ⊗ ! u1 ⊖ ! a12 ⊗ ! b01 ⊗ ! u1 ⊗ ! u2) ⊘ ! denominator >>= λ _ _ quadraticB.
+          ((! a12 ⊖ ! a01) ⊗ ! u0 ⊗ ! u0 ⊕ ! a12 ⊗ ! u1 ⊗ ! u1 ⊖ ! a12 ⊗ ! b01 ⊗ ! u0 ⊗ ! u1) ⊘ ! denominator >>= λ _ _ quadraticC.
+          quadratic-scales quadraticB quadraticC >>= λ _ _ roots.
+          forRoots-scales roots firstTurn-scales found)
+
+    -- ---- the other chart
+    module _ (w0 w1 : Float) where
+      secondTurn-scales : (c c' : Candidates) (t t' : Float) → AtCandidates k c c' → At k (pos 0) t t' → Both (AtCandidates k) (secondTurn e b w0 w1 c t) (secondTurn e' b w0 w1 c' t')
+      unfolding secondTurn
+      secondTurn-scales _ _ _ _ found tau =
+          ! tau ⊗ (! same (b .b12) ⊕ ! tau) ⊕ ! same one >>= λ _ _ depthDenominator.
+          if ap₂ _||_ (le-same tau null) (le-same depthDenominator null) then pure found
+          else (
+          √_ {n = pos 1} (! (E .a12) ⊘ ! depthDenominator) >>= λ _ _ depth1.
+          ! tau ⊗ ! depth1 >>= λ _ _ depth2.
+          ! same w0 ⊗ ! depth1 ⊕ ! same w1 ⊗ ! depth2 >>= λ _ _ depth0.
+          pure (pushIfPositive-at found depth0 (record { x = depth0; y = depth1; z = depth2 })))
+
+      weightChart-scales : {c c' : Candidates} → AtCandidates k c c' → Both (AtCandidates k) (weightChart e b w0 w1 c) (weightChart e' b w0 w1 c')
+      unfolding weightChart
+      weightChart-scales found =
+          let a01 = E .a01 in
+          let a02 = E .a02 in
+          let b01 = same (b .b01) in
+          let b02 = same (b .b02) in
+          let W0 = same w0 in
+          let W1 = same w1 in
+          (! a02 ⊖ ! a01) ⊗ ! W1 ⊗ ! W1 ⊖ ! a01 ⊗ ! b02 ⊗ ! W1 ⊖ ! a01 >>= λ _ _ denominator.
+          if noDivisor-same denominator then pure found
+          else (
+          (! a02 ⊗ ! b01 ⊗ ! W1 ⊖ ! a01 ⊗ ! b02 ⊗ ! W0 ⊖ ! same two ⊗ ! W0 ⊗ ! W1 ⊗ (! a01 ⊖ ! a02)) ⊘ ! denominator >>= λ _ _ quadraticB.
+          ((! a02 ⊖ ! a01) ⊗ ! W0 ⊗ ! W0 ⊕ ! a02 ⊗ ! b01 ⊗ ! W0 ⊕ ! a02) ⊘ ! denominator >>= λ _ _ quadraticC.
+          quadratic-scales quadraticB quadraticC >>= λ _ _ roots.
+          forRoots-scales roots secondTurn-scales found)
+
+    module _ (nullVector : Vector3) where
+      secondChart-scales : {c c' : Candidates} → AtCandidates k c c' → Both (AtCandidates k) (secondChart e b nullVector c) (secondChart e' b nullVector c')
+      unfolding secondChart
+      secondChart-scales found =
+          if refl {a = noDivisor (nullVector .x)} then pure found
+          else (
+          equal {k = k} (⊝ (! same one ⊘ ! same (nullVector .x))) >>≡ λ inverse.
+          equal {k = k} (! same (nullVector .y) ⊗ ! same inverse) >>≡ λ w0.
+          equal {k = k} (! same (nullVector .z) ⊗ ! same inverse) >>≡ λ w1.
+          weightChart-scales w0 w1 found)
+
+      chart-scales : {c c' : Candidates} → AtCandidates k c c' → Both (AtCandidates k) (chart e b nullVector c) (chart e' b nullVector c')
+      unfolding chart
+      chart-scales found = if refl {a = lt (abs (nullVector .x)) (abs (nullVector .y))} then firstChart-scales nullVector found else secondChart-scales found
+
+    -- ---- either sign of the ratio
+    signTurn-scales : (eigenvectors : Matrix3) (sign : Float) {c c' : Candidates} → AtCandidates k c c' → Both (AtCandidates k) (signTurn e b eigenvectors sign c) (signTurn e' b eigenvectors sign c')
+    unfolding signTurn
+    signTurn-scales eigenvectors sign found =
+        alike {m = vecMul (column1 eigenvectors) sign} >>≡ λ scaled.
+        alike {m = vecSub (column0 eigenvectors) scaled} >>≡ λ nullVector.
+        chart-scales nullVector found
+
+    pub candidates-scales : (eigenvectors : Matrix3) (ratio : Float) → Both (AtCandidates k) (candidates e b eigenvectors ratio) (candidates e' b eigenvectors ratio)
+    unfolding candidates
+    candidates-scales eigenvectors ratio =
+        signTurn-scales eigenvectors ratio noCandidates-at >>= λ _ _ once.
+        signTurn-scales eigenvectors (neg ratio) once

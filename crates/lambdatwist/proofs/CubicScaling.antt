@@ -1,0 +1,79 @@
+-- The cubic's coefficients are at degree 4, so whether an ordering is usable, and its condition, are the same in the two runs. Assumes nothing.
+use mathlib.Core.Path.{_≡_, refl}
+use mathlib.Core.Bool.{Bool}
+use lib.IntN.{ℤ, pos}
+use lib.Ieee.{Float}
+use Rattle.ieee754.specs.Literal.{epsilon}
+use Rattle.ieee754.specs.Scaling.{Both, At, Scales}
+use Rattle.ieee754.proofs.Degrees.{same, null, !_, _⊗_, _⊘_, _⊕_, _⊖_, pure, _>>=_, _>>≡_, if_then_else_, abs-at, max-at, le-same, eq-same, finite-same, alike}
+use Rattle.p3p_common.specs.declared.input.World.{World}
+use Rattle.p3p_common.specs.declared.input.Bearings.{Bearings}
+use Rattle.p3p_common.specs.declared.refine_depths.SquaredEdges.{SquaredEdges}
+use Rattle.p3p_common.specs.PoseScaling.{AtWorld, AtEdges}
+use Rattle.lambdatwist.specs.Literal.{two, sixtyFour}
+use Rattle.lambdatwist.specs.Angles.{cosines, squaredSines}
+use Rattle.lambdatwist.specs.Cubic.{cubicCoefficients, coefficientScale, isUnusable}
+use Rattle.lambdatwist.specs.Condition.{foldedScale, leadingShare, leadingCubicCondition}
+use Rattle.lambdatwist.specs.declared.angles.Sines.{Sines}
+use Rattle.lambdatwist.specs.declared.cubic.Coefficients.{Coefficients}
+use Rattle.lambdatwist.proofs.Equal.{equal}
+use Rattle.lambdatwist.proofs.EdgeScaling.{edgeVectors-scales, squaredEdges-scales}
+
+pub record AtCoefficients (k : ℤ) (c c' : Coefficients) : Type 0 where
+  pub cubic3 : At k (pos 4) (c .cubic3) (c' .cubic3)
+  pub cubic2 : At k (pos 4) (c .cubic2) (c' .cubic2)
+  pub cubic1 : At k (pos 4) (c .cubic1) (c' .cubic1)
+  pub cubic0 : At k (pos 4) (c .cubic0) (c' .cubic0)
+
+module _ {k : ℤ} where
+  pub cubicCoefficients-scales : {e e' : SquaredEdges} (angles : Sines) → AtEdges k e e' → Both (AtCoefficients k) (cubicCoefficients e angles) (cubicCoefficients e' angles)
+  unfolding cubicCoefficients
+  cubicCoefficients-scales angles e =
+      let a01 = e .a01 in
+      let a02 = e .a02 in
+      let a12 = e .a12 in
+      let triple = same (angles .triple) in
+      let s20 = same (angles .s20) in
+      let s12 = same (angles .s12) in
+      let s01 = same (angles .s01) in
+      ! a02 ⊗ (! a12 ⊗ ! s20 ⊖ ! a02 ⊗ ! s12) >>= λ _ _ cubic3.
+      ! same two ⊗ ! triple ⊗ ! a12 ⊗ ! a02 ⊕ ! a02 ⊗ (! same two ⊗ ! a01 ⊕ ! a02) ⊗ ! s12 ⊕ ! a12 ⊗ (! a12 ⊖ ! a01) ⊗ ! s20 >>= λ _ _ cubic2.
+      ! a12 ⊗ (! a02 ⊖ ! a12) ⊗ ! s01 ⊖ ! a01 ⊗ ! a01 ⊗ ! s12 ⊖ ! same two ⊗ ! a01 ⊗ (! triple ⊗ ! a12 ⊕ ! a02 ⊗ ! s12) >>= λ _ _ cubic1.
+      ! a01 ⊗ (! a01 ⊗ ! s12 ⊖ ! a12 ⊗ ! s01) >>= λ _ _ cubic0.
+      pure (record { cubic3 = cubic3; cubic2 = cubic2; cubic1 = cubic1; cubic0 = cubic0 })
+
+  coefficientScale-at : {c c' : Coefficients} → AtCoefficients k c c' → At k (pos 4) (coefficientScale c) (coefficientScale c')
+  unfolding coefficientScale
+  coefficientScale-at c = max-at (max-at (max-at (abs-at (c .cubic3)) (abs-at (c .cubic2))) (abs-at (c .cubic1))) (abs-at (c .cubic0))
+
+  pub isUnusable-same : {c c' : Coefficients} → AtCoefficients k c c' → Both {A = Bool} _≡_ (isUnusable c) (isUnusable c')
+  unfolding isUnusable
+  isUnusable-same c =
+      let scale = coefficientScale-at c in
+      if finite-same scale then (
+      ! scale ⊗ ! same epsilon ⊗ ! same sixtyFour >>= λ _ _ limit.
+      pure (le-same (abs-at (c .cubic3)) limit))
+      else pure refl
+
+  -- ---- the condition of an ordering
+  foldedScale-at : {c c' : Coefficients} → AtCoefficients k c c' → At k (pos 4) (foldedScale c) (foldedScale c')
+  unfolding foldedScale
+  foldedScale-at c = max-at (max-at (max-at (max-at null (abs-at (c .cubic3))) (abs-at (c .cubic2))) (abs-at (c .cubic1))) (abs-at (c .cubic0))
+
+  leadingShare-scales : {c c' : Coefficients} → AtCoefficients k c c' → Scales k (pos 0) (leadingShare c) (leadingShare c')
+  unfolding leadingShare
+  leadingShare-scales c =
+      let scale = foldedScale-at c in
+      if eq-same scale null then pure null
+      else if finite-same scale then ! abs-at (c .cubic3) ⊘ ! scale
+      else pure null
+
+  pub leadingCubicCondition-same : {w w' : World} (bearings : Bearings) → AtWorld k w w' → Both {A = Float} _≡_ (leadingCubicCondition w bearings) (leadingCubicCondition w' bearings)
+  unfolding leadingCubicCondition
+  leadingCubicCondition-same bearings w =
+      edgeVectors-scales w >>= λ _ _ vectors.
+      squaredEdges-scales vectors >>= λ _ _ edges.
+      alike {m = cosines bearings} >>≡ λ bearingCosines.
+      alike {m = squaredSines bearingCosines} >>≡ λ angles.
+      cubicCoefficients-scales angles edges >>= λ _ _ cubic.
+      equal (leadingShare-scales cubic)

@@ -1,0 +1,15 @@
+pub mod Equal
+pub mod SquaredLength
+pub mod EdgeScaling
+pub mod CubicScaling
+pub mod MatrixScaling
+pub mod EigenvectorScaling
+pub mod EigenvalueScaling
+pub mod SystemScaling
+pub mod ChartScaling
+pub mod PoseScaling
+pub mod PermutationScaling
+pub mod SolveScaling
+pub mod TimesPower
+pub mod FiniteTranslation
+pub mod ScalingRule

@@ -1,0 +1,94 @@
+-- From depth candidates to poses: depths at degree 1 are refined alike, and give the same rotations, with translations at degree 1. Assumes nothing.
+use mathlib.Core.Path.{_≡_, refl, ap₂, subst}
+use mathlib.Core.Bool.{Bool, not, _&&_}
+use mathlib.Core.List.{List, [], _∷_}
+use Prim.Native.Nat.{ℕ, zero, suc}
+use lib.IntN.{ℤ, pos}
+use lib.ListN.{take}
+use Rattle.ieee754.specs.Scaling.{Both}
+use Rattle.ieee754.proofs.Degrees.{null, pure, _>>=_, _>>≡_, if_then_else_, le-same}
+use Rattle.linalg.specs.declared.vector3.Vector3.{Vector3}
+use Rattle.linalg.specs.declared.matrix3.Matrix3.{Matrix3}
+use Rattle.linalg.specs.VectorScaling.{AtVector, AtRows}
+use Rattle.linalg.proofs.VectorDegrees.{same-vector, vecSub-scales, vecMul-scales, allFinite-same}
+use Rattle.linalg.proofs.MatrixDegrees.{same-matrix, columns-at, matVec-scales}
+use Rattle.p3p_common.specs.declared.input.World.{World}
+use Rattle.p3p_common.specs.declared.input.Bearings.{Bearings}
+use Rattle.p3p_common.specs.declared.input.P3pInput.{P3pInput}
+use Rattle.p3p_common.specs.declared.refine_depths.SquaredEdges.{SquaredEdges}
+use Rattle.p3p_common.specs.declared.refine_depths.Cosines.{Cosines}
+use Rattle.p3p_common.specs.declared.refine_depths.Refined.{Refined}
+use Rattle.p3p_common.specs.declared.solutions.Solutions.{Solutions}
+use Rattle.p3p_common.specs.Slots.{empty}
+use Rattle.p3p_common.specs.PoseScaling.{AtWorld, AtInput, AtEdges, AtRefined, AtSolutions}
+use Rattle.p3p_common.proofs.RefineScaling.{refineDepths-scales}
+use Rattle.p3p_common.proofs.BasisScaling.{rotationFromEdges-same}
+use Rattle.p3p_common.proofs.SlotScaling.{empty-scales, pushPose-scales}
+use Rattle.lambdatwist.specs.Poses.{allPositive, pushDepths, poseTurn, poseTurns, poses}
+use Rattle.lambdatwist.specs.declared.candidates.Candidates.{Candidates}
+use Rattle.lambdatwist.specs.declared.poses.View.{View}
+use Rattle.lambdatwist.proofs.ChartScaling.{AtVectors, no-vectors, more-vectors, AtCandidates}
+use lib.IntN.{negsuc}
+
+-- two runs' orderings: the same bearings, and the points at degree 1
+pub record AtView (k : ℤ) (view view' : View) : Type 0 where
+  pub input : AtInput k (view .input) (view' .input)
+  pub world : AtWorld k (view .world) (view' .world)
+  pub bearings : view .bearings ≡ view' .bearings
+
+module _ {k : ℤ} where
+  allPositive-same : {d d' : Vector3} → AtVector k (pos 1) d d' → allPositive d ≡ allPositive d'
+  unfolding allPositive
+  allPositive-same d = λ i. allFinite-same d i && (not (le-same (d .x) null i) && (not (le-same (d .y) null i) && not (le-same (d .z) null i)))
+
+  take-at : (n : ℕ) {vs vs' : List Vector3} → AtVectors k vs vs' → AtVectors k (take n vs) (take n vs')
+  take-at zero h = no-vectors
+  take-at (suc n) no-vectors = no-vectors
+  take-at (suc n) (more-vectors v vs) = more-vectors v (take-at n vs)
+
+  module _ {input input' : P3pInput} {world world' : World} (bearings : Bearings) (I : AtInput k input input') (W : AtWorld k world world') where
+    abbrev view : View
+    view = record { input = input; world = world; bearings = bearings }
+
+    abbrev view' : View
+    view' = record { input = input'; world = world'; bearings = bearings }
+
+    module _ {m m' : Matrix3} (M : AtRows k (negsuc 0) (negsuc 0) (negsuc 1) m m') where
+      pushDepths-scales : {s s' : Solutions} {depths depths' : Vector3} (updates : ℕ) → AtSolutions k s s' → AtVector k (pos 1) depths depths'
+          → Both (AtSolutions k) (pushDepths view m s (record { depths = depths; updates = updates })) (pushDepths view' m' s' (record { depths = depths'; updates = updates }))
+      unfolding pushDepths
+      pushDepths-scales updates output depths =
+          vecMul-scales (same-vector (bearings .f0)) (depths .x) >>= λ _ _ camera0.
+          vecMul-scales (same-vector (bearings .f1)) (depths .y) >>= λ _ _ camera1.
+          vecMul-scales (same-vector (bearings .f2)) (depths .z) >>= λ _ _ camera2.
+          vecSub-scales camera0 camera1 >>= λ _ _ edge01.
+          vecSub-scales camera0 camera2 >>= λ _ _ edge02.
+          rotationFromEdges-same edge01 edge02 M >>≡ λ rotation.
+          matVec-scales refl refl refl (columns-at (same-matrix rotation)) (W .p0) >>= λ _ _ turned.
+          vecSub-scales camera0 turned >>= λ _ _ translation.
+          pushPose-scales rotation updates I output translation
+
+      pushRefined-scales : {s s' : Solutions} {r r' : Refined} → AtSolutions k s s' → AtRefined k r r' → Both (AtSolutions k) (pushDepths view m s r) (pushDepths view' m' s' r')
+      pushRefined-scales {s} {s'} {r} {r'} output refined =
+          subst (λ (u : ℕ). Both (AtSolutions k) (pushDepths view m s r) (pushDepths view' m' s' (record { depths = r' .depths; updates = u }))) (refined .updates)
+          (pushDepths-scales (r .updates) output (refined .depths))
+
+      module _ {e e' : SquaredEdges} (bearingCosines : Cosines) (E : AtEdges k e e') where
+        poseTurn-scales : {s s' : Solutions} {d d' : Vector3} → AtSolutions k s s' → AtVector k (pos 1) d d' → Both (AtSolutions k) (poseTurn view e bearingCosines m s d) (poseTurn view' e' bearingCosines m' s' d')
+        unfolding poseTurn
+        poseTurn-scales output depths =
+            refineDepths-scales bearingCosines 5 depths E >>= λ _ _ refined.
+            if allPositive-same (refined .depths) then pushRefined-scales output refined else pure output
+
+        poseTurns-scales : {ds ds' : List Vector3} {s s' : Solutions} → AtVectors k ds ds' → AtSolutions k s s' → Both (AtSolutions k) (poseTurns view e bearingCosines m ds s) (poseTurns view' e' bearingCosines m' ds' s')
+        unfolding poseTurns
+        poseTurns-scales no-vectors output = pure output
+        poseTurns-scales (more-vectors depths rest) output =
+            poseTurn-scales output depths >>= λ _ _ next.
+            poseTurns-scales rest next
+
+        pub poses-scales : {c c' : Candidates} → AtCandidates k c c' → Both (AtSolutions k) (poses view e bearingCosines m c) (poses view' e' bearingCosines m' c')
+        unfolding poses
+        poses-scales {c} {c'} found =
+            subst (λ (n : ℕ). Both (AtSolutions k) (poseTurns view e bearingCosines m (take (c .count) (c .depths)) empty) (poseTurns view' e' bearingCosines m' (take n (c' .depths)) empty)) (found .count)
+            (poseTurns-scales (take-at (c .count) (found .depths)) empty-scales)

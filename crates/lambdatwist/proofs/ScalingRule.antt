@@ -1,0 +1,60 @@
+-- The scaling rule holds: demand 3 of the mission, as specs/ScalingRule.antt states it. Assumes nothing.
+use mathlib.Core.Path.{_≡_, subst}
+use mathlib.Core.Bool.{Bool, _&&_}
+use mathlib.Core.List.{List}
+use lib.IntN.{ℤ, pos}
+use lib.Dec.{T}
+use lib.Ieee.{Float}
+use lib.Ieee.Fits.{and-l, and-r}
+use lib.Ieee.Scale.{finite}
+use Rattle.linalg.specs.Vectors.{allFinite}
+use Rattle.linalg.specs.declared.vector3.Vector3.{Vector3}
+use Rattle.linalg.specs.declared.pose.Pose.{Pose}
+use Rattle.linalg.specs.VectorScaling.{AtVector}
+use Rattle.p3p_common.specs.declared.input.World.{World}
+use Rattle.p3p_common.specs.declared.input.Bearings.{Bearings}
+use Rattle.p3p_common.specs.PoseScaling.{AtWorld, AtPoses, no-poses, more-poses}
+use Rattle.lambdatwist.specs.ScalingRule as rule
+use Rattle.lambdatwist.specs.ScalingRule.{ScalingRule}
+use Rattle.lambdatwist.specs.Solve.{solve}
+use Rattle.lambdatwist.specs.declared.solve.Answer.{Answer}
+use Rattle.lambdatwist.proofs.TimesPower.{times-at, at-times}
+use Rattle.lambdatwist.proofs.SolveScaling.{AtAnswer, solve-scales}
+use Rattle.lambdatwist.proofs.FiniteTranslation.{FinitePoses, no-pose, finite-pose, solve-finite}
+
+module _ (k : ℤ) where
+  -- ---- from the statement's hypotheses to the calculus of degrees
+  vector-at : {v v' : Vector3} → rule.Doubles v → rule.Doubles v' → rule.TimesVector k v v' → AtVector k (pos 1) v v'
+  vector-at {v} {v'} d d' h = record {
+    x = times-at k (v .x) (v' .x) (d .x) (d' .x) (h .x);
+    y = times-at k (v .y) (v' .y) (d .y) (d' .y) (h .y);
+    z = times-at k (v .z) (v' .z) (d .z) (d' .z) (h .z);
+  }
+
+  world-at : {w w' : World} → rule.DoubleWorld w → rule.DoubleWorld w' → rule.TimesWorld k w w' → AtWorld k w w'
+  world-at d d' h = record { p0 = vector-at (d .p0) (d' .p0) (h .p0); p1 = vector-at (d .p1) (d' .p1) (h .p1); p2 = vector-at (d .p2) (d' .p2) (h .p2) }
+
+  -- ---- and back: a finite entry at degree 1 is 2 ^ k times the first run's
+  vector-times : {v v' : Vector3} → T (allFinite v) → AtVector k (pos 1) v v' → rule.TimesVector k v v'
+  unfolding allFinite
+  vector-times {v} {v'} f h =
+      let xy : T (finite (v .x) && finite (v .y)) = and-l (finite (v .x) && finite (v .y)) (finite (v .z)) f in
+      record {
+        x = at-times k (v .x) (v' .x) (and-l (finite (v .x)) (finite (v .y)) xy) (h .x);
+        y = at-times k (v .y) (v' .y) (and-r (finite (v .x)) (finite (v .y)) xy) (h .y);
+        z = at-times k (v .z) (v' .z) (and-r (finite (v .x) && finite (v .y)) (finite (v .z)) f) (h .z);
+      }
+
+  poses-alike : {ps ps' : List Pose} → FinitePoses ps → AtPoses k ps ps' → rule.AlikePoses k ps ps'
+  poses-alike no-pose no-poses = rule.no-places
+  poses-alike (finite-pose f fs) (more-poses h hs) = rule.next-place (record { rotation = h .rotation; translation = vector-times f (h .translation) }) (poses-alike fs hs)
+
+  answer-alike : {a a' : Answer} → FinitePoses (a .poses) → AtAnswer k a a' → rule.Alike k a a'
+  answer-alike f h = record { refusal = h .refusal; count = h .count; poses = poses-alike f (h .poses); updates = h .updates }
+
+pub scaling-rule : ScalingRule
+unfolding ScalingRule
+scaling-rule k world world' bearings bearings' d d' times same r r' =
+    subst (λ (b : Bearings). T (solve world' b .regular) → rule.Alike k (solve world bearings .value) (solve world' b .value)) same
+    (λ (s : T (solve world' bearings .regular)). answer-alike k (solve-finite world bearings) (solve-scales bearings (world-at k d d' times) .results r s))
+    r'

@@ -1,0 +1,184 @@
+-- The solve of two runs whose worlds are at degree 1 and whose bearings are equal: answers alike, with the rotations, counts and refusals equal and the translations at degree 1. Assumes nothing.
+use mathlib.Core.Path.{_≡_, refl, ap, subst}
+use mathlib.Core.Bool.{Bool, _&&_}
+use Prim.Native.Nat.{ℕ, zero, suc}
+use lib.Dec.{eqb}
+use lib.IntN.{ℤ, pos, negsuc}
+use lib.Ieee.{Float, le}
+use Rattle.ieee754.specs.Literal.{epsilon}
+use Rattle.ieee754.specs.Traced as traced
+use Rattle.ieee754.specs.Traced.{Traced}
+use Rattle.ieee754.specs.Scaling.{Both, At}
+use Rattle.ieee754.proofs.Degrees.{same, at-zero, !_, _⊗_, _⊘_, pure, _>>=_, _>>≡_, if_then_else_, choose, alike}
+use Rattle.linalg.specs.declared.vector3.Vector3.{Vector3}
+use Rattle.linalg.specs.declared.matrix3.Matrix3.{Matrix3}
+use Rattle.linalg.specs.VectorScaling.{AtVector, AtRows}
+use Rattle.linalg.specs.Vectors.{allFinite}
+use Rattle.linalg.proofs.VectorDegrees.{allFinite-same}
+use Rattle.polynomial.specs.declared.Roots.{Roots}
+use Rattle.polynomial.specs.declared.Roots.the-variants.{Two, One, Refused}
+use Rattle.polynomial.specs.RootScaling.{AtRoots, two-at, one-at, refused-at}
+use Rattle.polynomial.proofs.CubicScaling.{cubic-scales}
+use Rattle.p3p_common.specs.declared.input.World.{World}
+use Rattle.p3p_common.specs.declared.input.Bearings.{Bearings}
+use Rattle.p3p_common.specs.declared.input.P3pInput.{P3pInput}
+use Rattle.p3p_common.specs.declared.refine_depths.SquaredEdges.{SquaredEdges}
+use Rattle.p3p_common.specs.declared.refine_depths.Cosines.{Cosines}
+use Rattle.p3p_common.specs.declared.world_basis_inverse.Basis.{Basis}
+use Rattle.p3p_common.specs.declared.solutions.Solutions.{Solutions}
+use Rattle.p3p_common.specs.Input.{inputFinite}
+use Rattle.p3p_common.specs.PoseScaling.{AtWorld, AtInput, AtEdges, AtBasis, inverse-at, singular-at, AtPoses, AtSolutions}
+use Rattle.p3p_common.proofs.BasisScaling.{worldBasisInverse-scales}
+use Rattle.p3p_common.proofs.SlotScaling.{empty-scales}
+use Rattle.lambdatwist.specs.Literal.{sixtyFour}
+use Rattle.lambdatwist.specs.Angles.{cosines, squaredSines, bearingFactors}
+use Rattle.lambdatwist.specs.Solve.{answered, refused, ifKept, orNoRoot, orNoSystem, orNoRatio, orSingular, solveCandidates, solveRoot, solveCubic, orderedOr, bestOr, solveOrdered, solve}
+use Rattle.lambdatwist.specs.declared.edges.EdgeVectors.{EdgeVectors}
+use Rattle.lambdatwist.specs.declared.angles.Factors.{Factors}
+use Rattle.lambdatwist.specs.declared.cubic.Coefficients.{Coefficients}
+use Rattle.lambdatwist.specs.declared.candidates.Candidates.{Candidates}
+use Rattle.lambdatwist.specs.declared.eigen.Eigensystem.{Eigensystem}
+use Rattle.lambdatwist.specs.declared.ratio.Ratio.{Ratio}
+use Rattle.lambdatwist.specs.declared.ratio.Ratio.the-variants.{Real, NotReal}
+use Rattle.lambdatwist.specs.declared.poses.View.{View}
+use Rattle.lambdatwist.specs.declared.solve.Answer.{Answer}
+use Rattle.lambdatwist.proofs.Equal.{equal}
+use Rattle.lambdatwist.proofs.EdgeScaling.{AtEdgeVectors, edgeVectors-scales, squaredEdges-scales}
+use Rattle.lambdatwist.proofs.CubicScaling.{AtCoefficients, cubicCoefficients-scales, isUnusable-same}
+use Rattle.lambdatwist.proofs.MatrixScaling.{singularMatrix-scales}
+use Rattle.lambdatwist.proofs.EigenvalueScaling.{ratioOf-same}
+use Rattle.lambdatwist.proofs.SystemScaling.{AtSystem, found-at, not-found, eigWithKnownZero-scales}
+use Rattle.lambdatwist.proofs.ChartScaling.{AtCandidates, candidates-scales}
+use Rattle.lambdatwist.proofs.PoseScaling.{poses-scales}
+use Rattle.lambdatwist.proofs.PermutationScaling.{AtConditioned, bestPermutation-scales}
+
+pub record AtAnswer (k : ℤ) (a a' : Answer) : Type 0 where
+  pub refusal : a .refusal ≡ a' .refusal
+  pub count : a .count ≡ a' .count
+  pub poses : AtPoses k (a .poses) (a' .poses)
+  pub updates : a .updates ≡ a' .updates
+
+module _ {k : ℤ} where
+  -- ---- answers
+  answered-at : (number : ℕ) {s s' : Solutions} → AtSolutions k s s' → AtAnswer k (answered number s) (answered number s')
+  unfolding answered
+  answered-at number s = record { refusal = refl; count = s .count; poses = s .poses; updates = s .updates }
+
+  refused-alike : (number : ℕ) → AtAnswer k (refused number) (refused number)
+  unfolding refused
+  refused-alike number = answered-at number empty-scales
+
+  ifKept-at : {s s' : Solutions} → AtSolutions k s s' → AtAnswer k (ifKept s) (ifKept s')
+  unfolding ifKept
+  ifKept-at s = choose (AtAnswer k) (ap (λ (n : ℕ). eqb n 0) (s .count)) (refused-alike 3) (answered-at 0 s)
+
+  -- ---- each step that can stop
+  orNoRoot-scales : {r r' : Roots} {f f' : Float → Traced Answer} → AtRoots k (pos 0) r r' → ((g : Float) → Both (AtAnswer k) (f g) (f' g)) → Both (AtAnswer k) (orNoRoot r f) (orNoRoot r' f')
+  unfolding orNoRoot
+  orNoRoot-scales (two-at x y) next = pure (refused-alike 3)
+  orNoRoot-scales {f = f} {f' = f'} (one-at {x} root) next = subst (λ (y : Float). Both (AtAnswer k) (f x) (f' y)) (at-zero root) (next x)
+  orNoRoot-scales (refused-at number) next = pure (refused-alike 3)
+
+  orNoSystem-scales : {s s' : Eigensystem} {f f' : Matrix3 → Vector3 → Traced Answer} → AtSystem k s s'
+      → ((m : Matrix3) (v v' : Vector3) → AtVector k (pos 2) v v' → Both (AtAnswer k) (f m v) (f' m v')) → Both (AtAnswer k) (orNoSystem s f) (orNoSystem s' f')
+  unfolding orNoSystem
+  orNoSystem-scales (found-at m {v} {v'} h) next = next m v v' h
+  orNoSystem-scales not-found next = pure (refused-alike 3)
+
+  orNoRatio-scales : (r : Ratio) {f f' : Float → Traced Answer} → ((x : Float) → Both (AtAnswer k) (f x) (f' x)) → Both (AtAnswer k) (orNoRatio r f) (orNoRatio r f')
+  unfolding orNoRatio
+  orNoRatio-scales (Real x) next = next x
+  orNoRatio-scales NotReal next = pure (refused-alike 3)
+
+  orSingular-scales : {b b' : Basis} {f f' : Matrix3 → Traced Answer} → AtBasis k b b'
+      → ((m m' : Matrix3) → AtRows k (negsuc 0) (negsuc 0) (negsuc 1) m m' → Both (AtAnswer k) (f m) (f' m')) → Both (AtAnswer k) (orSingular b f) (orSingular b' f')
+  unfolding orSingular
+  orSingular-scales (inverse-at {m} {m'} h) next = next m m' h
+  orSingular-scales singular-at next = pure (refused-alike 3)
+
+  -- ---- the stages of the ordered solve
+  module _ {input input' : P3pInput} {world world' : World} (bearings : Bearings) (I : AtInput k input input') (W : AtWorld k world world') where
+    abbrev view : View
+    view = record { input = input; world = world; bearings = bearings }
+
+    abbrev view' : View
+    view' = record { input = input'; world = world'; bearings = bearings }
+
+    module _ {v v' : EdgeVectors} {e e' : SquaredEdges} (bearingCosines : Cosines) (D : AtEdgeVectors k v v') (E : AtEdges k e e') where
+      solveCandidates-scales : {c c' : Candidates} → AtCandidates k c c' → Both (AtAnswer k) (solveCandidates view v e bearingCosines c) (solveCandidates view' v' e' bearingCosines c')
+      unfolding solveCandidates
+      solveCandidates-scales found =
+          worldBasisInverse-scales (D .d01) (D .d02) >>= λ _ _ basis.
+          orSingular-scales basis (λ _ _ worldInverse.
+          poses-scales bearings I W worldInverse bearingCosines E found >>= λ _ _ solutions.
+          pure (ifKept-at solutions))
+
+      solveRoot-scales : (b : Factors) (g : Float) → Both (AtAnswer k) (solveRoot view v e bearingCosines b g) (solveRoot view' v' e' bearingCosines b g)
+      unfolding solveRoot
+      solveRoot-scales b g =
+          singularMatrix-scales b g E >>= λ _ _ matrix.
+          eigWithKnownZero-scales matrix >>= λ _ _ system.
+          orNoSystem-scales system (λ eigenvectors _ _ values.
+          ratioOf-same (values .x) (values .y) >>≡ λ ratio.
+          orNoRatio-scales ratio (λ real.
+          candidates-scales b E eigenvectors real >>= λ _ _ found.
+          solveCandidates-scales found))
+
+      solveCubic-scales : (b : Factors) {c c' : Coefficients} → AtCoefficients k c c' → Both (AtAnswer k) (solveCubic view v e bearingCosines b c) (solveCubic view' v' e' bearingCosines b c')
+      unfolding solveCubic
+      solveCubic-scales b c =
+          ! (c .cubic2) ⊘ ! (c .cubic3) >>= λ _ _ c2.
+          ! (c .cubic1) ⊘ ! (c .cubic3) >>= λ _ _ c1.
+          ! (c .cubic0) ⊘ ! (c .cubic3) >>= λ _ _ c0.
+          cubic-scales c2 c1 c0 >>= λ _ _ root.
+          orNoRoot-scales root (solveRoot-scales b)
+
+    orderedOr-scales : (retry : P3pInput → Traced Answer) → Both (AtAnswer k) (retry input) (retry input') → Both (AtAnswer k) (orderedOr retry view) (orderedOr retry view')
+    unfolding orderedOr
+    orderedOr-scales retry again =
+        edgeVectors-scales W >>= λ _ _ vectors.
+        squaredEdges-scales vectors >>= λ _ _ edges.
+        alike {m = cosines bearings} >>≡ λ bearingCosines.
+        alike {m = squaredSines bearingCosines} >>≡ λ angles.
+        alike {m = bearingFactors bearingCosines} >>≡ λ b.
+        cubicCoefficients-scales angles edges >>= λ _ _ cubic.
+        isUnusable-same cubic >>= λ _ _ unusable.
+        if unusable then again else solveCubic-scales bearingCosines vectors edges b cubic
+
+  -- ---- the given ordering, and the retry with one less
+  module _ {world world' : World} (bearings : Bearings) (W : AtWorld k world world') where
+    abbrev given : P3pInput
+    given = record { world = world; bearings = bearings }
+
+    abbrev given' : P3pInput
+    given' = record { world = world'; bearings = bearings }
+
+    same-input : AtInput k given given'
+    same-input = record { world = W; bearings = refl }
+
+    -- the solve of an ordering of the given points, with n retries left
+    abbrev Ordered : ℕ → Type 0
+    Ordered n = (w w' : World) (f : Bearings) → AtWorld k w w'
+        → Both (AtAnswer k) (solveOrdered n (record { input = given; world = w; bearings = f })) (solveOrdered n (record { input = given'; world = w'; bearings = f }))
+
+    retry-scales : (n : ℕ) → Ordered n → Both (AtAnswer k) (bestOr (solveOrdered n) given) (bestOr (solveOrdered n) given')
+    unfolding bestOr
+    retry-scales n ordered =
+        bestPermutation-scales bearings W >>= λ best best' h.
+        equal {k = k} (! same sixtyFour ⊗ ! same epsilon) >>≡ λ limit.
+        if ap (λ (c : Float). le c limit) (h .condition) then pure (refused-alike 2)
+        else subst (λ (f : Bearings). Both (AtAnswer k) (solveOrdered n (record { input = given; world = best .world; bearings = best .bearings })) (solveOrdered n (record { input = given'; world = best' .world; bearings = f })))
+        (h .bearings) (ordered (best .world) (best' .world) (best .bearings) (h .world))
+
+    solveOrdered-scales : (n : ℕ) → Ordered n
+    unfolding solveOrdered
+    solveOrdered-scales zero w w' f h = orderedOr-scales f same-input h (λ input. traced.pure (refused 2)) (pure (refused-alike 2))
+    solveOrdered-scales (suc n) w w' f h = orderedOr-scales f same-input h (bestOr (solveOrdered n)) (retry-scales n (solveOrdered-scales n))
+
+    inputFinite-same : inputFinite given ≡ inputFinite given'
+    unfolding inputFinite
+    inputFinite-same = λ i. allFinite-same (W .p0) i && allFinite-same (W .p1) i && allFinite-same (W .p2) i && allFinite (bearings .f0) && allFinite (bearings .f1) && allFinite (bearings .f2)
+
+    pub solve-scales : Both (AtAnswer k) (solve world bearings) (solve world' bearings)
+    unfolding solve
+    solve-scales = if inputFinite-same then solveOrdered-scales 1 world world' bearings W else pure (refused-alike 1)

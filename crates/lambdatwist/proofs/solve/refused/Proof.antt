@@ -1,0 +1,18 @@
+-- `lambdatwist::solve::refused` meets its contract. Assumes nothing.
+use borrow.Author.Needs.{needs}
+use Rattle.lambdatwist.specs.Solve.{refused}
+use Rattle.lambdatwist.proofs.solve.refused.Statement.{statement}
+use Rattle.lambdatwist.proofs.solve.refused.Tie as tie
+
+empty-requires : tie.Need-empty-requires
+empty-requires c κs = search needs
+
+answered-requires : tie.Need-answered-requires
+answered-requires c κs = search needs
+
+returns : tie.Need-returns
+unfolding refused
+returns c = cc
+
+pub refused-spec : {M : Type 1} → statement M
+refused-spec = tie.close (tie.spec empty-requires answered-requires returns)

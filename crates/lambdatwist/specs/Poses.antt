@@ -1,0 +1,74 @@
+-- From the eigensystem to the poses: the end of `solve_ordered`. For either sign of the ratio a chart gives depth candidates; each candidate is refined, and where its depths are positive a pose is made
+-- of it and goes to the gate.
+use mathlib.Core.Bool.{Bool, _&&_, not}
+use mathlib.Core.List.{List, [], _∷_}
+use lib.ListN.{take}
+use lib.Ieee.{Float, neg, le}
+use Rattle.ieee754.specs.Literal.{num}
+use Rattle.ieee754.specs.Traced.{Traced, pure, _>>=_, if_then_else_}
+use Rattle.linalg.specs.Vectors.{vecSub, vecMul, allFinite}
+use Rattle.linalg.specs.Matrices.{column0, column1, matVec}
+use Rattle.linalg.specs.declared.vector3.Vector3.{Vector3}
+use Rattle.linalg.specs.declared.matrix3.Matrix3.{Matrix3}
+use Rattle.p3p_common.specs.declared.input.P3pInput.{P3pInput}
+use Rattle.p3p_common.specs.declared.refine_depths.SquaredEdges.{SquaredEdges}
+use Rattle.p3p_common.specs.declared.refine_depths.Cosines.{Cosines}
+use Rattle.p3p_common.specs.declared.refine_depths.Refined.{Refined}
+use Rattle.p3p_common.specs.declared.solutions.Solutions.{Solutions}
+use Rattle.p3p_common.specs.RefineDepths.{refineDepths}
+use Rattle.p3p_common.specs.RotationFromEdges.{rotationFromEdges}
+use Rattle.p3p_common.specs.Slots.{empty}
+use Rattle.p3p_common.specs.PushPose.{pushPose}
+use Rattle.lambdatwist.specs.Charts.{chart}
+use Rattle.lambdatwist.specs.DepthSlots.{noCandidates}
+use Rattle.lambdatwist.specs.declared.angles.Factors.{Factors}
+use Rattle.lambdatwist.specs.declared.candidates.Candidates.{Candidates}
+use Rattle.lambdatwist.specs.declared.poses.View.{View}
+
+-- the turn of one sign: let null_vector = eigenvectors.column(0) - sign * eigenvectors.column(1);
+unfoldable pub signTurn : SquaredEdges → Factors → Matrix3 → Float → Candidates → Traced Candidates
+signTurn edges b eigenvectors sign found = do
+  scaled ← vecMul (column1 eigenvectors) sign
+  nullVector ← vecSub (column0 eigenvectors) scaled
+  chart edges b nullVector found
+
+-- for sign in [ratio, -ratio] { .. }
+unfoldable pub candidates : SquaredEdges → Factors → Matrix3 → Float → Traced Candidates
+candidates edges b eigenvectors ratio = do
+  once ← signTurn edges b eigenvectors ratio noCandidates
+  signTurn edges b eigenvectors (neg ratio) once
+
+-- !depth.iter().any(|value| !value.is_finite() || *value <= 0.0)
+unfoldable pub allPositive : Vector3 → Bool
+allPositive d = allFinite d && (not (le (d .x) (num 0)) && (not (le (d .y) (num 0)) && not (le (d .z) (num 0))))
+
+-- from `let camera0 = depth[0] * f0;` to the push
+unfoldable pub pushDepths : View → Matrix3 → Solutions → Refined → Traced Solutions
+pushDepths view worldInverse output refined = do
+  camera0 ← vecMul (view .bearings .f0) (refined .depths .x)
+  camera1 ← vecMul (view .bearings .f1) (refined .depths .y)
+  camera2 ← vecMul (view .bearings .f2) (refined .depths .z)
+  edge01 ← vecSub camera0 camera1
+  edge02 ← vecSub camera0 camera2
+  rotation ← rotationFromEdges edge01 edge02 worldInverse
+  -- let translation = camera0 - rotation * p0;
+  turned ← matVec rotation (view .world .p0)
+  translation ← vecSub camera0 turned
+  pushPose (view .input) output rotation translation (refined .updates)
+
+-- one turn of for depth in depths.iter_mut().take(depth_count) { .. }
+unfoldable pub poseTurn : View → SquaredEdges → Cosines → Matrix3 → Solutions → Vector3 → Traced Solutions
+poseTurn view edges bearingCosines worldInverse output depths = do
+  refined ← refineDepths depths edges bearingCosines 5
+  if allPositive (refined .depths) then pushDepths view worldInverse output refined else pure output
+
+-- the turns for a list of candidates, in its order
+unfoldable pub poseTurns : View → SquaredEdges → Cosines → Matrix3 → List Vector3 → Solutions → Traced Solutions
+poseTurns view edges bearingCosines worldInverse [] output = pure output
+poseTurns view edges bearingCosines worldInverse (depths ∷ rest) output = do
+  next ← poseTurn view edges bearingCosines worldInverse output depths
+  poseTurns view edges bearingCosines worldInverse rest next
+
+-- for depth in depths.iter_mut().take(depth_count) { .. }
+unfoldable pub poses : View → SquaredEdges → Cosines → Matrix3 → Candidates → Traced Solutions
+poses view edges bearingCosines worldInverse found = poseTurns view edges bearingCosines worldInverse (take (found .count) (found .depths)) empty

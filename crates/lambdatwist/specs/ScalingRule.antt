@@ -1,0 +1,64 @@
+-- Demand 3 of the mission, the scaling rule: a single claim about two whole answers of `solve`. Its proof is `scaling-rule` in the proofs.
+use mathlib.Core.Path.{_≡_}
+use mathlib.Core.List.{List, [], _∷_}
+use Prim.Native.Nat.{_*_}
+use lib.IntN.{ℤ}
+use lib.Dec.{T}
+use lib.Ieee.{Float, nan, inf, fin, binary64, up, down, fits}
+use Rattle.linalg.specs.declared.vector3.Vector3.{Vector3}
+use Rattle.linalg.specs.declared.pose.Pose.{Pose}
+use Rattle.p3p_common.specs.declared.input.World.{World}
+use Rattle.p3p_common.specs.declared.input.Bearings.{Bearings}
+use Rattle.lambdatwist.specs.Solve.{solve}
+use Rattle.lambdatwist.specs.declared.solve.Answer.{Answer}
+
+-- x and x' are finite, and x' is exactly 2 ^ k times x, a zero keeping its sign. `fin s m e` is ±m * 2 ^ e, and 2 ^ e is the fraction up e / down e of whole numbers, also for a negative e.
+abbrev pub Times : ℤ → Float → Float → Type 0
+Times k (fin s m e) (fin t n d) = (s ≡ t) × (n * up d * (down e * down k) ≡ m * up e * (down d * up k))
+Times k (fin s m e) (inf t) = ⊥
+Times k (fin s m e) nan = ⊥
+Times k (inf s) y = ⊥
+Times k nan y = ⊥
+
+pub record TimesVector (k : ℤ) (v v' : Vector3) : Type 0 where
+  pub x : Times k (v .x) (v' .x)
+  pub y : Times k (v .y) (v' .y)
+  pub z : Times k (v .z) (v' .z)
+
+pub record TimesWorld (k : ℤ) (w w' : World) : Type 0 where
+  pub p0 : TimesVector k (w .p0) (w' .p0)
+  pub p1 : TimesVector k (w .p1) (w' .p1)
+  pub p2 : TimesVector k (w .p2) (w' .p2)
+
+-- the numbers are doubles
+pub record Doubles (v : Vector3) : Type 0 where
+  pub x : T (fits binary64 (v .x))
+  pub y : T (fits binary64 (v .y))
+  pub z : T (fits binary64 (v .z))
+
+pub record DoubleWorld (w : World) : Type 0 where
+  pub p0 : Doubles (w .p0)
+  pub p1 : Doubles (w .p1)
+  pub p2 : Doubles (w .p2)
+
+-- in one place: the same nine rotation entries, and each translation entry times 2 ^ k
+pub record AlikePose (k : ℤ) (p p' : Pose) : Type 0 where
+  pub rotation : p .rotation ≡ p' .rotation
+  pub translation : TimesVector k (p .translation) (p' .translation)
+
+-- place by place
+pub data AlikePoses (k : ℤ) : List Pose → List Pose → Type 0 where
+  no-places : AlikePoses k [] []
+  next-place : {p p' : Pose} {ps ps' : List Pose} → AlikePose k p p' → AlikePoses k ps ps' → AlikePoses k (p ∷ ps) (p' ∷ ps')
+
+-- the same refusal number or none, the same count of poses, and in each place the same update count
+pub record Alike (k : ℤ) (a a' : Answer) : Type 0 where
+  pub refusal : a .refusal ≡ a' .refusal
+  pub count : a .count ≡ a' .count
+  pub poses : AlikePoses k (a .poses) (a' .poses)
+  pub updates : a .updates ≡ a' .updates
+
+-- for every whole number k, and where every operation that either solve reaches and that can round meets the premise
+unfoldable pub ScalingRule : Type 0
+ScalingRule = (k : ℤ) (world world' : World) (bearings bearings' : Bearings) → DoubleWorld world → DoubleWorld world' → TimesWorld k world world' → bearings ≡ bearings'
+    → T (solve world bearings .regular) → T (solve world' bearings' .regular) → Alike k (solve world bearings .value) (solve world' bearings' .value)

@@ -1,0 +1,71 @@
+-- `listing::line::put_pose` meets its contract. Assumes nothing.
+use native.Mathlib.Omega.{arith}
+use borrow.Author.Needs.{needs}
+use Rattle.listing.specs.Lines.{poseLine}
+use Rattle.listing.proofs.Storing.{then}
+use Rattle.listing.proofs.Writing.{written, not-written}
+use Rattle.listing.proofs.line.put_pose.Statement.{statement}
+use Rattle.listing.proofs.line.put_pose.Tie as tie
+
+left-requires : tie.Need-left-requires
+left-requires c κs = search needs
+
+returns : tie.Need-returns
+returns c = not-written _ _ _ (omega (arith, c .if1 .taken, c .before .left .ensures))
+
+put-decimal-requires : tie.Need-put-decimal-requires
+put-decimal-requires c κs = search needs
+
+put-byte-requires : tie.Need-put-byte-requires
+put-byte-requires c κs = search needs
+
+put-decimal-requires-2 : tie.Need-put-decimal-requires-2
+put-decimal-requires-2 c κs = search needs
+
+slice-aggregate-put-text : tie.Need-slice-aggregate-put-text
+slice-aggregate-put-text c = search needs
+
+put-text-requires : tie.Need-put-text-requires
+put-text-requires c κs = search needs
+
+put-decimal-requires-3 : tie.Need-put-decimal-requires-3
+put-decimal-requires-3 c κs = search needs
+
+put-words-requires : tie.Need-put-words-requires
+put-words-requires c κs = search needs
+
+put-byte-requires-2 : tie.Need-put-byte-requires-2
+put-byte-requires-2 c κs = search needs
+
+same-length : tie.Need-same-length
+same-length c = search needs
+
+returns-2 : tie.Need-returns-2
+unfolding poseLine
+returns-2 c =
+    let p7 = c .before .before in
+    let p6 = p7 .before .before .before .before in
+    let p5 = p6 .before .before .before .before in
+    let p4 = p5 .before .before .before .before in
+    let p3 = p4 .before .before .before .before .before in
+    let p2 = p3 .before .before .before .before in
+    let p1 = p2 .before .before .before .before in
+    let start = p1 .before .before in
+    written (omega (arith, start .if1 .left, start .before .left .ensures)) (omega arith) (then (then (then (then (then (then (p1 .put-decimal .ensures .0) (p2 .put-byte .ensures)) (p3 .put-decimal2 .ensures .0)) (p4 .put-text .ensures)) (p5 .put-decimal3 .ensures .0)) (p6 .put-words .ensures .0)) (p7 .put-byte2 .ensures))
+
+pub put-pose-spec : {M : Type 1} → statement M
+put-pose-spec =
+    tie.close
+    (tie.spec
+    left-requires
+    returns
+    put-decimal-requires
+    put-byte-requires
+    put-decimal-requires-2
+    slice-aggregate-put-text
+    put-text-requires
+    put-decimal-requires-3
+    put-words-requires
+    put-byte-requires-2
+    same-length
+    returns-2)

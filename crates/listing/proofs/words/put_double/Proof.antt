@@ -1,0 +1,37 @@
+-- `listing::words::put_double` meets its contract. Assumes nothing.
+use Prim.Native.Nat.{ℕ}
+use mathlib.Core.Path.{_≡_, ap}
+use mathlib.Core.List.{_++_}
+use native.Mathlib.Omega.{arith}
+use borrow.Author.Needs.{needs}
+use Rattle.listing.specs.Bytes.{ascii}
+use Rattle.listing.specs.Digits.{hexadecimal}
+use Rattle.listing.specs.Lines.{wordOf}
+use Rattle.listing.proofs.Storing.{stored-as, then}
+use Rattle.listing.proofs.words.put_double.Statement.{statement}
+use Rattle.listing.proofs.words.put_double.Tie as tie
+
+pattern-requires : tie.Need-pattern-requires
+pattern-requires c κs = search needs
+
+put-byte-requires : tie.Need-put-byte-requires
+put-byte-requires c κs = search needs
+
+put-word-requires : tie.Need-put-word-requires
+put-word-requires c κs = search needs
+
+same-length : tie.Need-same-length
+same-length c = search needs
+
+returns : tie.Need-returns
+unfolding wordOf
+returns c =
+    let word = c .before .before in
+    let space = word .before .before .before .before in
+    let bits = space .before .before in (
+      stored-as (ap (λ (n : ℕ). ascii " " ++ hexadecimal 16 n) (bits .pattern .ensures)) (then (space .put-byte .ensures) (word .put-word .ensures .0)),
+      omega (arith, space .put-byte .ensures .next-at, word .put-word .ensures .1),
+    )
+
+pub put-double-spec : {M : Type 1} → statement M
+put-double-spec = tie.close (tie.spec pattern-requires put-byte-requires put-word-requires same-length returns)

@@ -1,0 +1,34 @@
+-- `listing::words::put_vector` meets its contract. Assumes nothing.
+use native.Mathlib.Omega.{arith}
+use borrow.Author.Needs.{needs}
+use Rattle.listing.specs.Lines.{wordsOf}
+use Rattle.listing.proofs.Storing.{then}
+use Rattle.listing.proofs.words.put_vector.Statement.{statement}
+use Rattle.listing.proofs.words.put_vector.Tie as tie
+
+put-double-requires : tie.Need-put-double-requires
+put-double-requires c κs = search needs
+
+put-double-requires-2 : tie.Need-put-double-requires-2
+put-double-requires-2 c κs = search needs
+
+put-double-requires-3 : tie.Need-put-double-requires-3
+put-double-requires-3 c κs = search needs
+
+same-length : tie.Need-same-length
+same-length c = search needs
+
+returns : tie.Need-returns
+unfolding wordsOf
+returns c =
+    let z = c .before .before in
+    let y = z .before .before .before .before in
+    let x = y .before .before .before .before in (
+      then (then (x .put-double .ensures .0) (y .put-double2 .ensures .0)) (z .put-double3 .ensures .0),
+      omega (arith, x .put-double .ensures .1, y .put-double2 .ensures .1, z .put-double3 .ensures .1),
+    )
+
+pub put-vector-spec : {M : Type 1} → statement M
+put-vector-spec =
+    tie.close
+    (tie.spec put-double-requires put-double-requires-2 put-double-requires-3 same-length returns)

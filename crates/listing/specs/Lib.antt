@@ -1,0 +1,4 @@
+-- The definitions that the contracts of this crate and its theorems cite, in reading order.
+pub mod Bytes
+pub mod Digits
+pub mod Lines

@@ -1,0 +1,57 @@
+-- The lines of the listing, as bytes, and what putting one into a slice leaves. From document 01, "Frame records and their listing".
+use Prim.Native.Nat.{ℕ, _+_, _-_}
+use mathlib.Core.Path.{_≡_}
+use mathlib.Core.Bool.{Bool, cond}
+use mathlib.Core.List.{List, _++_}
+use lib.Dec.{leb}
+use lib.ListN.{length, take, drop}
+use lib.Ieee.{Float, binary64, toBits}
+use Rattle.linalg.specs.declared.vector3.Vector3.{Vector3}
+use Rattle.linalg.specs.declared.pose.Pose.{Pose}
+use Rattle.linalg.specs.Matrices.{column0, column1, column2}
+use Rattle.listing.specs.Bytes.{ascii}
+use Rattle.listing.specs.Digits.{decimal, hexadecimal}
+
+-- a space and a double's bit pattern; that of a NaN, which no pose holds, is 7ff8000000000000
+unfoldable pub wordOf : Float → List ℕ
+wordOf x = ascii " " ++ hexadecimal 16 (toBits binary64 x)
+
+unfoldable pub wordsOf : Vector3 → List ℕ
+wordsOf v = wordOf (v .x) ++ wordOf (v .y) ++ wordOf (v .z)
+
+-- the rotation by columns, the translation
+unfoldable pub poseWords : Pose → List ℕ
+poseWords p = wordsOf (column0 (p .rotation)) ++ wordsOf (column1 (p .rotation)) ++ wordsOf (column2 (p .rotation)) ++ wordsOf (p .translation)
+
+-- poses v1
+unfoldable pub headerLine : List ℕ
+headerLine = ascii "poses v1\n"
+
+-- N refused R
+unfoldable pub refusedLine : ℕ → ℕ → List ℕ
+refusedLine n r = decimal n ++ ascii " refused " ++ decimal r ++ ascii "\n"
+
+-- N poses K best J
+unfoldable pub acceptedLine : ℕ → ℕ → ℕ → List ℕ
+acceptedLine n k j = decimal n ++ ascii " poses " ++ decimal k ++ ascii " best " ++ decimal j ++ ascii "\n"
+
+-- N.J updates U, and the twelve words
+unfoldable pub poseLine : ℕ → ℕ → ℕ → Pose → List ℕ
+poseLine n j u p = decimal n ++ ascii "." ++ decimal j ++ ascii " updates " ++ decimal u ++ poseWords p ++ ascii "\n"
+
+-- stop R at N
+unfoldable pub stopLine : ℕ → ℕ → List ℕ
+stopLine r n = ascii "stop " ++ decimal r ++ ascii " at " ++ decimal n ++ ascii "\n"
+
+-- end N
+unfoldable pub endLine : ℕ → List ℕ
+endLine n = ascii "end " ++ decimal n ++ ascii "\n"
+
+-- a line is put where 320 bytes are left of a slice; every line fits in them
+abbrev pub roomy : List ℕ → ℕ → Bool
+roomy s at = leb 320 (length s - at)
+
+-- After a line has been put from a position on: the next position, and what the slice holds. Without room nothing is put.
+pub record Written (before : List ℕ) (at : ℕ) (line : List ℕ) (next : ℕ) (after : List ℕ) : Type 0 where
+  pub next-at : next ≡ cond (roomy before at) (at + length line) at
+  pub holds : after ≡ cond (roomy before at) (take at before ++ line ++ drop (at + length line) before) before

@@ -1,0 +1,47 @@
+-- The cases of document 01, "Checked by hand", that are marked P and speak of the refinement and of the rays, as rows of a table: numbers by their bit patterns. The whole table, and the theorem over its rows, are in the crate lambdatwist.
+use Prim.Native.Nat.{ℕ}
+use mathlib.Core.Bool.{Bool, true, false, _&&_, Bool·beq}
+use mathlib.Core.List.{List, [], _∷_}
+use lib.Dec.{eqb}
+use lib.Ieee.{Float, binary64, toBits}
+use Rattle.ieee754.specs.Literal.{num}
+use Rattle.linalg.specs.Vectors.{vector}
+use Rattle.linalg.specs.declared.vector3.Vector3.{Vector3}
+use Rattle.p3p_common.specs.declared.refine_depths.Refined.{Refined}
+use Rattle.p3p_common.specs.RefineDepths.{refineDepths}
+use Rattle.p3p_common.specs.RayFits.{rayFits}
+
+-- a row: of the refinement, the three depths alike, the three squared edges, the three cosines, the updates allowed, and the depths and the updates that come out; of a ray, the camera point, the bearing, and whether it fits
+pub data PoseCase : Type 0 where
+  refinement : (depth edge cosine iterations after updates : ℕ) → PoseCase
+  ray : (x y z f g h : ℕ) → Bool → PoseCase
+
+-- three equal entries
+abbrev pub alike : ℕ → Vector3
+alike w = vector (num w) (num w) (num w)
+
+unfoldable pub hasBits : Float → ℕ → Bool
+hasBits x w = eqb (toBits binary64 x) w
+
+unfoldable pub refinedTo : Refined → ℕ → ℕ → Bool
+refinedTo r w n = hasBits (r .depths .x) w && hasBits (r .depths .y) w && hasBits (r .depths .z) w && eqb (r .updates) n
+
+unfoldable pub poseCaseHolds : PoseCase → Bool
+poseCaseHolds (refinement depth edge cosine iterations after updates) =
+    refinedTo
+    (refineDepths (alike depth) (record { a01 = num edge; a02 = num edge; a12 = num edge }) (record { m01 = num cosine; m02 = num cosine; m12 = num cosine }) iterations .value)
+    after
+    updates
+poseCaseHolds (ray x y z f g h fits) = Bool·beq (rayFits (vector (num x) (num y) (num z)) (vector (num f) (num g) (num h)) .value) fits
+
+unfoldable pub poseCases : List PoseCase
+poseCases =
+    -- (2, 2, 2), squared edges 2, cosines 0, one update allowed: (1.25, 1.25, 1.25), one update
+    refinement 0x4000_0000_0000_0000 0x4000_0000_0000_0000 0 1 0x3ff4_0000_0000_0000 1
+    -- from (1, 1, 1): none
+    ∷ refinement 0x3ff0_0000_0000_0000 0x4000_0000_0000_0000 0 1 0x3ff0_0000_0000_0000 0
+    -- camera (2^-20, 0, 1) fits bearing (0, 0, 1)
+    ∷ ray 0x3eb0_0000_0000_0000 0 0x3ff0_0000_0000_0000 0 0 0x3ff0_0000_0000_0000 true
+    -- (2^-20 + 2^-72, 0, 1) does not
+    ∷ ray 0x3eb0_0000_0000_0001 0 0x3ff0_0000_0000_0000 0 0 0x3ff0_0000_0000_0000 false
+    ∷ []

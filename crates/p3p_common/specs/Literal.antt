@@ -1,0 +1,27 @@
+-- The literals and constants of pose/p3p/common.rs, each by its bit pattern.
+use lib.Ieee.{Float}
+use Rattle.ieee754.specs.Literal.{num}
+
+abbrev pub half : Float
+half = num 0x3fe0_0000_0000_0000
+
+abbrev pub one : Float
+one = num 0x3ff0_0000_0000_0000
+
+abbrev pub two : Float
+two = num 0x4000_0000_0000_0000
+
+abbrev pub sixtyFour : Float
+sixtyFour = num 0x4050_0000_0000_0000
+
+-- 1e-10, the nearest double
+abbrev pub ten⁻¹⁰ : Float
+ten⁻¹⁰ = num 0x3ddb_7cdf_d9d7_bdbb
+
+-- NEAR_ROTATION_TOLERANCE
+abbrev pub nearRotationTolerance : Float
+nearRotationTolerance = ten⁻¹⁰
+
+-- PROJECTED_RAY_TOLERANCE, 2 ^ -20
+abbrev pub projectedRayTolerance : Float
+projectedRayTolerance = num 0x3eb0_0000_0000_0000
