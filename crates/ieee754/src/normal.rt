@@ -13,7 +13,7 @@ pub struct Scaled {
 }
 
 // sig * 2^exp * 2^52, with 53 digits in the significand: those of a subnormal number are moved up.
-pub fn normalise(sig: u64, exp: u64) -> Scaled
+pub(crate) fn normalise(sig: u64, exp: u64) -> Scaled
     requires { ⌜ IsSignificand sig exp × (0 < sig) ⌝ }
     ensures { λ r. ⌜ IsNormal sig exp r ⌝ }
 {
@@ -29,7 +29,7 @@ pub fn normalise(sig: u64, exp: u64) -> Scaled
 }
 
 // v * 2^exp, or a number that rounds as it does, with 64 digits in the significand; and zero.
-pub fn normalise_wide(v: Wide, exp: u64) -> Scaled
+pub(crate) fn normalise_wide(v: Wide, exp: u64) -> Scaled
     requires { ⌜ (64 ≤ exp) × (exp < 4900) ⌝ }
     ensures { λ r. ⌜ IsRoundable v exp r ⌝ }
 {

@@ -20,7 +20,7 @@ fn nearest(w: u64) -> u64
 
 // w * 2^exp / 2^2166, rounded: a word has 11 digits more than a significand, and 2^11 * 2^1081 is the smallest double.
 // Below that it says which digits are kept. (The bound on exp keeps sums from wrapping.)
-pub fn round_pack(negative: bool, w: u64, exp: u64) -> f64
+pub(crate) fn round_pack(negative: bool, w: u64, exp: u64) -> f64
     requires { ⌜ (exp < 5000) × (1081 < exp → 2 ^ 63 ≤ w) ⌝ }
     ensures { λ r. ⌜ r ≡ rounded negative (w * 2 ^ exp) ⌝ }
 {
@@ -32,7 +32,7 @@ pub fn round_pack(negative: bool, w: u64, exp: u64) -> f64
 }
 
 // v * 2^exp / 2^2166, rounded.
-pub fn round_wide(negative: bool, v: Wide, exp: u64) -> f64
+pub(crate) fn round_wide(negative: bool, v: Wide, exp: u64) -> f64
     requires { ⌜ (64 ≤ exp) × (exp < 4900) ⌝ }
     ensures { λ r. ⌜ r ≡ rounded negative (value v * 2 ^ exp) ⌝ }
 {

@@ -29,7 +29,7 @@ fn sum_aligned(a_negative: bool, a: Wide, b_negative: bool, b: Wide, exp: u64) -
 // ±p * 2^p_exp / 2^2166 + c, rounded. The addend c over 2^2166 is c.sig * 2^9 in the upper word, times
 // 2^(c.exp + 1019), since 9 + 64 + 1019 is 1092. The one with the lower exponent is brought to the other's. It loses
 // digits only where they are too small to be seen, or where the other is larger by far.
-pub fn add_scaled(negative: bool, p: Wide, p_exp: u64, c: Unpacked) -> f64
+pub(crate) fn add_scaled(negative: bool, p: Wide, p_exp: u64, c: Unpacked) -> f64
     requires { ⌜ IsProduct (value p) «p_exp» × IsSignificand (c .sig) (c .exp) ⌝ }
     ensures { λ r. ⌜ r ≡ summed negative (value p * 2 ^ «p_exp») (c .negative) (c .sig * 2 ^ c .exp * 2 ^ 1092) ⌝ }
 {

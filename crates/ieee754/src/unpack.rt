@@ -14,7 +14,7 @@ pub struct Unpacked {
 
 // x by the fields of its bit pattern. The significand has a leading digit more than its field, unless the exponent's
 // field is 0.
-pub fn unpack(x: f64) -> Unpacked
+pub(crate) fn unpack(x: f64) -> Unpacked
     requires { ⌜ T (finite x) ⌝ }
     ensures { λ r. ⌜ IsUnpacked x r ⌝ }
 {

@@ -14,7 +14,7 @@ pub struct Wide {
 }
 
 // a + b. The low word is the sum modulo 2^64, wrapped on purpose, and there is a carry exactly where it is less than b.
-pub fn add_words(a: u64, b: u64) -> Wide
+pub(crate) fn add_words(a: u64, b: u64) -> Wide
     ensures { λ r. ⌜ (r .hi ≤ 1) × (value r ≡ a + b) ⌝ }
 {
     let lo = wrapping_add_u64(a, b);
@@ -27,7 +27,7 @@ pub fn add_words(a: u64, b: u64) -> Wide
 
 // a * b, from halves of 32 bits. The middle column goes half to the high word and half, moved up, to the low one, whose
 // sum has a carry.
-pub fn product(a: u64, b: u64) -> Wide
+pub(crate) fn product(a: u64, b: u64) -> Wide
     requires { ⌜ (a < 2 ^ 62) × (b < 2 ^ 62) ⌝ }
     ensures { λ r. ⌜ value r ≡ a * b ⌝ }
 {
@@ -44,7 +44,7 @@ pub fn product(a: u64, b: u64) -> Wide
 }
 
 // a + b.
-pub fn add_wide(a: Wide, b: Wide) -> Wide
+pub(crate) fn add_wide(a: Wide, b: Wide) -> Wide
     requires { ⌜ a .hi + b .hi + 1 < 2 ^ 64 ⌝ }
     ensures { λ r. ⌜ value r ≡ value a + value b ⌝ }
 {
@@ -56,7 +56,7 @@ pub fn add_wide(a: Wide, b: Wide) -> Wide
 }
 
 // a - b, for a b that is no larger.
-pub fn sub_wide(a: Wide, b: Wide) -> Wide
+pub(crate) fn sub_wide(a: Wide, b: Wide) -> Wide
     requires { ⌜ value b ≤ value a ⌝ }
     ensures { λ r. ⌜ value r + value b ≡ value a ⌝ }
 {
@@ -75,7 +75,7 @@ pub fn sub_wide(a: Wide, b: Wide) -> Wide
 }
 
 // a - b, if that is not below 0 and fits a word, and 0 if not.
-pub fn word_difference(a: Wide, b: Wide) -> u64
+pub(crate) fn word_difference(a: Wide, b: Wide) -> u64
     requires { ⌜ b .hi + 1 < 2 ^ 64 ⌝ }
     ensures { λ r. ⌜ ((r ≡ 0 → ⊥) → r + value b ≡ value a) ⌝ }
 {
@@ -90,7 +90,7 @@ pub fn word_difference(a: Wide, b: Wide) -> u64
 }
 
 // Whether a < b.
-pub fn less_wide(a: Wide, b: Wide) -> bool
+pub(crate) fn less_wide(a: Wide, b: Wide) -> bool
     ensures { λ r. ⌜ r ≡ ltb (value a) (value b) ⌝ }
 {
     if a.hi == b.hi {
@@ -101,7 +101,7 @@ pub fn less_wide(a: Wide, b: Wide) -> bool
 }
 
 // v / 2^k, where that fits a word.
-pub fn shift_right(v: Wide, k: u64) -> u64
+pub(crate) fn shift_right(v: Wide, k: u64) -> u64
     requires { ⌜ (0 < k) × (k < 64) × (v .hi < 2 ^ k) ⌝ }
     ensures { λ r. ⌜ r ≡ value v / 2 ^ k ⌝ }
 {
@@ -109,7 +109,7 @@ pub fn shift_right(v: Wide, k: u64) -> u64
 }
 
 // w / 2^k, with the last digit set where that drops anything.
-pub fn jam(w: u64, k: u64) -> u64
+pub(crate) fn jam(w: u64, k: u64) -> u64
     ensures { λ r. ⌜ r ≡ jam k w ⌝ }
 {
     if k < 64 {
@@ -128,7 +128,7 @@ fn jam_top(v: Wide) -> u64
 }
 
 // v / 2^k, with the last digit set where that drops anything.
-pub fn jam_wide(v: Wide, k: u64) -> Wide
+pub(crate) fn jam_wide(v: Wide, k: u64) -> Wide
     ensures { λ r. ⌜ value r ≡ jam k (value v) ⌝ }
 {
     if k == 0 {

@@ -7,6 +7,7 @@ use lib.Dec.{ltb}
 use lib.ListN.{set}
 use lib.IntN.{ℤ, pos}
 use lib.Ieee.{Float, neg, lt}
+use Rattle.ieee754.specs.Literal.{one, two}
 use Rattle.ieee754.specs.Magnitude.{abs}
 use Rattle.ieee754.specs.Traced.{Traced}
 use Rattle.ieee754.specs.Scaling.{Both, At}
@@ -22,7 +23,6 @@ use Rattle.p3p_common.specs.PoseScaling.{AtEdges}
 use Rattle.polynomial.specs.declared.Roots.{Roots}
 use Rattle.polynomial.specs.RootScaling.{AtRoots, two-at, one-at, refused-at}
 use Rattle.polynomial.proofs.QuadraticScaling.{quadratic-scales}
-use Rattle.lambdatwist.specs.Literal.{one, two}
 use Rattle.lambdatwist.specs.DepthSlots.{noCandidates, pushIfPositive}
 use Rattle.lambdatwist.specs.Charts.{forRoots, noDivisor, firstTurn, firstChart, secondTurn, weightChart, secondChart, chart}
 use Rattle.lambdatwist.specs.Poses.{signTurn, candidates}

@@ -3,14 +3,13 @@ use mathlib.Core.Path.{_≡_, refl}
 use mathlib.Core.Bool.{Bool}
 use lib.IntN.{ℤ, pos}
 use lib.Ieee.{Float}
-use Rattle.ieee754.specs.Literal.{epsilon}
+use Rattle.ieee754.specs.Literal.{two, sixtyFour, epsilon}
 use Rattle.ieee754.specs.Scaling.{Both, At, Scales}
 use Rattle.ieee754.proofs.Degrees.{same, null, !_, _⊗_, _⊘_, _⊕_, _⊖_, pure, _>>=_, _>>≡_, if_then_else_, abs-at, max-at, le-same, eq-same, finite-same, alike}
 use Rattle.p3p_common.specs.declared.input.World.{World}
 use Rattle.p3p_common.specs.declared.input.Bearings.{Bearings}
 use Rattle.p3p_common.specs.declared.refine_depths.SquaredEdges.{SquaredEdges}
 use Rattle.p3p_common.specs.PoseScaling.{AtWorld, AtEdges}
-use Rattle.lambdatwist.specs.Literal.{two, sixtyFour}
 use Rattle.lambdatwist.specs.Angles.{cosines, squaredSines}
 use Rattle.lambdatwist.specs.Cubic.{cubicCoefficients, coefficientScale, isUnusable}
 use Rattle.lambdatwist.specs.Condition.{foldedScale, leadingShare, leadingCubicCondition}

@@ -2,7 +2,7 @@
 use mathlib.Core.Path.{_≡_, refl, ap}
 use lib.IntN.{ℤ, pos}
 use lib.Ieee.{Float}
-use Rattle.ieee754.specs.Literal.{epsilon}
+use Rattle.ieee754.specs.Literal.{sixtyFour, epsilon}
 use Rattle.ieee754.specs.Scaling.{Both, At, Scales}
 use Rattle.ieee754.proofs.Degrees.{same, null, at-zero, !_, ⊝_, √_, _⊗_, _⊘_, _⊕_, _⊖_, pure, _>>=_, if_then_else_, choose, abs-at, max-at, lt-same, eq-same, finite-same}
 use Rattle.linalg.specs.declared.matrix3.Matrix3.{Matrix3}
@@ -11,7 +11,6 @@ use Rattle.linalg.proofs.MatrixDegrees.{trace-scales}
 use Rattle.polynomial.specs.declared.Roots.{Roots}
 use Rattle.polynomial.specs.RootScaling.{AtRoots, two-at, one-at, refused-at}
 use Rattle.polynomial.proofs.QuadraticScaling.{quadratic-scales}
-use Rattle.lambdatwist.specs.Literal.{sixtyFour}
 use Rattle.lambdatwist.specs.EigenPair.{pairCoefficient, nonzeroPair, byMagnitude, pairOfRoots, eigenvaluePair}
 use Rattle.lambdatwist.specs.RatioOf.{ratioOf}
 use Rattle.lambdatwist.specs.declared.eigenvalues.Eigenvalues.{Eigenvalues}

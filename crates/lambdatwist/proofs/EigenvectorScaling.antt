@@ -3,7 +3,7 @@ use mathlib.Core.Path.{_≡_, refl, ap, subst}
 use mathlib.Core.Bool.{Bool, _&&_}
 use lib.IntN.{ℤ, pos}
 use lib.Ieee.{Float, lt}
-use Rattle.ieee754.specs.Literal.{epsilon, minPositive}
+use Rattle.ieee754.specs.Literal.{one, sixtyFour, epsilon, minPositive}
 use Rattle.ieee754.specs.declared.total_cmp.Order.{Order}
 use Rattle.ieee754.specs.declared.total_cmp.Order.the-variants.{Less, Equal, Greater}
 use Rattle.ieee754.specs.Scaling.{Both, At, Scales}
@@ -15,7 +15,6 @@ use Rattle.linalg.specs.Vectors.{norm}
 use Rattle.linalg.specs.VectorScaling.{AtVector, AtMatrix}
 use Rattle.linalg.proofs.VectorDegrees.{vector-at-zero, vecDiv-scales, normSquared-scales, cross-scales, allFinite-same}
 use Rattle.linalg.proofs.MatrixDegrees.{matNormSquared-scales}
-use Rattle.lambdatwist.specs.Literal.{one, sixtyFour}
 use Rattle.lambdatwist.specs.RowCrosses.{lastGreatest, longer, unitVector, eigenvectorFromRowCrosses}
 use Rattle.lambdatwist.specs.ZeroVector.{zeroDirection, zeroVector}
 use Rattle.lambdatwist.specs.EigenvectorOf.{eigenMinors, eigenDenominator, denominatorScale, ifFinite, eigenvectorByMinors, eigenvectorOf}

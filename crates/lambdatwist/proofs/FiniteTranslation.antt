@@ -6,7 +6,7 @@ use Prim.Native.Nat.{ℕ, zero, suc, _+_}
 use lib.Dec.{T, ltb, eqb}
 use lib.ListN.{set, take}
 use lib.Ieee.{Float, binary64, ofBits, mul, le}
-use Rattle.ieee754.specs.Literal.{epsilon}
+use Rattle.ieee754.specs.Literal.{sixtyFour, epsilon}
 use Rattle.ieee754.specs.Traced.{Traced, pure, if_then_else_}
 use Rattle.linalg.specs.Vectors.{allFinite, vecSub}
 use Rattle.linalg.specs.Matrices.{zeroPose, matVec}
@@ -36,7 +36,6 @@ use Rattle.p3p_common.specs.ProjectedPose.{cameraPoint, projectedPoseFitsMinima
 use Rattle.p3p_common.specs.Gate.{ifValid, keepPoint0, projectedGate, gate}
 use Rattle.p3p_common.specs.Slots.{empty, push}
 use Rattle.p3p_common.specs.PushPose.{pushGated, pushPose}
-use Rattle.lambdatwist.specs.Literal.{sixtyFour}
 use Rattle.lambdatwist.specs.Edges.{edgeVectors, squaredEdges}
 use Rattle.lambdatwist.specs.Angles.{cosines, squaredSines, bearingFactors}
 use Rattle.lambdatwist.specs.Cubic.{cubicCoefficients, isUnusable}

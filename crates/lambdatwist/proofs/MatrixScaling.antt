@@ -1,12 +1,12 @@
 -- The singular matrix is at degree 2. Assumes nothing.
 use lib.IntN.{ℤ, pos}
 use lib.Ieee.{Float}
+use Rattle.ieee754.specs.Literal.{half, one}
 use Rattle.ieee754.specs.Scaling.{Both}
 use Rattle.ieee754.proofs.Degrees.{same, !_, ⊝_, _⊗_, _⊕_, _⊖_, pure, _>>=_}
 use Rattle.linalg.specs.VectorScaling.{AtMatrix}
 use Rattle.p3p_common.specs.declared.refine_depths.SquaredEdges.{SquaredEdges}
 use Rattle.p3p_common.specs.PoseScaling.{AtEdges}
-use Rattle.lambdatwist.specs.Literal.{half, one}
 use Rattle.lambdatwist.specs.Matrix.{singularMatrix}
 use Rattle.lambdatwist.specs.declared.angles.Factors.{Factors}
 

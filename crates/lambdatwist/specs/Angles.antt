@@ -1,12 +1,12 @@
 -- What `solve_ordered` takes from the bearings: the cosines of the angles between them, what the cubic's coefficients need of those, and the factors b01, b02 and b12 of the matrix and the charts.
 use lib.Ieee.{Float, neg}
+use Rattle.ieee754.specs.Literal.{one, two}
 use Rattle.ieee754.specs.Clamp.{clamp}
 use Rattle.ieee754.specs.Traced.{Traced, pure, _>>=_, _⊗_, _⊖_, !_, ⊝_}
 use Rattle.linalg.specs.Vectors.{dot}
 use Rattle.linalg.specs.declared.vector3.Vector3.{Vector3}
 use Rattle.p3p_common.specs.declared.input.Bearings.{Bearings}
 use Rattle.p3p_common.specs.declared.refine_depths.Cosines.{Cosines}
-use Rattle.lambdatwist.specs.Literal.{one, two}
 use Rattle.lambdatwist.specs.declared.angles.Sines.{Sines}
 use Rattle.lambdatwist.specs.declared.angles.Factors.{Factors}
 

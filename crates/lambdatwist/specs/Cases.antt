@@ -3,13 +3,13 @@ use Prim.Native.Nat.{ℕ}
 use mathlib.Core.Bool.{Bool, _&&_}
 use mathlib.Core.List.{List, [], _∷_, _++_, map}
 use lib.Dec.{eqb}
+use Rattle.ieee754.specs.Literal.{zero, one, two}
 use Rattle.linalg.specs.Vectors.{vector}
 use Rattle.polynomial.specs.Cases.{RootCase, rootCaseHolds, rootCases}
 use Rattle.p3p_common.specs.Cases.{PoseCase, poseCaseHolds, poseCases}
 use Rattle.p3p_common.specs.declared.input.World.{World}
 use Rattle.p3p_common.specs.declared.input.Bearings.{Bearings}
 use Rattle.lambdatwist.specs.Permutation.{points, rays}
-use Rattle.lambdatwist.specs.Literal.{zero, one, two}
 use Rattle.lambdatwist.specs.Solve.{solve}
 use Rattle.lambdatwist.specs.declared.solve.Answer.{Answer}
 

@@ -2,12 +2,12 @@
 use mathlib.Core.Bool.{Bool, not, _||_}
 use lib.Ieee.{Float, eq}
 use lib.Ieee.Scale.{finite}
+use Rattle.ieee754.specs.Literal.{zero}
 use Rattle.ieee754.specs.Magnitude.{abs}
 use Rattle.ieee754.specs.Maximum.{max}
 use Rattle.ieee754.specs.Traced.{Traced, pure, _>>=_, if_then_else_, _⊘_, !_}
 use Rattle.p3p_common.specs.declared.input.World.{World}
 use Rattle.p3p_common.specs.declared.input.Bearings.{Bearings}
-use Rattle.lambdatwist.specs.Literal.{zero}
 use Rattle.lambdatwist.specs.Edges.{edgeVectors, squaredEdges}
 use Rattle.lambdatwist.specs.Angles.{cosines, squaredSines}
 use Rattle.lambdatwist.specs.Cubic.{cubicCoefficients}

@@ -3,12 +3,11 @@
 use mathlib.Core.Bool.{Bool, true}
 use lib.Ieee.{Float, le}
 use lib.Ieee.Scale.{finite}
-use Rattle.ieee754.specs.Literal.{epsilon}
+use Rattle.ieee754.specs.Literal.{two, sixtyFour, epsilon}
 use Rattle.ieee754.specs.Magnitude.{abs}
 use Rattle.ieee754.specs.Maximum.{max}
 use Rattle.ieee754.specs.Traced.{Traced, pure, _>>=_, if_then_else_, _⊗_, _⊕_, _⊖_, !_}
 use Rattle.p3p_common.specs.declared.refine_depths.SquaredEdges.{SquaredEdges}
-use Rattle.lambdatwist.specs.Literal.{two, sixtyFour}
 use Rattle.lambdatwist.specs.declared.angles.Sines.{Sines}
 use Rattle.lambdatwist.specs.declared.cubic.Coefficients.{Coefficients}
 

@@ -4,10 +4,10 @@ use mathlib.Core.List.{List, [], _∷_}
 use lib.Dec.{ltb}
 use lib.ListN.{set}
 use lib.Ieee.{Float, lt}
+use Rattle.ieee754.specs.Literal.{zero}
 use Rattle.ieee754.specs.Traced.{if_then_else_}
 use Rattle.linalg.specs.Vectors.{zeros}
 use Rattle.linalg.specs.declared.vector3.Vector3.{Vector3}
-use Rattle.lambdatwist.specs.Literal.{zero}
 use Rattle.lambdatwist.specs.declared.candidates.Candidates.{Candidates}
 
 -- let mut depths = [Vector3::zeros(); 4];

@@ -1,5 +1,6 @@
 -- The two eigenvalues that are not known: the second part of `eig_with_known_zero`. They are the roots of a quadratic, the greater in magnitude first.
 use lib.Ieee.{Float, lt, eq}
+use Rattle.ieee754.specs.Literal.{zero}
 use Rattle.ieee754.specs.Magnitude.{abs}
 use Rattle.ieee754.specs.Traced.{Traced, pure, _>>=_, if_then_else_, _⊗_, _⊕_, _⊖_, !_, ⊝_}
 use Rattle.linalg.specs.Matrices.{trace}
@@ -7,7 +8,6 @@ use Rattle.linalg.specs.declared.matrix3.Matrix3.{Matrix3}
 use Rattle.polynomial.specs.Quadratic.{quadraticRealMonic}
 use Rattle.polynomial.specs.declared.Roots.{Roots}
 use Rattle.polynomial.specs.declared.Roots.the-variants.{Two, One, Refused}
-use Rattle.lambdatwist.specs.Literal.{zero}
 use Rattle.lambdatwist.specs.declared.eigenvalues.Eigenvalues.{Eigenvalues}
 use Rattle.lambdatwist.specs.declared.eigenvalues.Eigenvalues.the-variants.{Pair, NoPair}
 

@@ -2,14 +2,13 @@
 use mathlib.Core.Bool.{Bool}
 use lib.Ieee.{Float, le}
 use lib.Ieee.Scale.{finite}
-use Rattle.ieee754.specs.Literal.{epsilon, minPositive}
+use Rattle.ieee754.specs.Literal.{one, sixtyFour, epsilon, minPositive}
 use Rattle.ieee754.specs.Magnitude.{abs}
 use Rattle.ieee754.specs.Maximum.{max}
 use Rattle.ieee754.specs.Traced.{Traced, pure, _>>=_, if_then_else_, _⊗_, _⊕_, _⊖_, _⊘_, !_, ⊝_, √_}
 use Rattle.linalg.specs.Vectors.{vector, allFinite}
 use Rattle.linalg.specs.declared.vector3.Vector3.{Vector3}
 use Rattle.linalg.specs.declared.matrix3.Matrix3.{Matrix3}
-use Rattle.lambdatwist.specs.Literal.{one, sixtyFour}
 use Rattle.lambdatwist.specs.RowCrosses.{eigenvectorFromRowCrosses}
 use Rattle.lambdatwist.specs.declared.row_crosses.Eigenvector.{Eigenvector}
 use Rattle.lambdatwist.specs.declared.row_crosses.Eigenvector.the-variants.{Unit, Missing}

@@ -1,12 +1,12 @@
 -- `eig_with_known_zero`: the eigenvectors, by columns, and the eigenvalues of a symmetric matrix of which zero is an eigenvalue. Each step that stops ends it.
 use mathlib.Core.Bool.{Bool}
 use lib.Ieee.{Float}
+use Rattle.ieee754.specs.Literal.{zero}
 use Rattle.ieee754.specs.Traced.{Traced, pure, _>>=_, if_then_else_, _⊗_, !_}
 use Rattle.linalg.specs.Vectors.{vector}
 use Rattle.linalg.specs.Matrices.{fromColumns, matFinite}
 use Rattle.linalg.specs.declared.vector3.Vector3.{Vector3}
 use Rattle.linalg.specs.declared.matrix3.Matrix3.{Matrix3}
-use Rattle.lambdatwist.specs.Literal.{zero}
 use Rattle.lambdatwist.specs.ZeroVector.{zeroVector}
 use Rattle.lambdatwist.specs.EigenPair.{eigenvaluePair}
 use Rattle.lambdatwist.specs.EigenvectorOf.{eigenMinors, eigenvectorOf}

@@ -1,5 +1,4 @@
 -- The definitions that the contracts of this crate cite, in the order of a solve: what lambdatwist.rs computes, line by line.
-pub mod Literal
 pub mod Edges
 pub mod Angles
 pub mod Cubic

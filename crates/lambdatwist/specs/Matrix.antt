@@ -1,9 +1,9 @@
 -- The matrix that is singular at the cubic's root g: `let matrix = Matrix3::new(..)` of `solve_ordered`.
 use lib.Ieee.{Float}
+use Rattle.ieee754.specs.Literal.{half, one}
 use Rattle.ieee754.specs.Traced.{Traced, pure, _>>=_, _⊗_, _⊕_, _⊖_, !_, ⊝_}
 use Rattle.linalg.specs.declared.matrix3.Matrix3.{Matrix3}
 use Rattle.p3p_common.specs.declared.refine_depths.SquaredEdges.{SquaredEdges}
-use Rattle.lambdatwist.specs.Literal.{half, one}
 use Rattle.lambdatwist.specs.declared.angles.Factors.{Factors}
 
 -- Matrix3::new(

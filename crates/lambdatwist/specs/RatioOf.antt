@@ -1,10 +1,9 @@
 -- The ratio of the eigenvalues' roots, with either sign of which a null vector is made: `solve_ordered`, from `let ratio_squared` on.
 use lib.Ieee.{Float, lt}
 use lib.Ieee.Scale.{finite}
-use Rattle.ieee754.specs.Literal.{epsilon}
+use Rattle.ieee754.specs.Literal.{zero, sixtyFour, epsilon}
 use Rattle.ieee754.specs.Maximum.{max}
 use Rattle.ieee754.specs.Traced.{Traced, pure, _>>=_, if_then_else_, _⊗_, _⊘_, !_, ⊝_, √_}
-use Rattle.lambdatwist.specs.Literal.{zero, sixtyFour}
 use Rattle.lambdatwist.specs.declared.ratio.Ratio.{Ratio}
 use Rattle.lambdatwist.specs.declared.ratio.Ratio.the-variants.{Real, NotReal}
 

@@ -4,7 +4,7 @@ use Prim.Native.Nat.{ℕ, zero, suc}
 use mathlib.Core.Bool.{Bool}
 use lib.Dec.{eqb}
 use lib.Ieee.{Float, le}
-use Rattle.ieee754.specs.Literal.{epsilon}
+use Rattle.ieee754.specs.Literal.{sixtyFour, epsilon}
 use Rattle.ieee754.specs.Traced.{Traced, pure, _>>=_, if_then_else_, _⊗_, _⊘_, !_}
 use Rattle.linalg.specs.declared.vector3.Vector3.{Vector3}
 use Rattle.linalg.specs.declared.matrix3.Matrix3.{Matrix3}
@@ -22,7 +22,6 @@ use Rattle.p3p_common.specs.declared.refine_depths.Cosines.{Cosines}
 use Rattle.p3p_common.specs.declared.world_basis_inverse.Basis.{Basis}
 use Rattle.p3p_common.specs.declared.world_basis_inverse.Basis.the-variants.{Inverse, Singular}
 use Rattle.p3p_common.specs.declared.solutions.Solutions.{Solutions}
-use Rattle.lambdatwist.specs.Literal.{sixtyFour}
 use Rattle.lambdatwist.specs.Edges.{edgeVectors, squaredEdges}
 use Rattle.lambdatwist.specs.Angles.{cosines, squaredSines, bearingFactors}
 use Rattle.lambdatwist.specs.Cubic.{cubicCoefficients, isUnusable}

@@ -1,12 +1,11 @@
 -- The eigenvector of the known eigenvalue zero: the first part of `eig_with_known_zero`. It is never used afterwards, but where it is missing the solve ends.
 use lib.Ieee.{Float, le}
-use Rattle.ieee754.specs.Literal.{epsilon}
+use Rattle.ieee754.specs.Literal.{zero, sixtyFour, epsilon}
 use Rattle.ieee754.specs.Traced.{Traced, pure, _>>=_, if_then_else_, _⊗_, _⊖_, !_, √_}
 use Rattle.linalg.specs.Vectors.{vector, normSquared, vecDiv}
 use Rattle.linalg.specs.Matrices.{matNormSquared}
 use Rattle.linalg.specs.declared.vector3.Vector3.{Vector3}
 use Rattle.linalg.specs.declared.matrix3.Matrix3.{Matrix3}
-use Rattle.lambdatwist.specs.Literal.{zero, sixtyFour}
 use Rattle.lambdatwist.specs.RowCrosses.{eigenvectorFromRowCrosses}
 use Rattle.lambdatwist.specs.declared.row_crosses.Eigenvector.{Eigenvector}
 use Rattle.lambdatwist.specs.declared.row_crosses.Eigenvector.the-variants.{Unit}

@@ -4,6 +4,7 @@ use mathlib.Core.Bool.{Bool, not, _||_}
 use Prim.Native.Nat.{ℕ, zero, suc, _+_}
 use lib.IntN.{ℤ, pos}
 use lib.Ieee.{Float}
+use Rattle.ieee754.specs.Literal.{half, two}
 use Rattle.ieee754.specs.Traced.{Traced}
 use Rattle.ieee754.specs.Scaling.{Both, At}
 use Rattle.ieee754.proofs.Degrees.{same, null, !_, ⊝_, _⊗_, _⊘_, _⊕_, _⊖_, pure, if_then_else_, _>>=_, choose, max-at, lt-same, eq-same, finite-same}
@@ -15,7 +16,7 @@ use Rattle.p3p_common.specs.declared.refine_depths.Cosines.{Cosines}
 use Rattle.p3p_common.specs.declared.refine_depths.Refined.{Refined}
 use Rattle.p3p_common.specs.declared.refine_depths.Step.{Step}
 use Rattle.p3p_common.specs.declared.refine_depths.Step.the-variants.{Next, Stop}
-use Rattle.p3p_common.specs.Literal.{half, two, ten⁻¹⁰}
+use Rattle.p3p_common.specs.Literal.{ten⁻¹⁰}
 use Rattle.p3p_common.specs.RefineDepths.{depthResidual, ifFinite, depthUpdate, depthStep, afterStep, refineTurns, refineDepths}
 use Rattle.p3p_common.specs.PoseScaling.{AtEdges, AtRefined}
 

@@ -2,18 +2,6 @@
 use lib.Ieee.{Float}
 use Rattle.ieee754.specs.Literal.{num}
 
-abbrev pub half : Float
-half = num 0x3fe0_0000_0000_0000
-
-abbrev pub one : Float
-one = num 0x3ff0_0000_0000_0000
-
-abbrev pub two : Float
-two = num 0x4000_0000_0000_0000
-
-abbrev pub sixtyFour : Float
-sixtyFour = num 0x4050_0000_0000_0000
-
 -- 1e-10, the nearest double
 abbrev pub ten⁻¹⁰ : Float
 ten⁻¹⁰ = num 0x3ddb_7cdf_d9d7_bdbb

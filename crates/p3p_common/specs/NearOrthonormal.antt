@@ -1,12 +1,13 @@
 -- has_near_orthonormal_columns of pose/p3p/common.rs: a column error of at most 1e-10 passes.
 use mathlib.Core.Bool.{Bool}
 use lib.Ieee.{le}
+use Rattle.ieee754.specs.Literal.{one}
 use Rattle.ieee754.specs.Magnitude.{abs}
 use Rattle.ieee754.specs.Traced.{Traced, pure, _>>=_, _⊕_, _⊖_, !_}
 use Rattle.linalg.specs.Vectors.{dot, normSquared}
 use Rattle.linalg.specs.Matrices.{column0, column1, column2}
 use Rattle.linalg.specs.declared.matrix3.Matrix3.{Matrix3}
-use Rattle.p3p_common.specs.Literal.{nearRotationTolerance, one}
+use Rattle.p3p_common.specs.Literal.{nearRotationTolerance}
 
 -- (first.norm_squared() - 1.0).abs() + (second.norm_squared() - 1.0).abs() + (third.norm_squared() - 1.0).abs()
 --     + first.dot(&second).abs() + first.dot(&third).abs() + second.dot(&third).abs() <= NEAR_ROTATION_TOLERANCE

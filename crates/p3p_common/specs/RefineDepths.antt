@@ -3,7 +3,7 @@ use Prim.Native.Nat.{ℕ, zero, suc, _+_}
 use mathlib.Core.Bool.{not, _||_}
 use lib.Ieee.{Float, lt, eq}
 use lib.Ieee.Scale.{finite}
-use Rattle.ieee754.specs.Literal.{num}
+use Rattle.ieee754.specs.Literal.{num, half, two}
 use Rattle.ieee754.specs.Maximum.{max}
 use Rattle.ieee754.specs.Traced.{Traced, pure, _>>=_, if_then_else_, _⊗_, _⊕_, _⊖_, _⊘_, !_, ⊝_}
 use Rattle.linalg.specs.Vectors.{vector, absSum, allFinite}
@@ -13,7 +13,7 @@ use Rattle.p3p_common.specs.declared.refine_depths.Cosines.{Cosines}
 use Rattle.p3p_common.specs.declared.refine_depths.Refined.{Refined}
 use Rattle.p3p_common.specs.declared.refine_depths.Step.{Step}
 use Rattle.p3p_common.specs.declared.refine_depths.Step.the-variants.{Next, Stop}
-use Rattle.p3p_common.specs.Literal.{half, two, ten⁻¹⁰}
+use Rattle.p3p_common.specs.Literal.{ten⁻¹⁰}
 
 -- d0 * d0 - 2.0 * d0 * d1 * m01 + d1 * d1 - a01,
 -- d0 * d0 - 2.0 * d0 * d2 * m02 + d2 * d2 - a02,

@@ -2,7 +2,7 @@
 use mathlib.Core.Bool.{Bool, true}
 use lib.Ieee.{Float, le}
 use lib.Ieee.Scale.{finite}
-use Rattle.ieee754.specs.Literal.{epsilon}
+use Rattle.ieee754.specs.Literal.{one, sixtyFour, epsilon}
 use Rattle.ieee754.specs.Maximum.{max}
 use Rattle.ieee754.specs.Traced.{Traced, pure, _>>=_, if_then_else_, _⊗_, _⊘_, !_}
 use Rattle.linalg.specs.Vectors.{normSquared, cross, vecMul}
@@ -11,7 +11,6 @@ use Rattle.linalg.specs.declared.vector3.Vector3.{Vector3}
 use Rattle.linalg.specs.declared.matrix3.Matrix3.{Matrix3}
 use Rattle.p3p_common.specs.declared.world_basis_inverse.Basis.{Basis}
 use Rattle.p3p_common.specs.declared.world_basis_inverse.Basis.the-variants.{Inverse, Singular}
-use Rattle.p3p_common.specs.Literal.{one, sixtyFour}
 
 -- let inverse_determinant = determinant.recip();
 -- let dual_first = second_edge.cross(&normal) * inverse_determinant;

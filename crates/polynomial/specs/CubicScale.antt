@@ -1,10 +1,11 @@
 -- `cubic_variable_scale` of polynomial.rs, and the coefficients over that scale, with which `polished_cubic_root` goes on. Document 01, module 3.
 use mathlib.Core.Bool.{Bool, _&&_, _||_}
 use lib.Ieee.{Float, lt, eq}
+use Rattle.ieee754.specs.Literal.{zero, one}
 use Rattle.ieee754.specs.Magnitude.{abs}
 use Rattle.ieee754.specs.Maximum.{max}
 use Rattle.ieee754.specs.Traced.{Traced, pure, _>>=_, if_then_else_, !_, √_, ∛_, _⊗_, _⊘_}
-use Rattle.polynomial.specs.Literal.{zero, one, ten⁵⁰, ten¹⁰⁰, ten¹⁵⁰, ten⁻⁵⁰, ten⁻¹⁰⁰, ten⁻¹⁵⁰}
+use Rattle.polynomial.specs.Literal.{ten⁵⁰, ten¹⁰⁰, ten¹⁵⁰, ten⁻⁵⁰, ten⁻¹⁰⁰, ten⁻¹⁵⁰}
 use Rattle.polynomial.specs.declared.Monic.{Monic}
 
 -- b == 0.0 && c == 0.0 && d == 0.0

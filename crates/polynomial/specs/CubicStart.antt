@@ -1,8 +1,9 @@
 -- The root from which `polished_cubic_root` of polynomial.rs starts its Newton steps, of x^3 + b*x^2 + c*x + d: Cardano's where it is the only real one, and else a point outside the nearest
 -- turning point. Where there is none the Rust returns None. Document 01, module 3.
 use lib.Ieee.{Float, neg, lt, le, eq}
+use Rattle.ieee754.specs.Literal.{zero, half, two}
 use Rattle.ieee754.specs.Traced.{Traced, pure, _>>=_, if_then_else_, !_, ⊝_, √_, _⊗_, _⊘_, _⊕_, _⊖_}
-use Rattle.polynomial.specs.Literal.{zero, half, two, three, twentySeven}
+use Rattle.polynomial.specs.Literal.{three, twentySeven}
 use Rattle.polynomial.specs.Answer.{after}
 use Rattle.polynomial.specs.Cardano.{cardanoSingleReal}
 use Rattle.polynomial.specs.declared.Monic.{Monic}

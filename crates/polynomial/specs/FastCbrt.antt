@@ -3,11 +3,10 @@ use Prim.Native.Nat.{_+_, _/_}
 use mathlib.Core.Bool.{not}
 use lib.Ieee.{Float, binary64, toBits, ofBits, lt, eq}
 use lib.Ieee.Scale.{finite}
-use Rattle.ieee754.specs.Literal.{minPositive}
+use Rattle.ieee754.specs.Literal.{zero, one, two, minPositive}
 use Rattle.ieee754.specs.Magnitude.{abs}
 use Rattle.ieee754.specs.CopySign.{copysign}
 use Rattle.ieee754.specs.Traced.{Traced, pure, _>>=_, if_then_else_, !_, ∛_, _⊗_, _⊘_, _⊕_}
-use Rattle.polynomial.specs.Literal.{zero, one, two}
 use Rattle.polynomial.specs.Answer.{after}
 use Rattle.polynomial.specs.declared.Step.{Step}
 use Rattle.polynomial.specs.declared.Step.the-variants.{Next, Stop}

@@ -2,18 +2,6 @@
 use lib.Ieee.{Float}
 use Rattle.ieee754.specs.Literal.{num}
 
-abbrev pub zero : Float
-zero = num 0
-
-abbrev pub half : Float
-half = num 0x3fe0_0000_0000_0000
-
-abbrev pub one : Float
-one = num 0x3ff0_0000_0000_0000
-
-abbrev pub two : Float
-two = num 0x4000_0000_0000_0000
-
 abbrev pub three : Float
 three = num 0x4008_0000_0000_0000
 

@@ -3,10 +3,11 @@ use Prim.Native.Nat.{ℕ, zero, suc}
 use mathlib.Core.Bool.{not}
 use lib.Ieee.{Float, lt, eq}
 use lib.Ieee.Scale.{finite}
+use Rattle.ieee754.specs.Literal.{two}
 use Rattle.ieee754.specs.Magnitude.{abs}
 use Rattle.ieee754.specs.Traced.{Traced, pure, _>>=_, if_then_else_, !_, _⊗_, _⊘_, _⊕_, _⊖_}
-use Rattle.polynomial.specs.Literal as literal
-use Rattle.polynomial.specs.Literal.{two, three, ten⁻¹⁴}
+use Rattle.ieee754.specs.Literal as literal
+use Rattle.polynomial.specs.Literal.{three, ten⁻¹⁴}
 use Rattle.polynomial.specs.Answer.{after}
 use Rattle.polynomial.specs.CubicStart.{cubicValue}
 use Rattle.polynomial.specs.declared.Monic.{Monic}

@@ -2,8 +2,8 @@
 use mathlib.Core.Bool.{not}
 use lib.Ieee.{Float}
 use lib.Ieee.Scale.{finite}
+use Rattle.ieee754.specs.Literal.{zero}
 use Rattle.ieee754.specs.Traced.{Traced, pure, _>>=_, if_then_else_, !_, _⊗_}
-use Rattle.polynomial.specs.Literal.{zero}
 use Rattle.polynomial.specs.Answer.{notFinite, noRoot, after}
 use Rattle.polynomial.specs.CubicScale.{allZero, cubicVariableScale, normalised}
 use Rattle.polynomial.specs.CubicStart.{startRoot}

@@ -2,12 +2,12 @@
 use mathlib.Core.Bool.{not}
 use lib.Ieee.{Float, neg, lt, eq}
 use lib.Ieee.Scale.{finite}
-use Rattle.ieee754.specs.Literal.{epsilon, minPositive}
+use Rattle.ieee754.specs.Literal.{zero, half, epsilon, minPositive}
 use Rattle.ieee754.specs.Magnitude.{abs}
 use Rattle.ieee754.specs.CopySign.{copysign}
 use Rattle.ieee754.specs.Maximum.{max}
 use Rattle.ieee754.specs.Traced.{Traced, pure, _>>=_, if_then_else_, !_, ⊝_, √_, _⊗_, _⊘_, _⊕_, mulAdd}
-use Rattle.polynomial.specs.Literal.{zero, half, four, thirtyTwo}
+use Rattle.polynomial.specs.Literal.{four, thirtyTwo}
 use Rattle.polynomial.specs.Answer.{notFinite, noRealRoots}
 use Rattle.polynomial.specs.declared.Roots.{Roots}
 use Rattle.polynomial.specs.declared.Roots.the-variants.{Two}
