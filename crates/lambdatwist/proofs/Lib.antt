@@ -4,6 +4,7 @@ mod PoseTurns
 mod PoseCount
 mod Retries
 pub mod NanCondition
+pub mod Evaluation
 pub mod MarkedCases
 pub mod Equal
 pub mod SquaredLength

@@ -1,47 +1,10 @@
 -- The cases marked P of document 01 hold of the definitions (`marked-cases`): they compute. Assumes nothing.
 use lib.Dec.{T}
-use lib.Ieee.{ofBits, toBits, size, add, sub, mul, div, sum, round, neg, lt, le, eq, isNan}
-use Rattle.ieee754.specs.Magnitude.{abs}
-use Rattle.ieee754.specs.CopySign.{copysign}
-use Rattle.ieee754.specs.Maximum.{max}
-use Rattle.ieee754.specs.Clamp.{clamp}
-use Rattle.ieee754.specs.TotalOrder.{totalOrder, totalCmp}
-use Rattle.ieee754.specs.Root.{sqrt, cbrt, roundRoot, root, digits}
-use Rattle.ieee754.specs.Fma.{fma}
-use Rattle.linalg.specs.Vectors.{vecSub, vecAdd, vecMul, vecDiv, dot, normSquared, norm, cross, absSum, allFinite}
-use Rattle.linalg.specs.Matrices.{fromColumns, fromRows, matVec, matMul, matNormSquared, trace, matFinite}
-use Rattle.polynomial.specs.Quadratic.{quadraticPair, quadraticRealMonicComputed, quadraticRealMonic}
-use Rattle.polynomial.specs.FastCbrt.{cbrtStart, cbrtStep, cbrtSteps, fastCbrt}
-use Rattle.polynomial.specs.Cardano.{cardanoSingleReal}
-use Rattle.polynomial.specs.CubicScale.{allZero, large, tiny, coefficientScale, cubicVariableScale, normalised}
-use Rattle.polynomial.specs.CubicStart.{cubicValue, turningOffset, leftStart, rightStart, turningStart, startRoot}
-use Rattle.polynomial.specs.Newton.{newtonStep, newtonSteps}
-use Rattle.polynomial.specs.PolishedRoot.{rescaledRoot, polishedRoot, polishedCubicRoot}
 use Rattle.polynomial.specs.Cases.{haveBits, answers, rootCaseHolds, every, rootCases}
-use Rattle.p3p_common.specs.Input.{inputFinite}
-use Rattle.p3p_common.specs.RefineDepths.{depthResidual, ifFinite, depthUpdate, depthStep, afterStep, refineTurns, refineDepths}
-use Rattle.p3p_common.specs.RayFits.{rayFits}
-use Rattle.p3p_common.specs.WorldBasisInverse.{dualBasis, isSingular, worldBasisInverse}
-use Rattle.p3p_common.specs.Slots.{empty}
 use Rattle.p3p_common.specs.Cases.{hasBits, refinedTo, poseCaseHolds, poseCases}
-use Rattle.lambdatwist.specs.Edges.{edgeVectors, squaredEdges}
-use Rattle.lambdatwist.specs.Angles.{cosine, cosines, squaredSines, bearingFactors}
-use Rattle.lambdatwist.specs.Cubic.{cubicCoefficients, coefficientScale as largestCoefficient, isUnusable}
-use Rattle.lambdatwist.specs.Condition.{foldedScale, leadingShare, leadingCubicCondition}
-use Rattle.lambdatwist.specs.Matrix.{singularMatrix}
-use Rattle.lambdatwist.specs.RowCrosses.{lastGreatest, longer, unitVector, eigenvectorFromRowCrosses}
-use Rattle.lambdatwist.specs.ZeroVector.{zeroDirection, zeroVector}
-use Rattle.lambdatwist.specs.EigenPair.{pairCoefficient, nonzeroPair, byMagnitude, pairOfRoots, eigenvaluePair}
-use Rattle.lambdatwist.specs.EigenvectorOf.{eigenMinors, eigenDenominator, denominatorScale, ifFinite as ifAllFinite, eigenvectorByMinors, eigenvectorOf}
-use Rattle.lambdatwist.specs.KnownZero.{orNotFound, orNoPair, systemOfPair, eigWithKnownZero}
-use Rattle.lambdatwist.specs.RatioOf.{ratioOf}
-use Rattle.lambdatwist.specs.DepthSlots.{noCandidates, pushIfPositive}
-use Rattle.lambdatwist.specs.Charts.{forRoots, noDivisor, firstTurn, firstChart, secondTurn, weightChart, secondChart, chart}
-use Rattle.lambdatwist.specs.Poses.{signTurn, candidates}
-use Rattle.lambdatwist.specs.Permutation.{withCondition, better, bestOf, bestPermutation}
-use Rattle.lambdatwist.specs.Solve.{answered, refused, orNoRoot, orNoSystem, orNoRatio, orSingular, solveCandidates, solveRoot, solveCubic, orderedOr, bestOr, solveOrdered, solve}
+use Rattle.lambdatwist.proofs.Evaluation.{evaluated}
 use Rattle.lambdatwist.specs.Cases.{refusedWith, markedCaseHolds, solveCases, markedCases}
 
 pub marked-cases : T (every markedCaseHolds markedCases)
-unfolding every markedCases markedCaseHolds solveCases refusedWith rootCases rootCaseHolds answers haveBits poseCases poseCaseHolds refinedTo hasBits solve solveOrdered orderedOr bestOr solveCubic solveRoot solveCandidates orNoRoot orNoSystem orNoRatio orSingular answered refused bestPermutation bestOf better withCondition candidates signTurn chart firstChart secondChart weightChart firstTurn secondTurn forRoots noDivisor pushIfPositive noCandidates ratioOf eigWithKnownZero systemOfPair orNotFound orNoPair eigenvectorOf eigenvectorByMinors ifAllFinite denominatorScale eigenDenominator eigenMinors eigenvaluePair pairOfRoots byMagnitude nonzeroPair pairCoefficient zeroVector zeroDirection eigenvectorFromRowCrosses unitVector longer lastGreatest singularMatrix leadingCubicCondition leadingShare foldedScale isUnusable largestCoefficient cubicCoefficients bearingFactors squaredSines cosines cosine squaredEdges edgeVectors empty worldBasisInverse isSingular dualBasis rayFits refineDepths refineTurns afterStep depthStep depthUpdate ifFinite depthResidual inputFinite polishedCubicRoot polishedRoot rescaledRoot newtonSteps newtonStep startRoot turningStart leftStart rightStart turningOffset cubicValue normalised cubicVariableScale coefficientScale tiny large allZero cardanoSingleReal fastCbrt cbrtSteps cbrtStep cbrtStart quadraticRealMonic quadraticRealMonicComputed quadraticPair fromColumns fromRows matVec matMul matNormSquared trace matFinite vecSub vecAdd vecMul vecDiv dot normSquared norm cross absSum allFinite fma sqrt cbrt roundRoot root digits totalOrder totalCmp clamp max copysign abs ofBits toBits size add sub mul div sum round neg lt le eq isNan
+unfolding evaluated every markedCases markedCaseHolds solveCases refusedWith rootCases rootCaseHolds answers haveBits poseCases poseCaseHolds refinedTo hasBits
 marked-cases = tt

@@ -8,56 +8,14 @@ use Rattle.linalg.specs.declared.vector3.Vector3.{Vector3}
 use Rattle.p3p_common.specs.declared.input.World.{World}
 use Rattle.lambdatwist.specs.ScalingRule.{TimesWorld, DoubleWorld}
 use Rattle.lambdatwist.specs.declared.solve.Answer.{Answer}
-use lib.Ieee.{fits, ofBits, toBits, size, add, sub, mul, div, sum, round, neg, lt, le, eq, isNan}
-use Rattle.ieee754.specs.Magnitude.{abs}
-use Rattle.ieee754.specs.CopySign.{copysign}
-use Rattle.ieee754.specs.Maximum.{max}
-use Rattle.ieee754.specs.Clamp.{clamp}
-use Rattle.ieee754.specs.TotalOrder.{totalOrder, totalCmp}
-use Rattle.ieee754.specs.Root.{sqrt, cbrt, roundRoot, root, digits}
-use Rattle.ieee754.specs.Fma.{fma}
-use Rattle.linalg.specs.Vectors.{vecSub, vecAdd, vecMul, vecDiv, dot, normSquared, norm, cross, absSum, allFinite}
-use Rattle.linalg.specs.Matrices.{fromColumns, fromRows, matVec, matMul, matNormSquared, trace, matFinite}
-use Rattle.polynomial.specs.Quadratic.{quadraticPair, quadraticRealMonicComputed, quadraticRealMonic}
-use Rattle.polynomial.specs.FastCbrt.{cbrtStart, cbrtStep, cbrtSteps, fastCbrt}
-use Rattle.polynomial.specs.Cardano.{cardanoSingleReal}
-use Rattle.polynomial.specs.CubicScale.{allZero, large, tiny, coefficientScale, cubicVariableScale, normalised}
-use Rattle.polynomial.specs.CubicStart.{cubicValue, turningOffset, leftStart, rightStart, turningStart, startRoot}
-use Rattle.polynomial.specs.Newton.{newtonStep, newtonSteps}
-use Rattle.polynomial.specs.PolishedRoot.{rescaledRoot, polishedRoot, polishedCubicRoot}
-use Rattle.p3p_common.specs.Input.{inputFinite}
-use Rattle.p3p_common.specs.RefineDepths.{depthResidual, ifFinite, depthUpdate, depthStep, afterStep, refineTurns, refineDepths}
-use Rattle.p3p_common.specs.RayFits.{rayFits}
-use Rattle.p3p_common.specs.WorldBasisInverse.{dualBasis, isSingular, worldBasisInverse}
-use Rattle.p3p_common.specs.Slots.{empty, push}
-use Rattle.lambdatwist.specs.Edges.{edgeVectors, squaredEdges}
-use Rattle.lambdatwist.specs.Angles.{cosine, cosines, squaredSines, bearingFactors}
-use Rattle.lambdatwist.specs.Cubic.{cubicCoefficients, coefficientScale as largestCoefficient, isUnusable}
-use Rattle.lambdatwist.specs.Condition.{foldedScale, leadingShare, leadingCubicCondition}
-use Rattle.lambdatwist.specs.Matrix.{singularMatrix}
-use Rattle.lambdatwist.specs.RowCrosses.{lastGreatest, longer, unitVector, eigenvectorFromRowCrosses}
-use Rattle.lambdatwist.specs.ZeroVector.{zeroDirection, zeroVector}
-use Rattle.lambdatwist.specs.EigenPair.{pairCoefficient, nonzeroPair, byMagnitude, pairOfRoots, eigenvaluePair}
-use Rattle.lambdatwist.specs.EigenvectorOf.{eigenMinors, eigenDenominator, denominatorScale, ifFinite as ifAllFinite, eigenvectorByMinors, eigenvectorOf}
-use Rattle.lambdatwist.specs.KnownZero.{orNotFound, orNoPair, systemOfPair, eigWithKnownZero}
-use Rattle.lambdatwist.specs.RatioOf.{ratioOf}
-use Rattle.lambdatwist.specs.DepthSlots.{noCandidates, pushIfPositive}
-use Rattle.lambdatwist.specs.Charts.{forRoots, noDivisor, firstTurn, firstChart, secondTurn, weightChart, secondChart, chart}
-use Rattle.lambdatwist.specs.Poses.{signTurn, candidates, allPositive, pushDepths, poseTurn, poseTurns, poses}
-use Rattle.lambdatwist.specs.Permutation.{withCondition, better, bestOf, bestPermutation}
-use Rattle.lambdatwist.specs.Solve.{answered, refused, orNoRoot, orNoSystem, orNoRatio, orSingular, solveCandidates, solveRoot, solveCubic, orderedOr, bestOr, solveOrdered, solve, ifKept}
-use Rattle.p3p_common.specs.Gate.{ifValid, keepPoint0, projectedGate, gate}
-use Rattle.p3p_common.specs.NearOrthonormal.{hasNearOrthonormalColumns}
-use Rattle.p3p_common.specs.ProjectToRotation.{projectToRotation}
-use Rattle.p3p_common.specs.ProjectedPose.{cameraPoint, observationFits, projectedPoseFitsMinimalSample}
-use Rattle.p3p_common.specs.PushPose.{pushGated, pushPose}
-use Rattle.p3p_common.specs.RotationFromEdges.{rotationFromEdges}
-use Rattle.ieee754.specs.Traced.{inRange, addRegular, mulRegular, divRegular, fmaRegular, sqrtRegular, cbrtRegular}
+use lib.Ieee.{fits, ofBits, size}
+use Rattle.lambdatwist.specs.Solve.{solve}
+use Rattle.lambdatwist.proofs.Evaluation.{evaluated}
 use Rattle.lambdatwist.specs.Plates.{plateInMetres, plateInCounts, plateTooSmall, plateBearings}
 
 -- ---- the coordinates: exactly 2 ^ 12 times, and 2 ^ -600 times
 pub counts-times : TimesWorld (pos 12) plateInMetres plateInCounts
-unfolding plateInMetres plateInCounts plateTooSmall ofBits size
+unfolding plateInMetres plateInCounts ofBits size
 counts-times = record {
   p0 = record { x = (refl, refl); y = (refl, refl); z = (refl, refl) };
   p1 = record { x = (refl, refl); y = (refl, refl); z = (refl, refl) };
@@ -65,7 +23,7 @@ counts-times = record {
 }
 
 pub small-times : TimesWorld (negsuc 599) plateInMetres plateTooSmall
-unfolding plateInMetres plateInCounts plateTooSmall ofBits size
+unfolding plateInMetres plateTooSmall ofBits size
 small-times = record {
   p0 = record { x = (refl, refl); y = (refl, refl); z = (refl, refl) };
   p1 = record { x = (refl, refl); y = (refl, refl); z = (refl, refl) };
@@ -73,22 +31,22 @@ small-times = record {
 }
 
 pub metres-double : DoubleWorld plateInMetres
-unfolding plateInMetres plateInCounts plateTooSmall fits ofBits size
+unfolding plateInMetres fits ofBits size
 metres-double = record { p0 = record { x = tt; y = tt; z = tt }; p1 = record { x = tt; y = tt; z = tt }; p2 = record { x = tt; y = tt; z = tt } }
 
 pub counts-double : DoubleWorld plateInCounts
-unfolding plateInMetres plateInCounts plateTooSmall fits ofBits size
+unfolding plateInCounts fits ofBits size
 counts-double = record { p0 = record { x = tt; y = tt; z = tt }; p1 = record { x = tt; y = tt; z = tt }; p2 = record { x = tt; y = tt; z = tt } }
 
 pub small-double : DoubleWorld plateTooSmall
-unfolding plateInMetres plateInCounts plateTooSmall fits ofBits size
+unfolding plateTooSmall fits ofBits size
 small-double = record { p0 = record { x = tt; y = tt; z = tt }; p1 = record { x = tt; y = tt; z = tt }; p2 = record { x = tt; y = tt; z = tt } }
 
 -- ---- the solves
 pub plate-regular : T ((solve plateInMetres plateBearings .regular && solve plateInCounts plateBearings .regular) && leb 2 (solve plateInMetres plateBearings .value .count))
-unfolding ifValid keepPoint0 projectedGate gate hasNearOrthonormalColumns projectToRotation cameraPoint observationFits projectedPoseFitsMinimalSample pushGated pushPose rotationFromEdges push allPositive pushDepths poseTurn poseTurns poses ifKept inRange addRegular mulRegular divRegular fmaRegular sqrtRegular cbrtRegular plateInMetres plateInCounts plateTooSmall plateBearings solve solveOrdered orderedOr bestOr solveCubic solveRoot solveCandidates orNoRoot orNoSystem orNoRatio orSingular answered refused bestPermutation bestOf better withCondition candidates signTurn chart firstChart secondChart weightChart firstTurn secondTurn forRoots noDivisor pushIfPositive noCandidates ratioOf eigWithKnownZero systemOfPair orNotFound orNoPair eigenvectorOf eigenvectorByMinors ifAllFinite denominatorScale eigenDenominator eigenMinors eigenvaluePair pairOfRoots byMagnitude nonzeroPair pairCoefficient zeroVector zeroDirection eigenvectorFromRowCrosses unitVector longer lastGreatest singularMatrix leadingCubicCondition leadingShare foldedScale isUnusable largestCoefficient cubicCoefficients bearingFactors squaredSines cosines cosine squaredEdges edgeVectors empty worldBasisInverse isSingular dualBasis rayFits refineDepths refineTurns afterStep depthStep depthUpdate ifFinite depthResidual inputFinite polishedCubicRoot polishedRoot rescaledRoot newtonSteps newtonStep startRoot turningStart leftStart rightStart turningOffset cubicValue normalised cubicVariableScale coefficientScale tiny large allZero cardanoSingleReal fastCbrt cbrtSteps cbrtStep cbrtStart quadraticRealMonic quadraticRealMonicComputed quadraticPair fromColumns fromRows matVec matMul matNormSquared trace matFinite vecSub vecAdd vecMul vecDiv dot normSquared norm cross absSum allFinite fma sqrt cbrt roundRoot root digits totalOrder totalCmp clamp max copysign abs ofBits toBits size add sub mul div sum round neg lt le eq isNan
+unfolding evaluated plateInMetres plateInCounts plateTooSmall plateBearings
 plate-regular = tt
 
 pub premise-needed : (solve plateInMetres plateBearings .value .refusal ≡ 0) × (solve plateTooSmall plateBearings .value .refusal ≡ 2) × T (not (solve plateTooSmall plateBearings .regular))
-unfolding ifValid keepPoint0 projectedGate gate hasNearOrthonormalColumns projectToRotation cameraPoint observationFits projectedPoseFitsMinimalSample pushGated pushPose rotationFromEdges push allPositive pushDepths poseTurn poseTurns poses ifKept inRange addRegular mulRegular divRegular fmaRegular sqrtRegular cbrtRegular plateInMetres plateInCounts plateTooSmall plateBearings solve solveOrdered orderedOr bestOr solveCubic solveRoot solveCandidates orNoRoot orNoSystem orNoRatio orSingular answered refused bestPermutation bestOf better withCondition candidates signTurn chart firstChart secondChart weightChart firstTurn secondTurn forRoots noDivisor pushIfPositive noCandidates ratioOf eigWithKnownZero systemOfPair orNotFound orNoPair eigenvectorOf eigenvectorByMinors ifAllFinite denominatorScale eigenDenominator eigenMinors eigenvaluePair pairOfRoots byMagnitude nonzeroPair pairCoefficient zeroVector zeroDirection eigenvectorFromRowCrosses unitVector longer lastGreatest singularMatrix leadingCubicCondition leadingShare foldedScale isUnusable largestCoefficient cubicCoefficients bearingFactors squaredSines cosines cosine squaredEdges edgeVectors empty worldBasisInverse isSingular dualBasis rayFits refineDepths refineTurns afterStep depthStep depthUpdate ifFinite depthResidual inputFinite polishedCubicRoot polishedRoot rescaledRoot newtonSteps newtonStep startRoot turningStart leftStart rightStart turningOffset cubicValue normalised cubicVariableScale coefficientScale tiny large allZero cardanoSingleReal fastCbrt cbrtSteps cbrtStep cbrtStart quadraticRealMonic quadraticRealMonicComputed quadraticPair fromColumns fromRows matVec matMul matNormSquared trace matFinite vecSub vecAdd vecMul vecDiv dot normSquared norm cross absSum allFinite fma sqrt cbrt roundRoot root digits totalOrder totalCmp clamp max copysign abs ofBits toBits size add sub mul div sum round neg lt le eq isNan
+unfolding evaluated plateInMetres plateInCounts plateTooSmall plateBearings
 premise-needed = (refl, refl, tt)
