@@ -1,41 +1,45 @@
 -- `pack` meets its contract: past the patterns of the finite doubles it is an infinity (Patterns.antt). Assumes nothing.
-use Prim.Native.Nat.{ℕ, _+_, _*_, _^_}
-use mathlib.Core.Path.{ap, _∙_}
+use Prim.Native.Nat.{ℕ, _+_, _*_, _^_, _≤_, _<_, min}
+use mathlib.Core.Path.{_≡_, ap, _∙_}
+use mathlib.Core.Logic.{⊎-elim}
+use mathlib.Core.Bool.{Bool}
+use native.Mathlib.Omega.{arith}
 use borrow.Author.Needs.{needs}
-use lib.Dec.{lit≤}
-use lib.Ieee.{binary64, ofBits}
-use Rattle.ieee754.proofs.Patterns.{units-infinite}
-use Rattle.ieee754.proofs.pack.Signed.{signed-fits, signed-no-nan}
+use lib.Ieee.{binary64, units, ofBits}
+use Rattle.ieee754.specs.inner.Unpacked.{signBit}
+use Rattle.ieee754.proofs.Order.{lt-or-ge}
+use Rattle.ieee754.proofs.Patterns.{units-finite, units-infinite}
 use Rattle.ieee754.proofs.pack.pack.Statement.{statement}
 use Rattle.ieee754.proofs.pack.pack.Tie as tie
 
-mul-if1 : tie.Need-mul-if1
-mul-if1 c = search needs
+-- the pattern, capped to r
+packed : (s : Bool) (q k r : ℕ) → q ≤ 2 ^ 53 → (0 < k → 2 ^ 52 ≤ q) → r ≡ min (k * 2 ^ 52 + q) (2047 * 2 ^ 52) → ofBits binary64 (signBit s + r) ≡ units binary64 s q k
+packed s q k r a b e =
+    ⊎-elim (λ (l : k * 2 ^ 52 + q < 2047 * 2 ^ 52).
+    let f : r ≡ k * 2 ^ 52 + q = omega arith in
+    ap (λ (x : ℕ). ofBits binary64 (signBit s + x)) f ∙ units-finite binary64 q k a b s l)
+    (λ (g : 2047 * 2 ^ 52 ≤ k * 2 ^ 52 + q).
+    let f : r ≡ 2047 * 2 ^ 52 = omega arith in
+    ap (λ (x : ℕ). ofBits binary64 (signBit s + x)) f ∙ units-infinite binary64 q k a b s g)
+    (lt-or-ge (k * 2 ^ 52 + q) (2047 * 2 ^ 52))
 
-add-if1 : tie.Need-add-if1
-add-if1 c = search needs
+mul-bits : tie.Need-mul-bits
+mul-bits c = search needs
 
-pack-finite-requires : tie.Need-pack-finite-requires
-pack-finite-requires c κs = search needs
+add-bits : tie.Need-add-bits
+add-bits c = search needs
 
-sign-bit-requires : tie.Need-sign-bit-requires
-sign-bit-requires c κs = search needs
+capped-requires : tie.Need-capped-requires
+capped-requires c κs = search needs
 
-add-result : tie.Need-add-result
-add-result c = signed-fits (c .before .before .args .negative) _ _ (c .sign-bit .ensures) (lit≤ tt)
-
-float-from-bits-result : tie.Need-float-from-bits-result
-float-from-bits-result c = signed-no-nan (c .before .before .args .negative) _ _ (c .sign-bit .ensures) (lit≤ tt)
+with-sign-requires : tie.Need-with-sign-requires
+with-sign-requires c κs = search needs
 
 returns : tie.Need-returns
-returns c = search needs
-
-returns-2 : tie.Need-returns-2
-returns-2 c =
+returns c =
     let s = c .before .before in
-    let a = s .args in
-    ap (λ (g : ℕ). ofBits binary64 (g + 2047 * 2 ^ 52)) (c .sign-bit .ensures)
-    ∙ units-infinite binary64 (a .sig) (a .exp) (s .pre .0) (s .pre .1) (a .negative) (c .before .if1 .left)
+    let k = c .before .capped in
+    c .with-sign .ensures ∙ packed (s .args .negative) (s .args .sig) (s .args .exp) (k .result) (s .pre .0) (s .pre .1) (k .ensures)
 
 pub pack-spec : {M : Type 1} → statement M
-pack-spec = tie.close (tie.spec mul-if1 add-if1 pack-finite-requires sign-bit-requires add-result float-from-bits-result returns returns-2)
+pack-spec = tie.close (tie.spec mul-bits add-bits capped-requires with-sign-requires returns)

@@ -64,7 +64,7 @@ add-result : tie.Need-add-result
 add-result c = search needs
 
 returns-3 : tie.Need-returns-3
-returns-3 c = λ _. next (c .before .before .before .before .args .n * 2 ^ 52) (c .before .before .before .before .args .q) (c .before .before .before .residue .result) (exact (c .before)) (c .if3 .taken) (omega arith)
+returns-3 c = λ _. next (c .before .before .before .before .args .n * 2 ^ 52) (c .before .before .before .before .args .q) (c .before .before .before .residue .result) (exact (c .before)) (omega arith) (omega arith)
 
 add-if4 : tie.Need-add-if4
 add-if4 c = search needs
@@ -73,7 +73,7 @@ sub-result : tie.Need-sub-result
 sub-result c = search needs
 
 returns-4 : tie.Need-returns-4
-returns-4 c = λ _. previous (c .before .before .before .before .before .args .n * 2 ^ 52) (c .before .before .before .before .before .args .q) (c .before .before .before .before .residue .result) (omega arith) (exact (c .before .before)) (c .if4 .taken) (omega arith)
+returns-4 c = λ _. previous (c .before .before .before .before .before .args .n * 2 ^ 52) (c .before .before .before .before .before .args .q) (c .before .before .before .before .residue .result) (omega arith) (exact (c .before .before)) (omega arith) (omega arith)
 
 returns-5 : tie.Need-returns-5
 returns-5 c = λ _. same (c .before .before .before .before .before .args .n * 2 ^ 52) (c .before .before .before .before .before .args .q) (c .before .before .before .before .residue .result) (exact (c .before .before)) (omega arith) (omega arith)
