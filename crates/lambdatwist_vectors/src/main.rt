@@ -56,7 +56,7 @@ fn vector(s: &[u8; 632], at: usize) -> Vector3
 
 // By columns.
 fn matrix(s: &[u8; 632], at: usize) -> Matrix3
-    requires { ⌜ at ≤ 632 ⌝ }
+    requires { ⌜ at ≤ 560 ⌝ }
 {
     let c0 = vector(s, at);
     let c1 = vector(s, at + 24);
@@ -87,7 +87,7 @@ fn vector_agrees(v: Vector3, s: &[u8; 632], at: usize) -> bool
 }
 
 fn matrix_agrees(m: Matrix3, s: &[u8; 632], at: usize) -> bool
-    requires { ⌜ at ≤ 632 ⌝ }
+    requires { ⌜ at ≤ 560 ⌝ }
 {
     let c0 = vector_agrees(m.column0(), s, at);
     let c1 = vector_agrees(m.column1(), s, at + 24);
