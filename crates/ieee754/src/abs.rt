@@ -1,9 +1,7 @@
 // Rust's f64::abs.
 ghost use mathlib.Core.Path.{_≡_};
 ghost use Rattle.ieee754.specs.Magnitude as Magnitude;
-
-// The weight of the sign in a bit pattern.
-const SIGN: u64 = 0x8000_0000_0000_0000;
+use crate::format::SIGN;
 
 // x with the sign cleared.
 pub fn abs(x: f64) -> f64

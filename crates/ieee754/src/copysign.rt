@@ -1,10 +1,8 @@
 // Rust's f64::copysign.
 ghost use mathlib.Core.Path.{_≡_};
 ghost use Rattle.ieee754.specs.CopySign as CopySign;
-use super::abs::abs;
-
-// The weight of the sign in a bit pattern.
-const SIGN: u64 = 0x8000_0000_0000_0000;
+use crate::abs::abs;
+use crate::format::SIGN;
 
 // Whether the sign of y is set, of a zero too; a NaN has none.
 pub fn negative(y: f64) -> bool

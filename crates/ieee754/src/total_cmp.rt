@@ -1,7 +1,7 @@
 // Rust's f64::total_cmp, by IEEE 754's totalOrder, with NaN above every number.
 ghost use mathlib.Core.Path.{_≡_};
 ghost use Rattle.ieee754.specs.TotalOrder.{totalOrder, totalCmp};
-use super::copysign::negative;
+use crate::copysign::negative;
 
 pub enum Order {
     Less,

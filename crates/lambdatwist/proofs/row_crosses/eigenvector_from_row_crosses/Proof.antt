@@ -4,7 +4,6 @@ use Rattle.lambdatwist.specs.RowCrosses.{eigenvectorFromRowCrosses}
 use Rattle.lambdatwist.proofs.row_crosses.eigenvector_from_row_crosses.Statement.{statement}
 use Rattle.lambdatwist.proofs.row_crosses.eigenvector_from_row_crosses.Tie as tie
 
-
 cross-requires : tie.Need-cross-requires
 cross-requires c κs = search needs
 
