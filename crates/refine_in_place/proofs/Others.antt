@@ -1,5 +1,5 @@
 -- The parameters after the depths, which both functions of this crate and the form by value below them take alike: the squared edges, the cosines and the allowance, all by value.
---     Others          three arguments that have their types' values
+--     Others, of      three arguments that have their types' values, and how a function has them from its own arguments
 --     args, vals      what they are in the logic, and their machine values
 --     had-others      what they own is had for nothing, since it is plain data: so a walk never carries it, and makes it where it is asked
 use mathlib.Core.Path.{refl}
@@ -34,6 +34,9 @@ Args = SquaredEdges × (Cosines × (ℕ × Unit {0}))
 
 abbrev pub args : Others → Args
 args p = (p .edges, (p .cosines, (p .iterations, tt)))
+
+abbrev pub of : (x : Args) → Fit EdgesS (x .0) × (Fit CosinesS (x .1 .0) × (Is u32 (x .1 .1 .0) (vint w32 (x .1 .1 .0) ∷ []) × Unit {0})) → Others
+of x are = record { edges = x .0; cosines = x .1 .0; iterations = x .1 .1 .0; edges-fit = are .0; cosines-fit = are .1 .0; iterations-fit = are .1 .1 .0 .1 }
 
 abbrev pub vals : Others → List Val × (List Val × (List Val × Unit {0}))
 vals p = (val EdgesS (p .edges) ∷ [], (val CosinesS (p .cosines) ∷ [], (vint w32 (p .iterations) ∷ [], tt)))

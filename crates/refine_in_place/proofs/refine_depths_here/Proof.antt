@@ -44,7 +44,7 @@ use Rattle.linalg.specs.declared.vector3.Vector3.{Vector3}
 use Rattle.p3p_common.specs.declared.refine_depths.Refined.{Refined}
 use Rattle.refine_in_place.proofs.Loan.{Row, val, Fit, ref, typed, had, lends-local, local-back}
 use Rattle.refine_in_place.proofs.Structs.{VectorS, EdgesS, CosinesS, RefinedS, refined-fits}
-use Rattle.refine_in_place.proofs.Others.{Others, Args as OtherArgs, args as others, vals, had-others}
+use Rattle.refine_in_place.proofs.Others.{Others, Args as OtherArgs, args as others, of, vals, had-others}
 use Rattle.refine_in_place.proofs.refine_depths_in_place as in-place
 use Rattle.refine_in_place.proofs.refine_depths_in_place.Symbol as in-place-def
 use Rattle.refine_in_place.proofs.refine_depths_in_place.Symbol.{name as #in-place}
@@ -182,8 +182,7 @@ module _ {M : Type 1} (𝓤 : URA M) (H : Heap 𝓤) (A : Atoms 𝓤) (W : Given
       (λ κs. (LL.vals (VectorS .type) (VectorS .laws), (LL.vals (EdgesS .type) (EdgesS .laws), (LL.vals (CosinesS .type) (CosinesS .laws), (uint-vals w32, tt)))))
       (λ κs. (LL.tells (VectorS .type) (VectorS .laws), (LL.tells (EdgesS .type) (EdgesS .laws), (LL.tells (CosinesS .type) (CosinesS .laws), (uint-tells w32, tt)))))
       (λ κs qs bounds x _ are. via 𝓤 _ (fst∗ 𝓤 _ (emp 𝓤))
-      (walk 𝓤 H A W mem run (x .0) (are .0)
-      (record { edges = x .1 .0; cosines = x .1 .1 .0; iterations = x .1 .1 .1 .0; edges-fit = are .1 .0; cosines-fit = are .1 .1 .0; iterations-fit = are .1 .1 .1 .0 .1 }) C Λ fm known))
+      (walk 𝓤 H A W mem run (x .0) (are .0) (of (x .1) (are .1)) C Λ fm known))
 
   gone : AllGo 𝓤 H A W 0 (f.signature .params) (f.ended .kept) stayed
   gone = (

@@ -45,7 +45,7 @@ use Rattle.linalg.specs.declared.vector3.Vector3.{Vector3}
 use Rattle.p3p_common.specs.declared.refine_depths.Refined.{Refined}
 use Rattle.refine_in_place.proofs.Loan.{Row, val, Fit, Mir, ref, Held, returned, typed, had, opens-lent, closes-lent}
 use Rattle.refine_in_place.proofs.Structs.{VectorS, EdgesS, CosinesS, RefinedS, depths-fit, updates-fit}
-use Rattle.refine_in_place.proofs.Others.{Others, Args as OtherArgs, args as others, vals, rows, had-others}
+use Rattle.refine_in_place.proofs.Others.{Others, Args as OtherArgs, args as others, of, vals, rows, had-others}
 use Rattle.p3p_common.proofs.refine_depths.refine_depths as core
 use Rattle.p3p_common.proofs.refine_depths.refine_depths.Symbol as core-def
 use Rattle.p3p_common.proofs.refine_depths.refine_depths.Symbol.{name as #core}
@@ -177,8 +177,7 @@ module _ {M : Type 1} (𝓤 : URA M) (H : Heap 𝓤) (A : Atoms 𝓤) (W : Given
       (λ κs. (ptr-vals, (LL.vals (EdgesS .type) (EdgesS .laws), (LL.vals (CosinesS .type) (CosinesS .laws), (uint-vals w32, tt)))))
       (λ κs. (mut-tells (named 0) (κs .0) (Row VectorS), (LL.tells (EdgesS .type) (EdgesS .laws), (LL.tells (CosinesS .type) (CosinesS .laws), (uint-tells w32, tt)))))
       (λ κs qs bounds x _ are. via 𝓤 _ (fst∗ 𝓤 _ (emp 𝓤))
-      (walk 𝓤 H A W mem run (κs .0) (qs .0) (x .0 .ptr .0) (x .0 .ptr .1) (x .0 .name) (x .0 .now)
-      (record { edges = x .1 .0; cosines = x .1 .1 .0; iterations = x .1 .1 .1 .0; edges-fit = are .1 .0; cosines-fit = are .1 .1 .0; iterations-fit = are .1 .1 .1 .0 .1 }) C Λ fm known))
+      (walk 𝓤 H A W mem run (κs .0) (qs .0) (x .0 .ptr .0) (x .0 .ptr .1) (x .0 .name) (x .0 .now) (of (x .1) (are .1)) C Λ fm known))
 
   gone : AllGo 𝓤 H A W 1 (f.signature .params) (f.ended .kept) stayed
   gone = (
