@@ -26,12 +26,12 @@ use Rattle.lambdatwist.specs.Angles.{cosine, cosines, squaredSines, bear
 use Rattle.lambdatwist.specs.Cubic.{cubicCoefficients, coefficientScale as largestCoefficient, isUnusable}
 use Rattle.lambdatwist.specs.Condition.{foldedScale, leadingShare, leadingCubicCondition}
 use Rattle.lambdatwist.specs.Matrix.{singularMatrix}
-use Rattle.lambdatwist.specs.RowCrosses.{lastGreatest, longer, unitVector, eigenvectorFromRowCrosses}
-use Rattle.lambdatwist.specs.ZeroVector.{zeroDirection, zeroVector}
-use Rattle.lambdatwist.specs.EigenPair.{pairCoefficient, nonzeroPair, byMagnitude, pairOfRoots, eigenvaluePair}
-use Rattle.lambdatwist.specs.EigenvectorOf.{eigenMinors, eigenDenominator, denominatorScale, ifFinite as ifAllFinite, eigenvectorByMinors, eigenvectorOf}
-use Rattle.lambdatwist.specs.KnownZero.{orNotFound, orNoPair, systemOfPair, eigWithKnownZero}
-use Rattle.lambdatwist.specs.RatioOf.{ratioOf}
+use Rattle.eigen.specs.RowCrosses.{lastGreatest, longer, unitVector, eigenvectorFromRowCrosses}
+use Rattle.eigen.specs.ZeroVector.{zeroDirection, zeroVector}
+use Rattle.eigen.specs.EigenPair.{pairCoefficient, nonzeroPair, byMagnitude, pairOfRoots, eigenvaluePair}
+use Rattle.eigen.specs.EigenvectorOf.{eigenMinors, eigenDenominator, denominatorScale, ifFinite as ifAllFinite, eigenvectorByMinors, eigenvectorOf}
+use Rattle.eigen.specs.KnownZero.{orNotFound, orNoPair, systemOfPair, eigWithKnownZero}
+use Rattle.eigen.specs.RatioOf.{ratioOf}
 use Rattle.lambdatwist.specs.DepthSlots.{noCandidates, pushIfPositive}
 use Rattle.lambdatwist.specs.Charts.{forRoots, noDivisor, firstTurn, firstChart, secondTurn, weightChart, secondChart, chart}
 use Rattle.lambdatwist.specs.Poses.{signTurn, candidates, allPositive, pushDepths, poseTurn, poseTurns, poses}

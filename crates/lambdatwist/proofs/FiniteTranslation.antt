@@ -46,10 +46,10 @@ use Rattle.lambdatwist.specs.declared.edges.EdgeVectors.{EdgeVectors}
 use Rattle.lambdatwist.specs.declared.angles.Factors.{Factors}
 use Rattle.lambdatwist.specs.declared.cubic.Coefficients.{Coefficients}
 use Rattle.lambdatwist.specs.declared.candidates.Candidates.{Candidates}
-use Rattle.lambdatwist.specs.declared.eigen.Eigensystem.{Eigensystem}
-use Rattle.lambdatwist.specs.declared.eigen.Eigensystem.the-variants.{Found, NotFound}
-use Rattle.lambdatwist.specs.declared.ratio.Ratio.{Ratio}
-use Rattle.lambdatwist.specs.declared.ratio.Ratio.the-variants.{Real, NotReal}
+use Rattle.eigen.specs.declared.known_zero.Eigensystem.{Eigensystem}
+use Rattle.eigen.specs.declared.known_zero.Eigensystem.the-variants.{Found, NotFound}
+use Rattle.eigen.specs.declared.ratio.Ratio.{Ratio}
+use Rattle.eigen.specs.declared.ratio.Ratio.the-variants.{Real, NotReal}
 use Rattle.lambdatwist.specs.declared.poses.View.{View}
 use Rattle.lambdatwist.specs.declared.solve.Answer.{Answer}
 

@@ -7,13 +7,9 @@ pub mod NanCondition
 pub mod Evaluation
 pub mod MarkedCases
 pub mod Equal
-pub mod SquaredLength
 pub mod EdgeScaling
 pub mod CubicScaling
 pub mod MatrixScaling
-pub mod EigenvectorScaling
-pub mod EigenvalueScaling
-pub mod SystemScaling
 pub mod ChartScaling
 pub mod PoseScaling
 pub mod PermutationScaling

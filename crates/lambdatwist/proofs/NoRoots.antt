@@ -1,4 +1,4 @@
--- What follows an answer of a root finder that is none of the roots asked for: a pair of eigenvalues, a chart's pair, the cubic's root. Assumes nothing.
+-- What follows an answer of a root finder that is none of the roots asked for: a chart's pair, the cubic's root. Assumes nothing.
 use mathlib.Core.Path.{_≡_, refl}
 use mathlib.Core.List.{[], _∷_}
 use mathlib.Core.Logic.{inl, inr}
@@ -10,18 +10,10 @@ use Rattle.ieee754.specs.Traced.{Traced}
 use Rattle.polynomial.specs.declared.Roots.{Roots}
 use Rattle.polynomial.specs.declared.Roots.the-variants.{Two, One, Refused}
 use Rattle.polynomial.proofs.Roots.{the-type}
-use Rattle.lambdatwist.specs.EigenPair.{pairOfRoots}
 use Rattle.lambdatwist.specs.Charts.{forRoots}
 use Rattle.lambdatwist.specs.Solve.{orNoRoot, refused}
-use Rattle.lambdatwist.specs.declared.eigenvalues.Eigenvalues.the-variants.{NoPair}
 use Rattle.lambdatwist.specs.declared.candidates.Candidates.{Candidates}
 use Rattle.lambdatwist.specs.declared.solve.Answer.{Answer}
-
-pub no-pair : (r : Roots) → OneOf (1 ∷ 2 ∷ []) (tagOf the-type r) → NoPair ≡ pairOfRoots r
-unfolding pairOfRoots
-no-pair (Two x y) h = absurd (elim h [ inl e ↦ omega arith | inr e ↦ omega arith ])
-no-pair (One x) h = refl
-no-pair (Refused n) h = refl
 
 pub no-turns : (r : Roots) (turn : Candidates → Float → Traced Candidates) (found : Candidates) → OneOf (1 ∷ 2 ∷ []) (tagOf the-type r) → found ≡ forRoots r turn found .value
 unfolding forRoots

@@ -36,17 +36,17 @@ use Rattle.lambdatwist.specs.declared.edges.EdgeVectors.{EdgeVectors}
 use Rattle.lambdatwist.specs.declared.angles.Factors.{Factors}
 use Rattle.lambdatwist.specs.declared.cubic.Coefficients.{Coefficients}
 use Rattle.lambdatwist.specs.declared.candidates.Candidates.{Candidates}
-use Rattle.lambdatwist.specs.declared.eigen.Eigensystem.{Eigensystem}
-use Rattle.lambdatwist.specs.declared.ratio.Ratio.{Ratio}
-use Rattle.lambdatwist.specs.declared.ratio.Ratio.the-variants.{Real, NotReal}
+use Rattle.eigen.specs.declared.known_zero.Eigensystem.{Eigensystem}
+use Rattle.eigen.specs.declared.ratio.Ratio.{Ratio}
+use Rattle.eigen.specs.declared.ratio.Ratio.the-variants.{Real, NotReal}
 use Rattle.lambdatwist.specs.declared.poses.View.{View}
 use Rattle.lambdatwist.specs.declared.solve.Answer.{Answer}
 use Rattle.lambdatwist.proofs.Equal.{equal}
 use Rattle.lambdatwist.proofs.EdgeScaling.{AtEdgeVectors, edgeVectors-scales, squaredEdges-scales}
 use Rattle.lambdatwist.proofs.CubicScaling.{AtCoefficients, cubicCoefficients-scales, isUnusable-same}
 use Rattle.lambdatwist.proofs.MatrixScaling.{singularMatrix-scales}
-use Rattle.lambdatwist.proofs.EigenvalueScaling.{ratioOf-same}
-use Rattle.lambdatwist.proofs.SystemScaling.{AtSystem, found-at, not-found, eigWithKnownZero-scales}
+use Rattle.eigen.proofs.EigenvalueScaling.{ratioOf-same}
+use Rattle.eigen.proofs.SystemScaling.{AtSystem, found-at, not-found, eigWithKnownZero-scales}
 use Rattle.lambdatwist.proofs.ChartScaling.{AtCandidates, candidates-scales}
 use Rattle.lambdatwist.proofs.PoseScaling.{poses-scales}
 use Rattle.lambdatwist.proofs.PermutationScaling.{AtConditioned, bestPermutation-scales}

@@ -4,12 +4,6 @@ pub mod Angles
 pub mod Cubic
 pub mod Condition
 pub mod Matrix
-pub mod RowCrosses
-pub mod ZeroVector
-pub mod EigenPair
-pub mod EigenvectorOf
-pub mod KnownZero
-pub mod RatioOf
 pub mod Charts
 pub mod DepthSlots
 pub mod Poses

@@ -26,18 +26,18 @@ use Rattle.lambdatwist.specs.Edges.{edgeVectors, squaredEdges}
 use Rattle.lambdatwist.specs.Angles.{cosines, squaredSines, bearingFactors}
 use Rattle.lambdatwist.specs.Cubic.{cubicCoefficients, isUnusable}
 use Rattle.lambdatwist.specs.Matrix.{singularMatrix}
-use Rattle.lambdatwist.specs.KnownZero.{eigWithKnownZero}
-use Rattle.lambdatwist.specs.RatioOf.{ratioOf}
+use Rattle.eigen.specs.KnownZero.{eigWithKnownZero}
+use Rattle.eigen.specs.RatioOf.{ratioOf}
 use Rattle.lambdatwist.specs.Poses.{candidates, poses}
 use Rattle.lambdatwist.specs.Permutation.{bestPermutation}
 use Rattle.lambdatwist.specs.declared.edges.EdgeVectors.{EdgeVectors}
 use Rattle.lambdatwist.specs.declared.angles.Factors.{Factors}
 use Rattle.lambdatwist.specs.declared.cubic.Coefficients.{Coefficients}
 use Rattle.lambdatwist.specs.declared.candidates.Candidates.{Candidates}
-use Rattle.lambdatwist.specs.declared.eigen.Eigensystem.{Eigensystem}
-use Rattle.lambdatwist.specs.declared.eigen.Eigensystem.the-variants.{Found, NotFound}
-use Rattle.lambdatwist.specs.declared.ratio.Ratio.{Ratio}
-use Rattle.lambdatwist.specs.declared.ratio.Ratio.the-variants.{Real, NotReal}
+use Rattle.eigen.specs.declared.known_zero.Eigensystem.{Eigensystem}
+use Rattle.eigen.specs.declared.known_zero.Eigensystem.the-variants.{Found, NotFound}
+use Rattle.eigen.specs.declared.ratio.Ratio.{Ratio}
+use Rattle.eigen.specs.declared.ratio.Ratio.the-variants.{Real, NotReal}
 use Rattle.lambdatwist.specs.declared.poses.View.{View}
 use Rattle.lambdatwist.specs.declared.permutation.Conditioned.{Conditioned}
 use Rattle.lambdatwist.specs.declared.solve.Answer.{Answer}

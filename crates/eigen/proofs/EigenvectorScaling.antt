@@ -1,0 +1,131 @@
+-- Eigenvectors are equal in the two runs: that of the row crosses, at degree 4, is divided by its length, and so is that of the eigenvalue zero; the others are made of ratios. Assumes nothing.
+use mathlib.Core.Path.{_≡_, refl, ap, subst}
+use mathlib.Core.Bool.{Bool, _&&_}
+use lib.IntN.{ℤ, pos}
+use lib.Ieee.{Float, lt}
+use Rattle.ieee754.specs.Literal.{one, sixtyFour, epsilon, minPositive}
+use Rattle.ieee754.specs.declared.total_cmp.Order.{Order}
+use Rattle.ieee754.specs.declared.total_cmp.Order.the-variants.{Less, Equal, Greater}
+use Rattle.ieee754.specs.Scaling.{Both, At, Scales}
+use Rattle.ieee754.proofs.Degrees.{same, null, !_, ⊝_, √_, _⊗_, _⊘_, _⊕_, _⊖_, pure, _>>=_, if_then_else_, choose, abs-at, le-same, finite-same, total-same}
+use Rattle.ieee754.proofs.MinPositive.{floored, epsilon64-small, norm-at}
+use Rattle.linalg.specs.declared.vector3.Vector3.{Vector3}
+use Rattle.linalg.specs.declared.matrix3.Matrix3.{Matrix3}
+use Rattle.linalg.specs.Vectors.{norm}
+use Rattle.linalg.specs.VectorScaling.{AtVector, AtMatrix}
+use Rattle.linalg.proofs.VectorDegrees.{vector-at-zero, vecDiv-scales, normSquared-scales, cross-scales, allFinite-same}
+use Rattle.linalg.proofs.MatrixDegrees.{matNormSquared-scales}
+use Rattle.eigen.specs.RowCrosses.{lastGreatest, longer, unitVector, eigenvectorFromRowCrosses}
+use Rattle.eigen.specs.ZeroVector.{zeroDirection, zeroVector}
+use Rattle.eigen.specs.EigenvectorOf.{eigenMinors, eigenDenominator, denominatorScale, ifFinite, eigenvectorByMinors, eigenvectorOf}
+use Rattle.eigen.specs.declared.row_crosses.Eigenvector.{Eigenvector}
+use Rattle.eigen.specs.declared.row_crosses.Eigenvector.the-variants.{Unit, Missing}
+use Rattle.eigen.specs.declared.eigenvector.Minors.{Minors}
+use Rattle.eigen.proofs.SquaredLength.{squared-normal}
+
+module _ {k : ℤ} where
+  -- ---- the longest cross product of two rows
+  lastGreatest-at : {n : ℤ} {o o' : Order} {l l' r r' : Vector3} → o ≡ o' → AtVector k n l l' → AtVector k n r r' → AtVector k n (lastGreatest o l r) (lastGreatest o' l' r')
+  unfolding lastGreatest
+  lastGreatest-at {n} {o} {l = l} {l'} {r} {r'} e L R = subst (λ (p : Order). AtVector k n (lastGreatest o l r) (lastGreatest p l' r')) e (go o)
+    where
+      go : (o : Order) → AtVector k n (lastGreatest o l r) (lastGreatest o l' r')
+      go Less = R
+      go Equal = R
+      go Greater = L
+
+  longer-scales : {n : ℤ} {l l' r r' : Vector3} → AtVector k n l l' → AtVector k n r r' → Both (AtVector k n) (longer l r) (longer l' r')
+  unfolding longer
+  longer-scales left right =
+      normSquared-scales left >>= λ _ _ l.
+      normSquared-scales right >>= λ _ _ r.
+      pure (lastGreatest-at (total-same l r) left right)
+
+  unitVector-same : {v v' : Vector3} → AtVector k (pos 4) v v' → Both {A = Eigenvector} _≡_ (unitVector v) (unitVector v')
+  unfolding unitVector norm
+  unitVector-same {v} {v'} h =
+      norm-at {n = pos 4} (normSquared-scales h) (squared-normal v) (squared-normal v') >>= λ _ _ length.
+      vecDiv-scales h (length .0) >>= λ _ _ unit.
+      pure (choose _≡_ (λ i. (length .1) i && finite-same (length .0) i) (ap Unit (vector-at-zero unit)) (refl {a = Missing}))
+
+  module _ {m m' : Matrix3} (M : AtMatrix k (pos 2) m m') where
+    pub rowCrosses-same : {e e' : Float} → At k (pos 2) e e' → Both {A = Eigenvector} _≡_ (eigenvectorFromRowCrosses m e) (eigenvectorFromRowCrosses m' e')
+    unfolding eigenvectorFromRowCrosses
+    rowCrosses-same e =
+        ! (M .m00) ⊖ ! e >>= λ _ _ x0.
+        ! (M .m11) ⊖ ! e >>= λ _ _ y1.
+        ! (M .m22) ⊖ ! e >>= λ _ _ z2.
+        cross-scales (record { x = x0; y = M .m01; z = M .m02 }) (record { x = M .m10; y = y1; z = M .m12 }) >>= λ _ _ c01.
+        cross-scales (record { x = x0; y = M .m01; z = M .m02 }) (record { x = M .m20; y = M .m21; z = z2 }) >>= λ _ _ c02.
+        cross-scales (record { x = M .m10; y = y1; z = M .m12 }) (record { x = M .m20; y = M .m21; z = z2 }) >>= λ _ _ c12.
+        longer-scales c01 c02 >>= λ _ _ best.
+        longer-scales best c12 >>= λ _ _ longest.
+        unitVector-same longest
+
+    -- ---- the eigenvector of zero
+    zeroDirection-scales : Both (AtVector k (pos 4)) (zeroDirection m) (zeroDirection m')
+    unfolding zeroDirection
+    zeroDirection-scales =
+        ! (M .m01) ⊗ ! (M .m12) ⊖ ! (M .m02) ⊗ ! (M .m11) >>= λ _ _ x.
+        ! (M .m02) ⊗ ! (M .m01) ⊖ ! (M .m12) ⊗ ! (M .m00) >>= λ _ _ y.
+        ! (M .m11) ⊗ ! (M .m00) ⊖ ! (M .m01) ⊗ ! (M .m01) >>= λ _ _ z.
+        pure (record { x = x; y = y; z = z })
+
+    pub zeroVector-same : Both {A = Eigenvector} _≡_ (zeroVector m) (zeroVector m')
+    unfolding zeroVector
+    zeroVector-same =
+        zeroDirection-scales >>= λ _ _ direction.
+        normSquared-scales direction >>= λ _ _ zeroNormSquared.
+        matNormSquared-scales M >>= λ _ _ matrixScale.
+        ! same sixtyFour ⊗ ! same epsilon ⊗ ! matrixScale ⊗ ! matrixScale >>= λ _ _ limit.
+        if le-same zeroNormSquared limit then rowCrosses-same null
+        else (
+        √_ {n = pos 4} (! zeroNormSquared) >>= λ _ _ length.
+        vecDiv-scales direction length >>= λ _ _ unit.
+        pure (ap Unit (vector-at-zero unit)))
+
+    -- ---- the eigenvector of a nonzero eigenvalue
+    pub record AtMinors (p p' : Minors) : Type 0 where
+      pub square : At k (pos 4) (p .square) (p' .square)
+      pub product : At k (pos 4) (p .product) (p' .product)
+      pub pre0 : At k (pos 4) (p .pre0) (p' .pre0)
+      pub pre1 : At k (pos 4) (p .pre1) (p' .pre1)
+
+    pub eigenMinors-scales : {s s' : Float} → At k (pos 4) s s' → Both AtMinors (eigenMinors m s) (eigenMinors m' s')
+    unfolding eigenMinors
+    eigenMinors-scales square =
+        ⊝ ! (M .m00) ⊗ ! (M .m11) >>= λ _ _ product.
+        ! (M .m01) ⊗ ! (M .m12) ⊖ ! (M .m02) ⊗ ! (M .m11) >>= λ _ _ pre0.
+        ! (M .m01) ⊗ ! (M .m02) ⊖ ! (M .m00) ⊗ ! (M .m12) >>= λ _ _ pre1.
+        pure (record { square = square; product = product; pre0 = pre0; pre1 = pre1 })
+
+    module _ {p p' : Minors} {e e' : Float} (P : AtMinors p p') (E : At k (pos 2) e e') where
+      eigenDenominator-scales : Scales k (pos 4) (eigenDenominator m p e) (eigenDenominator m' p' e')
+      unfolding eigenDenominator
+      eigenDenominator-scales = ! E ⊗ (! (M .m00) ⊕ ! (M .m11)) ⊕ ! (P .product) ⊖ ! E ⊗ ! E ⊕ ! (P .square)
+
+      denominatorScale-scales : Scales k (pos 4) (denominatorScale m p e) (denominatorScale m' p' e')
+      unfolding denominatorScale
+      denominatorScale-scales =
+          ! E ⊗ (! (M .m00) ⊕ ! (M .m11)) >>= λ _ _ linear.
+          ! abs-at linear ⊕ ! abs-at (P .product) ⊕ ! E ⊗ ! E ⊕ ! (P .square)
+
+      byMinors-same : {d d' : Float} → At k (pos 4) d d' → Both {A = Eigenvector} _≡_ (eigenvectorByMinors m p e d) (eigenvectorByMinors m' p' e' d')
+      unfolding eigenvectorByMinors ifFinite
+      byMinors-same denominator =
+          ⊝ (! E ⊗ ! (M .m02) ⊕ ! (P .pre0)) ⊘ ! denominator >>= λ _ _ first.
+          ⊝ (! E ⊗ ! (M .m12) ⊕ ! (P .pre1)) ⊘ ! denominator >>= λ _ _ second.
+          ! same one ⊘ √_ {n = pos 0} (! first ⊗ ! first ⊕ ! second ⊗ ! second ⊕ ! same one) >>= λ _ _ inverseNorm.
+          ! first ⊗ ! inverseNorm >>= λ _ _ x.
+          ! second ⊗ ! inverseNorm >>= λ _ _ y.
+          pure (ap ifFinite (vector-at-zero (record { x = x; y = y; z = inverseNorm })))
+
+      pub eigenvectorOf-same : Both {A = Eigenvector} _≡_ (eigenvectorOf m p e) (eigenvectorOf m' p' e')
+      unfolding eigenvectorOf
+      eigenvectorOf-same =
+          eigenDenominator-scales >>= λ _ _ denominator.
+          denominatorScale-scales >>= λ _ _ scale.
+          floored (! same sixtyFour ⊗ ! same epsilon) epsilon64-small scale >>= λ _ _ limit.
+          if le-same (abs-at denominator) limit then rowCrosses-same E
+          else if finite-same denominator then byMinors-same denominator
+          else rowCrosses-same E

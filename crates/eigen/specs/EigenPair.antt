@@ -1,0 +1,44 @@
+-- The two eigenvalues that are not known: the second part of `eig_with_known_zero`. They are the roots of a quadratic, the greater in magnitude first.
+use lib.Ieee.{Float, lt, eq}
+use Rattle.ieee754.specs.Literal.{zero}
+use Rattle.ieee754.specs.Magnitude.{abs}
+use Rattle.ieee754.specs.Traced.{Traced, pure, _>>=_, if_then_else_, _⊗_, _⊕_, _⊖_, !_, ⊝_}
+use Rattle.linalg.specs.Matrices.{trace}
+use Rattle.linalg.specs.declared.matrix3.Matrix3.{Matrix3}
+use Rattle.polynomial.specs.Quadratic.{quadraticRealMonic}
+use Rattle.polynomial.specs.declared.Roots.{Roots}
+use Rattle.polynomial.specs.declared.Roots.the-variants.{Two, One, Refused}
+use Rattle.eigen.specs.declared.eigenvalues.Eigenvalues.{Eigenvalues}
+use Rattle.eigen.specs.declared.eigenvalues.Eigenvalues.the-variants.{Pair, NoPair}
+
+-- -off_diagonal_squared - matrix[(0, 2)] * matrix[(0, 2)] - matrix[(1, 2)] * matrix[(1, 2)]
+--     + matrix[(0, 0)] * (matrix[(1, 1)] + matrix[(2, 2)])
+--     + matrix[(1, 1)] * matrix[(2, 2)]
+unfoldable pub pairCoefficient : Matrix3 → Float → Traced Float
+pairCoefficient m offDiagonalSquared =
+    ⊝ ! offDiagonalSquared ⊖ ! (m .m02) ⊗ ! (m .m02) ⊖ ! (m .m12) ⊗ ! (m .m12) ⊕ ! (m .m00) ⊗ (! (m .m11) ⊕ ! (m .m22)) ⊕ ! (m .m11) ⊗ ! (m .m22)
+
+-- if first_value == 0.0 || second_value == 0.0 { return None; }
+unfoldable pub nonzeroPair : Float → Float → Eigenvalues
+nonzeroPair first second =
+    if eq first zero then NoPair
+    else if eq second zero then NoPair
+    else Pair first second
+
+-- if first_value.abs() < second_value.abs() { std::mem::swap(&mut first_value, &mut second_value); }
+unfoldable pub byMagnitude : Float → Float → Eigenvalues
+byMagnitude first second = if lt (abs first) (abs second) then nonzeroPair second first else nonzeroPair first second
+
+-- what follows the quadratic: its refusal ends the solve
+unfoldable pub pairOfRoots : Roots → Eigenvalues
+pairOfRoots (Two first second) = byMagnitude first second
+pairOfRoots (One root) = NoPair
+pairOfRoots (Refused number) = NoPair
+
+unfoldable pub eigenvaluePair : Matrix3 → Float → Traced Eigenvalues
+eigenvaluePair m offDiagonalSquared = do
+  -- let trace_coefficient = -matrix.trace();
+  traceCoefficient ← ⊝ trace m
+  pairTerm ← pairCoefficient m offDiagonalSquared
+  roots ← quadraticRealMonic traceCoefficient pairTerm
+  pure (pairOfRoots roots)

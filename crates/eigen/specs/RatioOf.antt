@@ -1,0 +1,22 @@
+-- The ratio of the eigenvalues' roots, with either sign of which a null vector is made: `solve_ordered`, from `let ratio_squared` on.
+use lib.Ieee.{Float, lt}
+use lib.Ieee.Scale.{finite}
+use Rattle.ieee754.specs.Literal.{zero, sixtyFour, epsilon}
+use Rattle.ieee754.specs.Maximum.{max}
+use Rattle.ieee754.specs.Traced.{Traced, pure, _>>=_, if_then_else_, _⊗_, _⊘_, !_, ⊝_, √_}
+use Rattle.eigen.specs.declared.ratio.Ratio.{Ratio}
+use Rattle.eigen.specs.declared.ratio.Ratio.the-variants.{Real, NotReal}
+
+unfoldable pub ratioOf : Float → Float → Traced Ratio
+ratioOf first second = do
+  -- let ratio_squared = -eigenvalues[1] / eigenvalues[0];
+  ratioSquared ← ⊝ ! second ⊘ ! first
+  -- !ratio_squared.is_finite() || ratio_squared < -f64::EPSILON * 64.0
+  if finite ratioSquared then (do
+    limit ← ⊝ ! epsilon ⊗ ! sixtyFour
+    if lt ratioSquared limit then pure NotReal
+        else do
+          -- let ratio = ratio_squared.max(0.0).sqrt();
+          ratio ← √ ! max ratioSquared zero
+          pure (Real ratio))
+      else pure NotReal

@@ -1,0 +1,86 @@
+// The eigenvector of a nonzero eigenvalue: the closure `eigenvector` of eig_with_known_zero (lambdatwist.rs), and what is
+// computed before it for both values.
+ghost use mathlib.Core.Path.{_≡_};
+ghost use Rattle.eigen.specs.EigenvectorOf.{eigenMinors, eigenDenominator, denominatorScale, eigenvectorByMinors, eigenvectorOf};
+use crate::row_crosses::Eigenvector;
+use crate::row_crosses::eigenvector_from_row_crosses;
+use ieee754::abs::abs;
+use ieee754::is_finite::is_finite;
+use ieee754::max::max;
+use ieee754::sqrt::sqrt;
+use linalg::matrix3::Matrix3;
+use linalg::vector3::Vector3;
+
+// f64::EPSILON, f64::MIN_POSITIVE
+const EPSILON: f64 = 2.220446049250313e-16;
+
+const MIN_POSITIVE: f64 = 2.2250738585072014e-308;
+
+// off_diagonal_squared, product00_11, precomputed0 and precomputed1
+pub struct Minors {
+    pub square: f64,
+    pub product: f64,
+    pub pre0: f64,
+    pub pre1: f64,
+}
+
+pub fn eigen_minors(m: Matrix3, square: f64) -> Minors
+    ensures { λ r. ⌜ r ≡ eigenMinors m square .value ⌝ }
+{
+    Minors {
+        square,
+        product: -m.m00 * m.m11,
+        pre0: m.m01 * m.m12 - m.m02 * m.m11,
+        pre1: m.m01 * m.m02 - m.m00 * m.m12,
+    }
+}
+
+pub fn eigen_denominator(m: Matrix3, p: Minors, eigenvalue: f64) -> f64
+    ensures { λ r. ⌜ r ≡ eigenDenominator m p eigenvalue .value ⌝ }
+{
+    eigenvalue * (m.m00 + m.m11) + p.product - eigenvalue * eigenvalue + p.square
+}
+
+pub fn denominator_scale(m: Matrix3, p: Minors, eigenvalue: f64) -> f64
+    ensures { λ r. ⌜ r ≡ denominatorScale m p eigenvalue .value ⌝ }
+{
+    let linear = abs(eigenvalue * (m.m00 + m.m11));
+    let product = abs(p.product);
+    linear + product + eigenvalue * eigenvalue + p.square
+}
+
+pub fn eigenvector_by_minors(
+    m: Matrix3,
+    p: Minors,
+    eigenvalue: f64,
+    denominator: f64,
+) -> Eigenvector
+    ensures { λ r. ⌜ r ≡ eigenvectorByMinors m p eigenvalue denominator .value ⌝ }
+{
+    let first = -(eigenvalue * m.m02 + p.pre0) / denominator;
+    let second = -(eigenvalue * m.m12 + p.pre1) / denominator;
+    let inverse_norm = 1.0 / sqrt(first * first + second * second + 1.0);
+    let vector = Vector3 {
+        x: first * inverse_norm,
+        y: second * inverse_norm,
+        z: inverse_norm,
+    };
+    if !vector.all_finite() {
+        return Eigenvector::Missing;
+    }
+    Eigenvector::Unit(vector)
+}
+
+pub fn eigenvector(m: Matrix3, p: Minors, eigenvalue: f64) -> Eigenvector
+    ensures { λ r. ⌜ r ≡ eigenvectorOf m p eigenvalue .value ⌝ }
+{
+    let denominator = eigen_denominator(m, p, eigenvalue);
+    let scale = denominator_scale(m, p, eigenvalue);
+    if abs(denominator) <= 64.0 * EPSILON * max(scale, MIN_POSITIVE) {
+        return eigenvector_from_row_crosses(m, eigenvalue);
+    }
+    if !is_finite(denominator) {
+        return eigenvector_from_row_crosses(m, eigenvalue);
+    }
+    eigenvector_by_minors(m, p, eigenvalue, denominator)
+}

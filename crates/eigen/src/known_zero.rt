@@ -1,0 +1,58 @@
+// The eigenvectors, by columns, and the eigenvalues of a symmetric matrix of which zero is an eigenvalue: eig_with_known_zero
+// of lambdatwist.rs.
+ghost use mathlib.Core.Path.{_≡_};
+ghost use Rattle.eigen.specs.KnownZero.{systemOfPair, eigWithKnownZero};
+use crate::eigenvalues::Eigenvalues;
+use crate::eigenvalues::eigenvalue_pair;
+use crate::eigenvector::eigen_minors;
+use crate::eigenvector::eigenvector;
+use crate::row_crosses::Eigenvector;
+use crate::zero_vector::zero_vector;
+use linalg::matrix3::Matrix3;
+use linalg::vector3::Vector3;
+
+pub enum Eigensystem {
+    Found(Matrix3, Vector3),
+    NotFound,
+}
+
+// The system of a matrix, by the eigenvector of zero, the square of the entry (0, 1) and the other two eigenvalues.
+pub fn system_of_pair(
+    m: Matrix3,
+    zero: Vector3,
+    square: f64,
+    first: f64,
+    second: f64,
+) -> Eigensystem
+    ensures { λ r. ⌜ r ≡ systemOfPair m zero square first second .value ⌝ }
+{
+    let p = eigen_minors(m, square);
+    let Eigenvector::Unit(column0) = eigenvector(m, p, first) else {
+        return Eigensystem::NotFound;
+    };
+    let Eigenvector::Unit(column1) = eigenvector(m, p, second) else {
+        return Eigensystem::NotFound;
+    };
+    let values = Vector3 {
+        x: first,
+        y: second,
+        z: 0.0,
+    };
+    Eigensystem::Found(Matrix3::from_columns(column0, column1, zero), values)
+}
+
+pub fn eig_with_known_zero(m: Matrix3) -> Eigensystem
+    ensures { λ r. ⌜ r ≡ eigWithKnownZero m .value ⌝ }
+{
+    if !m.all_finite() {
+        return Eigensystem::NotFound;
+    }
+    let Eigenvector::Unit(zero) = zero_vector(m) else {
+        return Eigensystem::NotFound;
+    };
+    let square = m.m01 * m.m01;
+    let Eigenvalues::Pair(first, second) = eigenvalue_pair(m, square) else {
+        return Eigensystem::NotFound;
+    };
+    system_of_pair(m, zero, square, first, second)
+}

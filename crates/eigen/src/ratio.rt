@@ -1,0 +1,28 @@
+// The ratio of the eigenvalues' roots, with either sign of which a null vector is made: solve_ordered (lambdatwist.rs), from
+// `let ratio_squared` on.
+ghost use mathlib.Core.Path.{_≡_};
+ghost use Rattle.eigen.specs.RatioOf.{ratioOf};
+use ieee754::is_finite::is_finite;
+use ieee754::max::max;
+use ieee754::sqrt::sqrt;
+
+// f64::EPSILON
+const EPSILON: f64 = 2.220446049250313e-16;
+
+pub enum Ratio {
+    Real(f64),
+    NotReal,
+}
+
+pub fn ratio_of(first: f64, second: f64) -> Ratio
+    ensures { λ r. ⌜ r ≡ ratioOf first second .value ⌝ }
+{
+    let ratio_squared = -second / first;
+    if !is_finite(ratio_squared) {
+        return Ratio::NotReal;
+    }
+    if ratio_squared < -EPSILON * 64.0 {
+        return Ratio::NotReal;
+    }
+    Ratio::Real(sqrt(max(ratio_squared, 0.0)))
+}
