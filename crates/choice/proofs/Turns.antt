@@ -1,0 +1,24 @@
+-- The loop over the poses at one place: a turn is made there, or the poses are at an end. Assumes nothing.
+use Prim.Native.Nat.{ℕ, _+_, _≤_, _<_}
+use mathlib.Core.Path.{_≡_, refl, ap, _∙_}
+use mathlib.Core.List.{List, [], _∷_}
+use native.Mathlib.Numerals.{add-one}
+use native.Mathlib.Omega.{arith}
+use lib.ListN.{length, getD, take, drop, length-take, drop-of-length-le}
+use lib.Seq.{drop-cons, getD-take}
+use Rattle.linalg.specs.declared.vector3.Vector3.{Vector3}
+use Rattle.linalg.specs.declared.pose.Pose.{Pose}
+use Rattle.choice.specs.Score.{score}
+use Rattle.choice.specs.Choose.{better, chooseAmong}
+use Rattle.choice.specs.declared.choose.Choice.{Choice}
+
+module _ (poses : List Pose) (n at : ℕ) (target bearing : Vector3) (best : Choice) where
+  pub turns-end : n ≤ at → best ≡ chooseAmong (drop at (take n poses)) at target bearing best .value
+  unfolding chooseAmong
+  turns-end h = let short : length (take n poses) ≤ at = simp length-take (omega arith) in rw (drop-of-length-le (take n poses) {i = at} short)
+
+  pub turns-go : (d : Pose) → at < n → n ≤ length poses
+      → chooseAmong (drop (at + 1) (take n poses)) (at + 1) target bearing (better best (at + 1) (score (getD poses at d) target bearing .value)) .value
+      ≡ chooseAmong (drop at (take n poses)) at target bearing best .value
+  unfolding chooseAmong
+  turns-go d h fits = let inside : at < length (take n poses) = simp length-take (omega arith) in rw (drop-cons (take n poses) at d, getD-take, add-one at)

@@ -1,0 +1,36 @@
+-- `choice::choose::better` meets its contract. Assumes nothing.
+use borrow.Author.Tests.{not-true, not-false}
+use Rattle.choice.specs.Choose.{better, lower}
+use borrow.Author.Needs.{needs}
+use Rattle.choice.proofs.choose.better.Statement.{statement}
+use Rattle.choice.proofs.choose.better.Tie as tie
+
+is-finite-requires : tie.Need-is-finite-requires
+is-finite-requires c κs = search needs
+
+returns : tie.Need-returns
+unfolding better lower
+returns c = rw (← c .before .is-finite .ensures, not-true (c .before .is-finite .result) (c .if1 .taken))
+
+enum-known-best : tie.Need-enum-known-best
+enum-known-best c = search needs
+
+enum-told : tie.Need-enum-told
+enum-told c = search needs
+
+returns-2 : tie.Need-returns-2
+unfolding better lower
+returns-2 c = rw (← c .before .before .before .is-finite .ensures, not-false (c .before .before .before .is-finite .result) (c .before .before .if1 .left), c .enum-told .given .1)
+
+returns-3 : tie.Need-returns-3
+unfolding better lower
+returns-3 c = rw (← c .before .before .before .before .before .is-finite .ensures, not-false (c .before .before .before .before .before .is-finite .result) (c .before .before .before .before .if1 .left), c .before .before .best .given .1, c .if2 .taken)
+
+returns-4 : tie.Need-returns-4
+unfolding better lower
+returns-4 c = rw (← c .before .before .before .before .before .is-finite .ensures, not-false (c .before .before .before .before .before .is-finite .result) (c .before .before .before .before .if1 .left), c .before .before .best .given .1, c .if2 .left)
+
+pub better-spec : {M : Type 1} → statement M
+better-spec =
+    tie.close
+    (tie.spec is-finite-requires returns enum-known-best enum-told returns-2 returns-3 returns-4)

@@ -1,0 +1,53 @@
+// The pose with the lowest finite score, the earlier one on a tie: best_by of pose/p3p/common.rs with document 01's score.
+ghost use mathlib.Core.Path.{_≡_};
+ghost use Prim.Native.Nat.{min};
+ghost use Rattle.choice.specs.Choose as Choose;
+use crate::score::score;
+use ieee754::is_finite::is_finite;
+use linalg::pose::Pose;
+use linalg::vector3::Vector3;
+
+pub enum Choice {
+    // The place of the chosen pose, from 1, and its score.
+    Best(u32, f64),
+    // 10: no pose has a finite score.
+    Refused(u32),
+}
+
+// The choice so far with one pose more, which takes it where its score is finite and the lowest.
+pub fn better(best: Choice, place: u32, score: f64) -> Choice
+    ensures { λ r. ⌜ r ≡ Choose.better best place score ⌝ }
+{
+    if !is_finite(score) {
+        return best;
+    }
+    let Choice::Best(_, lowest) = best else {
+        return Choice::Best(place, score);
+    };
+    if score < lowest {
+        return Choice::Best(place, score);
+    }
+    best
+}
+
+// A stated pose count above 4 is read as 4.
+fn cut(count: u32) -> u32
+    ensures { λ r. ⌜ r ≡ min count 4 ⌝ }
+{
+    if count < 4 { count } else { 4 }
+}
+
+// The choice among the first `count` poses.
+pub fn choose(poses: [Pose; 4], count: u32, target: Vector3, bearing: Vector3) -> Choice
+    ensures { λ r. ⌜ r ≡ Choose.choose poses count target bearing .value ⌝ }
+{
+    let n = cut(count);
+    let mut best = Choice::Refused(10);
+    let mut at: u32 = 0;
+    while at < n {
+        let value = score(poses[at as usize], target, bearing);
+        best = better(best, at + 1, value);
+        at += 1;
+    }
+    best
+}

@@ -1,0 +1,3 @@
+// The choice of one pose by a fourth target: document 01, module 8.
+pub mod choose;
+pub mod score;
