@@ -2,3 +2,4 @@
 // include/p3p.h declares them.
 pub mod roots;
 pub mod single;
+pub mod solve;
