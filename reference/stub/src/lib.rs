@@ -59,6 +59,11 @@ extern "C" fn p3p_cubic(b: f64, c: f64, d: f64, root: &mut f64) -> u32 {
 }
 
 #[unsafe(no_mangle)]
+extern "C" fn p3p_fast_cbrt(x: f64) -> f64 {
+    copy_second::fast_cbrt(x)
+}
+
+#[unsafe(no_mangle)]
 extern "C" fn p3p_solve(input: &[f64; 18], poses: &mut [f64; 48], updates: &mut [u32; 4], count: &mut u32) -> u32 {
     let answer = copy_second::solve(input);
     if answer.refusal != 0 {

@@ -10,10 +10,11 @@ use crate::table;
 use std::collections::BTreeMap;
 
 /// Functions asked beside the frames, one input of each for every fourth frame.
-const ASKED: &[&str] = &["quadratic", "cubic", "choice", "sqrt", "cbrt", "fma", "copysign", "max", "totalorder"];
+const ASKED: &[&str] =
+    &["quadratic", "cubic", "fast_cbrt", "choice", "sqrt", "cbrt", "fma", "copysign", "max", "totalorder"];
 
 /// Functions that are only compared between the copies.
-const COPIES: &[&str] = &["fast_cbrt", "refine", "basis", "project", "eig", "row_crosses", "condition"];
+const COPIES: &[&str] = &["refine", "basis", "project", "eig", "row_crosses", "condition"];
 
 /// Functions in which a listed call decides between answers and rounds nothing.
 const DECIDED: &[&str] = &["row_crosses", "totalorder", "copysign"];

@@ -1,5 +1,7 @@
 //! The Rust beside the port. `reference` alone lists the commands.
 
+#[cfg(port)]
+mod bench;
 mod beside;
 mod check;
 mod choice;
@@ -22,6 +24,7 @@ reference vectors FOLDER         write the stored vectors
 reference coverage FOLDER        which branches of the Rust the stored vectors reach
 reference orders                 nalgebra's orders of operations, with a witness for each
 reference beside [COUNT [SEED]]  the port and both copies on the same random inputs
+reference bench [COUNT]          how long a solve takes, the port beside the unchanged copy (COUNT frames of a sort)
 reference search FUNCTION N SEED COUNT | FILE
                                  inputs that reach what fewer than N stored ones reach";
 
@@ -39,6 +42,12 @@ fn main() {
         ["beside", count, seed] => {
             number(count).and_then(|count| number(seed).and_then(|seed| beside::run(count, seed)))
         }
+        #[cfg(port)]
+        ["bench"] => bench::run(4096, vectors::SEED),
+        #[cfg(port)]
+        ["bench", count] => number(count).and_then(|count| bench::run(count, vectors::SEED)),
+        #[cfg(not(port))]
+        ["bench", ..] => Err("built without the port (set P3P_PORT to its static library)".to_string()),
         ["search", name, enough, seed, count] => (|| {
             let source = vectors::Source::Random { seed: number(seed)?, count: number(count)? };
             vectors::search(name, source, number(enough)? as usize);

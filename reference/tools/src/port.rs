@@ -10,6 +10,7 @@ unsafe extern "C" {
     fn p3p_copysign(x: f64, sign: f64) -> f64;
     fn p3p_max(a: f64, b: f64) -> f64;
     fn p3p_total_cmp(a: f64, b: f64) -> i32;
+    fn p3p_fast_cbrt(x: f64) -> f64;
     fn p3p_quadratic(b: f64, c: f64, first: *mut f64, second: *mut f64) -> u32;
     fn p3p_cubic(b: f64, c: f64, d: f64, root: *mut f64) -> u32;
     fn p3p_solve(input: *const f64, poses: *mut f64, updates: *mut u32, count: *mut u32) -> u32;
@@ -25,7 +26,7 @@ const WROTE: u64 = 0xbad0_bad0_bad0_bad0;
 
 /// The functions that the port offers.
 pub const OFFERED: &[&str] =
-    &["frame", "quadratic", "cubic", "choice", "sqrt", "cbrt", "fma", "copysign", "max", "totalorder"];
+    &["frame", "quadratic", "cubic", "fast_cbrt", "choice", "sqrt", "cbrt", "fma", "copysign", "max", "totalorder"];
 
 pub fn answer(name: &str, input: &[u64]) -> Vec<u64> {
     let d = |index: usize| f64::from_bits(input[index]);
@@ -41,6 +42,7 @@ pub fn answer(name: &str, input: &[u64]) -> Vec<u64> {
             let number = unsafe { p3p_cubic(d(0), d(1), d(2), &mut root) };
             result(number, &[root])
         }
+        "fast_cbrt" => vec![word(unsafe { p3p_fast_cbrt(d(0)) })],
         "choice" => {
             // The third word, the score, is not offered.
             let poses: [f64; 48] = std::array::from_fn(|index| d(1 + index));
@@ -57,6 +59,13 @@ pub fn answer(name: &str, input: &[u64]) -> Vec<u64> {
         "totalorder" => vec![unsafe { p3p_total_cmp(d(0), d(1)) } as i64 as u64],
         _ => panic!("not offered: {name}"),
     }
+}
+
+/// A solve alone, for its time: the number, the slots, their updates and the count.
+pub fn solve(input: &[f64; 18]) -> (u32, [f64; 48], [u32; 4], u32) {
+    let (mut poses, mut updates, mut count) = ([0.0; 48], [0; 4], 0);
+    let number = unsafe { p3p_solve(input.as_ptr(), poses.as_mut_ptr(), updates.as_mut_ptr(), &mut count) };
+    (number, poses, updates, count)
 }
 
 fn result(number: u32, roots: &[f64]) -> Vec<u64> {

@@ -1,0 +1,61 @@
+//! Why there is no answer.
+
+use std::fmt;
+
+/// Why a function has no answer.
+#[derive(Clone, Copy, Debug, PartialEq, Eq, Hash)]
+#[non_exhaustive]
+pub enum Refusal {
+    /// One of the solver's eighteen numbers is an infinity or a NaN.
+    InputNotFinite = 1,
+    /// The solver's cubic is degenerate in every ordering of the points.
+    NoUsableOrdering = 2,
+    /// The solver kept no pose.
+    NoPose = 3,
+    /// A coefficient of the polynomial is an infinity or a NaN.
+    CoefficientNotFinite = 4,
+    /// The quadratic's discriminant is negative by more than rounding, or not finite.
+    NoRealRoots = 5,
+    /// No root of the cubic was found.
+    NoRoot = 6,
+    /// No pose has a finite score.
+    NoFiniteScore = 10,
+}
+
+impl Refusal {
+    /// The number by which the C interface and the listing name it.
+    pub fn number(self) -> u32 {
+        self as u32
+    }
+
+    /// An answer, or the refusal of a number that is not 0.
+    pub(crate) fn unless_zero<T>(number: u32, answer: T) -> Result<T, Self> {
+        Err(match number {
+            0 => return Ok(answer),
+            1 => Self::InputNotFinite,
+            2 => Self::NoUsableOrdering,
+            3 => Self::NoPose,
+            4 => Self::CoefficientNotFinite,
+            5 => Self::NoRealRoots,
+            6 => Self::NoRoot,
+            10 => Self::NoFiniteScore,
+            _ => unreachable!("no refusal has the number {number}"),
+        })
+    }
+}
+
+impl fmt::Display for Refusal {
+    fn fmt(&self, f: &mut fmt::Formatter<'_>) -> fmt::Result {
+        f.write_str(match self {
+            Self::InputNotFinite => "a number of the input is not finite",
+            Self::NoUsableOrdering => "no ordering of the points is usable",
+            Self::NoPose => "no pose was kept",
+            Self::CoefficientNotFinite => "a coefficient is not finite",
+            Self::NoRealRoots => "the quadratic has no real roots",
+            Self::NoRoot => "no root of the cubic was found",
+            Self::NoFiniteScore => "no pose has a finite score",
+        })
+    }
+}
+
+impl std::error::Error for Refusal {}

@@ -1,0 +1,26 @@
+//! The root finders.
+
+use crate::refusal::Refusal;
+use crate::sys;
+
+/// The two real roots of x² + b·x + c, not sorted; where the discriminant is within rounding of zero, -b/2 twice.
+pub fn quadratic(b: f64, c: f64) -> Result<[f64; 2], Refusal> {
+    let (mut first, mut second) = (0.0, 0.0);
+    // SAFETY: both references are to doubles of this function's own.
+    let number = unsafe { sys::p3p_quadratic(b, c, &mut first, &mut second) };
+    Refusal::unless_zero(number, [first, second])
+}
+
+/// One real root of x³ + b·x² + c·x + d, polished by Newton's method.
+pub fn cubic(b: f64, c: f64, d: f64) -> Result<f64, Refusal> {
+    let mut root = 0.0;
+    // SAFETY: the reference is to a double of this function's own.
+    let number = unsafe { sys::p3p_cubic(b, c, d, &mut root) };
+    Refusal::unless_zero(number, root)
+}
+
+/// The approximate cube root from which the cubic starts: two steps of Halley's method.
+pub fn fast_cbrt(x: f64) -> f64 {
+    // SAFETY: only numbers are passed.
+    unsafe { sys::p3p_fast_cbrt(x) }
+}

@@ -1,0 +1,38 @@
+-- `exports::roots::p3p_quadratic` meets its contract: each arm leaves what the definition says of its case. Assumes nothing.
+use borrow.Author.Needs.{needs}
+use mathlib.Core.Path.{refl}
+use Rattle.exports.proofs.roots.p3p_quadratic.Statement.{statement}
+use Rattle.exports.proofs.roots.p3p_quadratic.Tie as tie
+
+quadratic-real-monic-requires : tie.Need-quadratic-real-monic-requires
+quadratic-real-monic-requires c κs = search needs
+
+enum-known-roots : tie.Need-enum-known-roots
+enum-known-roots c = search needs
+
+enum-known-roots-2 : tie.Need-enum-known-roots-2
+enum-known-roots-2 c = search needs
+
+enum-known-roots-3 : tie.Need-enum-known-roots-3
+enum-known-roots-3 c = search needs
+
+returns : tie.Need-returns
+returns c = rw (← c .before .before .before .quadratic-real-monic .ensures, c .before .roots .given .1) (refl, (refl, refl))
+
+returns-2 : tie.Need-returns-2
+returns-2 c = rw (← c .before .before .before .quadratic-real-monic .ensures, c .before .roots2 .given .1) (refl, (refl, refl))
+
+returns-3 : tie.Need-returns-3
+returns-3 c = rw (← c .before .before .before .quadratic-real-monic .ensures, c .before .roots3 .given .1) (refl, (refl, refl))
+
+pub p3p-quadratic-spec : {M : Type 1} → statement M
+p3p-quadratic-spec =
+    tie.close
+    (tie.spec
+    quadratic-real-monic-requires
+    enum-known-roots
+    enum-known-roots-2
+    enum-known-roots-3
+    returns
+    returns-2
+    returns-3)

@@ -1,0 +1,50 @@
+-- The solve over lent arrays: the eighteen doubles that are read, and what the other arrays hold when it returns. A refused solve leaves them as they were.
+use Prim.Native.Nat.{ℕ, _+_}
+use mathlib.Core.List.{List, [], _∷_, _++_}
+use lib.Dec.{eqb}
+use lib.Ieee.{Float, nan}
+use lib.ListN.{getD}
+use Rattle.ieee754.specs.Traced.{if_then_else_}
+use Rattle.linalg.specs.Vectors.{vector}
+use Rattle.linalg.specs.declared.vector3.Vector3.{Vector3}
+use Rattle.linalg.specs.declared.pose.Pose.{Pose}
+use Rattle.p3p_common.specs.declared.input.World.{World}
+use Rattle.p3p_common.specs.declared.input.Bearings.{Bearings}
+use Rattle.lambdatwist.specs.Solve.{solve}
+use Rattle.lambdatwist.specs.declared.solve.Answer.{Answer}
+
+-- ---- the input: three world points and then three bearings, each x, y, z (the NaN stands for what no array of eighteen lacks)
+unfoldable pub vectorAt : List Float → ℕ → Vector3
+vectorAt xs at = vector (getD xs at nan) (getD xs (at + 1) nan) (getD xs (at + 2) nan)
+
+unfoldable pub worldOf : List Float → World
+worldOf input = record { p0 = vectorAt input 0; p1 = vectorAt input 3; p2 = vectorAt input 6 }
+
+unfoldable pub bearingsOf : List Float → Bearings
+bearingsOf input = record { f0 = vectorAt input 9; f1 = vectorAt input 12; f2 = vectorAt input 15 }
+
+unfoldable pub solved : List Float → Answer
+solved input = solve (worldOf input) (bearingsOf input) .value
+
+-- ---- the poses: the rotation by columns, and the translation, as in the listing
+unfoldable pub entries : Pose → List Float
+entries p =
+    p .rotation .m00 ∷ p .rotation .m10 ∷ p .rotation .m20
+    ∷ p .rotation .m01 ∷ p .rotation .m11 ∷ p .rotation .m21
+    ∷ p .rotation .m02 ∷ p .rotation .m12 ∷ p .rotation .m22
+    ∷ p .translation .x ∷ p .translation .y ∷ p .translation .z ∷ []
+
+-- one slot after another
+unfoldable pub allEntries : List Pose → List Float
+allEntries [] = []
+allEntries (p ∷ ps) = entries p ++ allEntries ps
+
+-- ---- what is held after the solve
+unfoldable pub posesAfter : Answer → List Float → List Float
+posesAfter answer held = if eqb (answer .refusal) 0 then allEntries (answer .poses) else held
+
+unfoldable pub updatesAfter : Answer → List ℕ → List ℕ
+updatesAfter answer held = if eqb (answer .refusal) 0 then answer .updates else held
+
+unfoldable pub countAfter : Answer → ℕ → ℕ
+countAfter answer held = if eqb (answer .refusal) 0 then answer .count else held
