@@ -5,7 +5,7 @@
 #include <stdio.h>
 #include <stdlib.h>
 #include "arguments.h"
-#include "exports.h"
+#include "../../include/p3p.h"
 
 typedef unsigned __int128 u128;
 

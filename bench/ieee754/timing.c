@@ -4,7 +4,7 @@
 #include <stdio.h>
 #include <time.h>
 #include "arguments.h"
-#include "exports.h"
+#include "../../include/p3p.h"
 
 // So many that a branch predictor does not learn them from one pass to the next.
 #define N 65536

@@ -1,6 +1,6 @@
 // Functions in the place of the exported ones, each plausible and wrong somewhere: the comparison has to find fault with every one.
 #include <math.h>
-#include "exports.h"
+#include "../../include/p3p.h"
 
 double p3p_sqrt(double x) { double s = sqrt(x); return 0.5 * (s + x / s); }
 double p3p_cbrt(double x) { return cbrt(x); }

@@ -1,22 +1,17 @@
 -- The solve over lent arrays: the eighteen doubles that are read, and what the other arrays hold when it returns. A refused solve leaves them as they were.
-use Prim.Native.Nat.{ℕ, _+_}
+use Prim.Native.Nat.{ℕ}
 use mathlib.Core.List.{List, [], _∷_, _++_}
 use lib.Dec.{eqb}
-use lib.Ieee.{Float, nan}
-use lib.ListN.{getD}
+use lib.Ieee.{Float}
 use Rattle.ieee754.specs.Traced.{if_then_else_}
-use Rattle.linalg.specs.Vectors.{vector}
-use Rattle.linalg.specs.declared.vector3.Vector3.{Vector3}
 use Rattle.linalg.specs.declared.pose.Pose.{Pose}
 use Rattle.p3p_common.specs.declared.input.World.{World}
 use Rattle.p3p_common.specs.declared.input.Bearings.{Bearings}
 use Rattle.lambdatwist.specs.Solve.{solve}
 use Rattle.lambdatwist.specs.declared.solve.Answer.{Answer}
+use Rattle.exports.specs.VectorLent.{vectorAt}
 
--- ---- the input: three world points and then three bearings, each x, y, z (the NaN stands for what no array of eighteen lacks)
-unfoldable pub vectorAt : List Float → ℕ → Vector3
-vectorAt xs at = vector (getD xs at nan) (getD xs (at + 1) nan) (getD xs (at + 2) nan)
-
+-- ---- the input: three world points and then three bearings
 unfoldable pub worldOf : List Float → World
 worldOf input = record { p0 = vectorAt input 0; p1 = vectorAt input 3; p2 = vectorAt input 6 }
 

@@ -1,23 +1,11 @@
 // The solve of eighteen doubles over lent arrays.
 ghost use mathlib.Core.Path.{_≡_};
-ghost use Prim.Native.Nat.{_+_, _≤_};
 ghost use mathlib.Core.List.{_++_};
-ghost use Rattle.exports.specs.SolveLent.{vectorAt, worldOf, bearingsOf, solved, entries, posesAfter, updatesAfter, countAfter};
+ghost use Rattle.exports.specs.SolveLent.{worldOf, bearingsOf, solved, entries, posesAfter, updatesAfter, countAfter};
+use crate::vectors::vector_at;
 use linalg::pose::Pose;
-use linalg::vector3::Vector3;
 use p3p_common::input::Bearings;
 use p3p_common::input::World;
-
-fn vector_at(input: &[f64; 18], at: usize) -> Vector3
-    requires { ⌜ at + 3 ≤ 18 ⌝ }
-    ensures { λ r. ⌜ r ≡ vectorAt (now (input .entry)) at ⌝ }
-{
-    Vector3 {
-        x: input[at],
-        y: input[at + 1],
-        z: input[at + 2],
-    }
-}
 
 fn world_of(input: &[f64; 18]) -> World
     ensures { λ r. ⌜ r ≡ worldOf (now (input .entry)) ⌝ }

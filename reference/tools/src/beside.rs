@@ -44,10 +44,29 @@ pub fn run(count: u64, seed: u64) -> Result<(), String> {
         "refused 1: {}, 2: {}, 3: {}; with 1 pose: {}, 2: {}, 3: {}, 4: {}",
         answers[1], answers[2], answers[3], answers[4], answers[5], answers[6], answers[7]
     );
+    print(&distances);
+    Ok(())
+}
+
+/// Random inputs of each of the functions named.
+pub fn pieces(count: u64, seed: u64, names: &[&str]) -> Result<(), String> {
+    println!("seed {seed}, {count} inputs of each function");
+    let mut r = Random::new(seed);
+    let mut distances = BTreeMap::<&str, Distance>::new();
+    for name in names {
+        for _ in 0..count {
+            compare(name, &pieces::random(name, &mut r), &mut distances)?;
+        }
+    }
+    print(&distances);
+    Ok(())
+}
+
+fn print(distances: &BTreeMap<&str, Distance>) {
     println!("\nThe unchanged copy beside the second:");
     println!("| function | inputs | differ | at most places apart |");
     println!("|---|---:|---:|---:|");
-    for (name, d) in &distances {
+    for (name, d) in distances {
         let far = match d.differ {
             0 => String::new(),
             _ if DECIDED.contains(name) => "another answer".to_string(),
@@ -60,7 +79,6 @@ pub fn run(count: u64, seed: u64) -> Result<(), String> {
     println!("The port: no difference from the second copy.");
     #[cfg(not(port))]
     println!("Built without the port (set P3P_PORT to its static library).");
-    Ok(())
 }
 
 /// A frame of any kind; every fourth is altered in a few places.

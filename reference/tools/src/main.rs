@@ -24,6 +24,7 @@ reference vectors FOLDER         write the stored vectors
 reference coverage FOLDER        which branches of the Rust the stored vectors reach
 reference orders                 nalgebra's orders of operations, with a witness for each
 reference beside [COUNT [SEED]]  the port and both copies on the same random inputs
+reference pieces COUNT FUNCTION..  the same on COUNT random inputs of each function named
 reference bench [COUNT]          how long a solve takes, the port beside the unchanged copy (COUNT frames of a sort)
 reference search FUNCTION N SEED COUNT | FILE
                                  inputs that reach what fewer than N stored ones reach";
@@ -42,6 +43,7 @@ fn main() {
         ["beside", count, seed] => {
             number(count).and_then(|count| number(seed).and_then(|seed| beside::run(count, seed)))
         }
+        ["pieces", count, ref names @ ..] => number(count).and_then(|count| beside::pieces(count, vectors::SEED, names)),
         #[cfg(port)]
         ["bench"] => bench::run(4096, vectors::SEED),
         #[cfg(port)]

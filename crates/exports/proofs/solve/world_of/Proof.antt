@@ -15,7 +15,7 @@ vector-at-requires-3 c κs = search needs
 
 returns : tie.Need-returns
 unfolding worldOf
-returns c = rw (c .before .before .vector-at .ensures, c .before .vector-at2 .ensures, c .vector-at3 .ensures)
+returns c = rw (c .before .before .before .before .vector-at .ensures, c .before .before .vector-at2 .ensures, c .vector-at3 .ensures)
 
 pub world-of-spec : {M : Type 1} → statement M
 world-of-spec =
