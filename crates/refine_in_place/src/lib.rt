@@ -2,6 +2,7 @@
 // 01, "What must change shape"). A thin layer over the form by value, p3p_common::refine_depths, which does the work. The borrow checker
 // covers no reference to a struct, so the proofs of both functions walk through their statements by hand.
 ghost use mathlib.Core.Path.{_≡_};
+ghost use Prim.Native.Nat.{ℕ};
 ghost use Rattle.p3p_common.specs.RefineDepths.{refineDepths};
 use linalg::vector3::Vector3;
 use p3p_common::refine_depths::Cosines;
@@ -16,7 +17,7 @@ pub fn refine_depths_in_place(
     bearing_cosines: Cosines,
     iterations: u32,
 ) -> u32
-    ensures { λ r. ⌜ (r ≡ refineDepths (now (depths .entry)) «squared_edges» «bearing_cosines» iterations .value .updates)
+    ensures { λ (r : ℕ). ⌜ (r ≡ refineDepths (now (depths .entry)) «squared_edges» «bearing_cosines» iterations .value .updates)
         × (now (depths .exit) ≡ refineDepths (now (depths .entry)) «squared_edges» «bearing_cosines» iterations .value .depths) ⌝ }
 {
     let refined = refine_depths(*depths, squared_edges, bearing_cosines, iterations);
