@@ -88,7 +88,7 @@ fn step(fd: i32) -> Found {
 }
 
 // Steps through the file. A proved loop has to end, and nothing says that a file does, so the count of records bounds it.
-fn compare(path: &[u8]) {
+fn compare(name: &[u8], path: &[u8]) {
     let fd = os::open_read(path);
     if fd < 0 {
         os::fail(path);
@@ -108,9 +108,9 @@ fn compare(path: &[u8]) {
         compared += 1;
     }
     libc::close(fd);
-    words::report::report(b"choice", compared, differ);
+    words::report::report(name, compared, differ);
 }
 
 fn main() {
-    compare(b"choice.bin");
+    compare(b"choice", b"choice.bin");
 }
