@@ -19,7 +19,7 @@ extern "C" {
 /* Why there is no answer. */
 enum p3p_refusal {
     P3P_INPUT_NOT_FINITE = 1,       /* solve: one of the eighteen doubles is an infinity or a NaN */
-    P3P_NO_USABLE_ORDERING = 2,     /* solve: the cubic is degenerate in every ordering of the points */
+    P3P_NO_USABLE_ORDERING = 2,     /* solve: no ordering of the points is usable */
     P3P_NO_POSE = 3,                /* solve: no pose was kept */
     P3P_COEFFICIENT_NOT_FINITE = 4, /* quadratic, cubic: a coefficient is an infinity or a NaN */
     P3P_NO_REAL_ROOTS = 5,          /* quadratic: the discriminant is below minus the band, or not finite */

@@ -1,13 +1,12 @@
-// The deepest stack of one solve: each frame of a file of stored vectors is solved on a thread whose stack was filled with a known byte, and the lowest
-// byte that changed is found. Prints the deepest of all frames, in bytes below the frame of the function that calls p3p_solve.
-//   stack FRAMES     a file of records of 79 big-endian words, of which the first 18 are a solve's input (reference/README.md, frame)
+// The deepest stack of one solve: each stored frame is solved on a thread whose stack was filled with a known byte, and the lowest byte that
+// changed is found. Prints the deepest of all frames, in bytes below the frame of the function that calls p3p_solve.
+//   stack FRAMES
 #include "../../include/p3p.h"
+#include "frames.h"
 #include <pthread.h>
-#include <stdio.h>
 #include <stdlib.h>
-#include <string.h>
 
-enum { WORDS = 79, AREA = 1 << 18, FILL = 0xa5 };
+enum { AREA = 1 << 18, FILL = 0xa5 };
 
 static double input[18], poses[48];
 static uint32_t updates[4], count;
@@ -45,7 +44,7 @@ static size_t depth(unsigned char *area, void *(*run)(void *)) {
 
 int main(int argc, char **argv) {
     FILE *file = argc == 2 ? fopen(argv[1], "rb") : NULL;
-    unsigned char *area = aligned_alloc(4096, AREA), record[8 * WORDS];
+    unsigned char *area = aligned_alloc(4096, AREA);
     if (!file || !area) {
         fprintf(stderr, "usage: stack FRAMES\n");
         return 1;
@@ -53,13 +52,7 @@ int main(int argc, char **argv) {
     // what a thread that does nothing writes as it ends is no part of a solve
     size_t deepest = 0, idle = depth(area, nothing);
     long frames = 0, at = 0;
-    while (fread(record, sizeof record, 1, file) == 1) {
-        for (int i = 0; i < 18; i++) {
-            uint64_t word = 0;
-            for (int k = 0; k < 8; k++)
-                word = word << 8 | record[8 * i + k];
-            memcpy(&input[i], &word, sizeof word);
-        }
+    while (next_input(file, input)) {
         size_t used = depth(area, solve);
         frames++;
         if (used > deepest) {

@@ -8,7 +8,7 @@ use std::fmt;
 pub enum Refusal {
     /// One of the solver's eighteen numbers is an infinity or a NaN.
     InputNotFinite = 1,
-    /// The solver's cubic is degenerate in every ordering of the points.
+    /// No ordering of the solver's points is usable.
     NoUsableOrdering = 2,
     /// The solver kept no pose.
     NoPose = 3,

@@ -6,7 +6,6 @@ use crate::pieces;
 use crate::port;
 use crate::random::Random;
 use std::hint::black_box;
-use std::time::Instant;
 
 type Input = [f64; 18];
 
@@ -25,11 +24,26 @@ const SORTS: &[(&str, Sort)] = &[
     ("reaches the projection", Sort::Reaches("project_to_rotation")),
 ];
 
-/// Each figure is the least of so many passes.
+/// Frames are timed in parts, and of each part the least of so many passes counts: what else
+/// the machine does in between then matters little.
+const PART: usize = 64;
 const PASSES: usize = 40;
 
+unsafe extern "C" {
+    /// C's, with a timespec of two whole numbers.
+    fn clock_gettime(clock: i32, time: &mut [i64; 2]) -> i32;
+}
+
+/// The processor time of this thread, in nanoseconds.
+fn spent() -> f64 {
+    const CLOCK_THREAD_CPUTIME_ID: i32 = 3;
+    let mut time = [0; 2];
+    unsafe { clock_gettime(CLOCK_THREAD_CPUTIME_ID, &mut time) };
+    time[0] as f64 * 1e9 + time[1] as f64
+}
+
 pub fn run(count: u64, seed: u64) -> Result<(), String> {
-    println!("seed {seed}, {count} frames of each sort, the least of {PASSES} passes");
+    println!("seed {seed}, {count} frames of each sort; of each {PART} frames the least of {PASSES} passes");
     println!("| frames | port / Rust | port, ns | Rust, ns | poses a frame |");
     println!("|---|---:|---:|---:|---:|");
     for (name, sort) in SORTS {
@@ -75,18 +89,22 @@ fn inputs(sort: &Sort, count: u64, seed: u64) -> Vec<Input> {
 
 /// Nanoseconds a solve: the port's and the unchanged copy's.
 fn times(inputs: &[Input]) -> (f64, f64) {
-    let mut least = (f64::INFINITY, f64::INFINITY);
+    let parts = inputs.chunks(PART);
+    let mut least = vec![(f64::INFINITY, f64::INFINITY); parts.len()];
     for _ in 0..PASSES {
-        least.0 = least.0.min(pass(inputs.iter(), |input| port::solve(input).3));
-        least.1 = least.1.min(pass(inputs.iter(), |input| copy_asis::solve(input).count));
+        for (part, least) in parts.clone().zip(&mut least) {
+            least.0 = least.0.min(pass(part.iter(), |input| port::solve(input).3));
+            least.1 = least.1.min(pass(part.iter(), |input| copy_asis::solve(input).count));
+        }
     }
-    (least.0 / inputs.len() as f64, least.1 / inputs.len() as f64)
+    let frames = inputs.len() as f64;
+    (least.iter().map(|time| time.0).sum::<f64>() / frames, least.iter().map(|time| time.1).sum::<f64>() / frames)
 }
 
 fn pass<'a, T>(inputs: impl Iterator<Item = &'a Input>, solve: impl Fn(&Input) -> T) -> f64 {
-    let began = Instant::now();
+    let before = spent();
     for input in inputs {
         black_box(solve(black_box(input)));
     }
-    began.elapsed().as_nanos() as f64
+    spent() - before
 }

@@ -43,7 +43,9 @@ fn main() {
         ["beside", count, seed] => {
             number(count).and_then(|count| number(seed).and_then(|seed| beside::run(count, seed)))
         }
-        ["pieces", count, ref names @ ..] => number(count).and_then(|count| beside::pieces(count, vectors::SEED, names)),
+        ["pieces", count, ref names @ ..] => {
+            number(count).and_then(|count| beside::pieces(count, vectors::SEED, names))
+        }
         #[cfg(port)]
         ["bench"] => bench::run(4096, vectors::SEED),
         #[cfg(port)]
