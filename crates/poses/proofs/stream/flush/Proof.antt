@@ -1,0 +1,24 @@
+-- `poses::stream::flush` is safe: no more is written than there is. Assumes nothing.
+use native.Mathlib.Omega.{arith}
+use lib.ListN.{length-take}
+use borrow.Author.Needs.{needs}
+use Rattle.poses.proofs.stream.flush.Statement.{statement}
+use Rattle.poses.proofs.stream.flush.Tie as tie
+use Rattle.poses.proofs.stream.flush.Reads as reads
+use Rattle.poses.proofs.stream.flush.Lts as lts
+use Rattle.io.proofs.write_all.Reads as write-all-reads
+
+returns : tie.Need-returns
+returns c = search needs
+
+slice-aggregate-write-all : tie.Need-slice-aggregate-write-all
+slice-aggregate-write-all c = simp length-take (omega arith)
+
+write-all-requires : tie.Need-write-all-requires
+write-all-requires c κs = search needs
+
+returns-2 : tie.Need-returns-2
+returns-2 c = search needs
+
+pub flush-spec : {M : Type 1} → statement M
+flush-spec = tie.close (tie.spec returns slice-aggregate-write-all write-all-requires returns-2)

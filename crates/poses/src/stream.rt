@@ -1,0 +1,40 @@
+// Standard input and output, in parts.
+use libc::EINTR;
+use libc::STDIN_FILENO;
+use libc::STDOUT_FILENO;
+
+// What reading once leads to.
+pub enum Filling {
+    // So many bytes of the buffer are filled. A read that a signal interrupts fills none.
+    Filled(usize),
+    // The input has ended.
+    End,
+    Failed,
+}
+
+// Reads once into `input`, of which `filled` bytes are filled already.
+pub fn fill(input: &mut [u8], filled: usize) -> Filling {
+    if input.len() <= filled {
+        return Filling::Failed;
+    }
+    let part = &mut input[filled..];
+    let got = libc::read(STDIN_FILENO, part);
+    if got == 0 {
+        return Filling::End;
+    }
+    if got < 0 {
+        if os::errno() == EINTR {
+            return Filling::Filled(filled);
+        }
+        return Filling::Failed;
+    }
+    Filling::Filled(filled + io::count(got, part))
+}
+
+// Writes the first `n` bytes of `out`, and answers whether all were written.
+pub fn flush(out: &[u8], n: usize) -> bool {
+    if out.len() < n {
+        return false;
+    }
+    io::write_all(STDOUT_FILENO, &out[..n])
+}
