@@ -23,7 +23,8 @@ extern "C" fn p3p_fma(a: f64, b: f64, c: f64) -> f64 {
 
 #[unsafe(no_mangle)]
 extern "C" fn p3p_copysign(x: f64, sign: f64) -> f64 {
-    x.copysign(sign)
+    // A NaN has no sign here (docs/DIFFERENCES.md).
+    if sign.is_nan() { x.abs() } else { x.copysign(sign) }
 }
 
 #[unsafe(no_mangle)]
