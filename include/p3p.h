@@ -31,8 +31,8 @@ enum p3p_refusal {
 
 /* The poses from which three world points are seen at three bearings.
  *
- * input    three world points and then the three bearings to them, each x, y, z. The bearings are to be unit vectors: of other lengths the
- *          solver finds its answer all the same, and it is seldom of use.
+ * input    three world points and then the three bearings to them, each x, y, z. The bearings are to be unit vectors: those of other
+ *          lengths are usually refused, and an answer to them is seldom of use.
  * poses    four slots of twelve: the rotation by columns (m00 m10 m20 m01 m11 m21 m02 m12 m22) and the translation x, y, z, from world to
  *          camera. Slots from *count on hold plus zeros.
  * updates  of each slot, how many times its depths were refined: 0 to 5.
@@ -50,13 +50,13 @@ uint32_t p3p_choose(const double poses[48], uint32_t count, const double target[
 
 /* ---- root finders */
 
-/* The two real roots of x^2 + b*x + c, not sorted; where the discriminant is within rounding of zero, -b/2 twice. Returns 0, or 4 or 5. */
+/* The two real roots of x^2 + b*x + c, not sorted; where the discriminant is zero, or below it by no more than rounding, -b/2 twice. Returns 0, or 4 or 5. */
 uint32_t p3p_quadratic(double b, double c, double *first, double *second);
 
 /* One real root of x^3 + b*x^2 + c*x + d, polished by Newton's method. Returns 0, or 4 or 6. */
 uint32_t p3p_cubic(double b, double c, double d, double *root);
 
-/* The approximate cube root from which the cubic starts: two steps of Halley's method. */
+/* The approximate cube root from which the cubic starts: two steps of Halley's method, or the cube root where these would leave the normal range. */
 double p3p_fast_cbrt(double x);
 
 /* ---- single operations. A NaN that comes out has no promised sign or payload. */
