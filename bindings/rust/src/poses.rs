@@ -43,7 +43,7 @@ impl Deref for Poses {
 }
 
 /// The poses from which three world points are seen at three bearings, each point and bearing as x, y, z. The bearings are to be unit
-/// vectors: of other lengths the solver finds its answer all the same, and it is seldom of use.
+/// vectors: those of other lengths are usually refused, and an answer to them is seldom of use.
 pub fn solve(world: &[[f64; 3]; 3], bearings: &[[f64; 3]; 3]) -> Result<Poses, Refusal> {
     let mut input = [0.0; 18];
     input[..9].copy_from_slice(world.as_flattened());
