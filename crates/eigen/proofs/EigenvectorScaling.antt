@@ -17,10 +17,10 @@ use Rattle.linalg.proofs.VectorDegrees.{vector-at-zero, vecDiv-scales, normSqua
 use Rattle.linalg.proofs.MatrixDegrees.{matNormSquared-scales}
 use Rattle.eigen.specs.RowCrosses.{lastGreatest, longer, unitVector, eigenvectorFromRowCrosses}
 use Rattle.eigen.specs.ZeroVector.{zeroDirection, zeroVector}
-use Rattle.eigen.specs.EigenvectorOf.{eigenMinors, eigenDenominator, denominatorScale, ifFinite, eigenvectorByMinors, eigenvectorOf}
+use Rattle.eigen.specs.EigenvectorOf.{precompute, eigenDenominator, denominatorScale, ifFinite, eigenvectorByDivision, eigenvectorOf}
 use Rattle.eigen.specs.declared.row_crosses.Eigenvector.{Eigenvector}
 use Rattle.eigen.specs.declared.row_crosses.Eigenvector.the-variants.{Unit, Missing}
-use Rattle.eigen.specs.declared.eigenvector.Minors.{Minors}
+use Rattle.eigen.specs.declared.eigenvector.Precomputed.{Precomputed}
 use Rattle.eigen.proofs.SquaredLength.{squared-normal}
 
 module _ {k : ℤ} where
@@ -85,21 +85,21 @@ module _ {k : ℤ} where
         pure (ap Unit (vector-at-zero unit)))
 
     -- ---- the eigenvector of a nonzero eigenvalue
-    pub record AtMinors (p p' : Minors) : Type 0 where
+    pub record AtPrecomputed (p p' : Precomputed) : Type 0 where
       pub square : At k (pos 4) (p .square) (p' .square)
       pub product : At k (pos 4) (p .product) (p' .product)
       pub pre0 : At k (pos 4) (p .pre0) (p' .pre0)
       pub pre1 : At k (pos 4) (p .pre1) (p' .pre1)
 
-    pub eigenMinors-scales : {s s' : Float} → At k (pos 4) s s' → Both AtMinors (eigenMinors m s) (eigenMinors m' s')
-    unfolding eigenMinors
-    eigenMinors-scales square =
+    pub precompute-scales : {s s' : Float} → At k (pos 4) s s' → Both AtPrecomputed (precompute m s) (precompute m' s')
+    unfolding precompute
+    precompute-scales square =
         ⊝ ! (M .m00) ⊗ ! (M .m11) >>= λ _ _ product.
         ! (M .m01) ⊗ ! (M .m12) ⊖ ! (M .m02) ⊗ ! (M .m11) >>= λ _ _ pre0.
         ! (M .m01) ⊗ ! (M .m02) ⊖ ! (M .m00) ⊗ ! (M .m12) >>= λ _ _ pre1.
         pure (record { square = square; product = product; pre0 = pre0; pre1 = pre1 })
 
-    module _ {p p' : Minors} {e e' : Float} (P : AtMinors p p') (E : At k (pos 2) e e') where
+    module _ {p p' : Precomputed} {e e' : Float} (P : AtPrecomputed p p') (E : At k (pos 2) e e') where
       eigenDenominator-scales : Scales k (pos 4) (eigenDenominator m p e) (eigenDenominator m' p' e')
       unfolding eigenDenominator
       eigenDenominator-scales = ! E ⊗ (! (M .m00) ⊕ ! (M .m11)) ⊕ ! (P .product) ⊖ ! E ⊗ ! E ⊕ ! (P .square)
@@ -110,9 +110,9 @@ module _ {k : ℤ} where
           ! E ⊗ (! (M .m00) ⊕ ! (M .m11)) >>= λ _ _ linear.
           ! abs-at linear ⊕ ! abs-at (P .product) ⊕ ! E ⊗ ! E ⊕ ! (P .square)
 
-      byMinors-same : {d d' : Float} → At k (pos 4) d d' → Both {A = Eigenvector} _≡_ (eigenvectorByMinors m p e d) (eigenvectorByMinors m' p' e' d')
-      unfolding eigenvectorByMinors ifFinite
-      byMinors-same denominator =
+      byDivision-same : {d d' : Float} → At k (pos 4) d d' → Both {A = Eigenvector} _≡_ (eigenvectorByDivision m p e d) (eigenvectorByDivision m' p' e' d')
+      unfolding eigenvectorByDivision ifFinite
+      byDivision-same denominator =
           ⊝ (! E ⊗ ! (M .m02) ⊕ ! (P .pre0)) ⊘ ! denominator >>= λ _ _ first.
           ⊝ (! E ⊗ ! (M .m12) ⊕ ! (P .pre1)) ⊘ ! denominator >>= λ _ _ second.
           ! same one ⊘ √_ {n = pos 0} (! first ⊗ ! first ⊕ ! second ⊗ ! second ⊕ ! same one) >>= λ _ _ inverseNorm.
@@ -127,5 +127,5 @@ module _ {k : ℤ} where
           denominatorScale-scales >>= λ _ _ scale.
           floored (! same sixtyFour ⊗ ! same epsilon) epsilon64-small scale >>= λ _ _ limit.
           if le-same (abs-at denominator) limit then rowCrosses-same E
-          else if finite-same denominator then byMinors-same denominator
+          else if finite-same denominator then byDivision-same denominator
           else rowCrosses-same E

@@ -16,7 +16,7 @@ use Rattle.eigen.specs.declared.row_crosses.Eigenvector.the-variants.{Un
 use Rattle.eigen.specs.declared.eigenvalues.Eigenvalues.{Eigenvalues}
 use Rattle.eigen.specs.declared.known_zero.Eigensystem.{Eigensystem}
 use Rattle.eigen.specs.declared.known_zero.Eigensystem.the-variants.{Found, NotFound}
-use Rattle.eigen.proofs.EigenvectorScaling.{zeroVector-same, eigenMinors-scales, eigenvectorOf-same}
+use Rattle.eigen.proofs.EigenvectorScaling.{zeroVector-same, precompute-scales, eigenvectorOf-same}
 use Rattle.eigen.proofs.EigenvalueScaling.{AtEigenvalues, pair-at, no-pair, eigenvaluePair-scales}
 
 pub data AtSystem (k : ℤ) : Eigensystem → Eigensystem → Type 0 where
@@ -40,7 +40,7 @@ module _ {k : ℤ} where
         → Both (AtSystem k) (systemOfPair m zeroUnit s x y) (systemOfPair m' zeroUnit s' x' y')
     unfolding systemOfPair
     systemOfPair-scales zeroUnit square firstValue secondValue =
-        eigenMinors-scales M square >>= λ _ _ p.
+        precompute-scales M square >>= λ _ _ p.
         eigenvectorOf-same M p firstValue >>≡ λ first.
         orNotFound-scales first (λ column0.
         eigenvectorOf-same M p secondValue >>≡ λ second.

@@ -29,7 +29,7 @@ nonzeroPair first second =
 unfoldable pub byMagnitude : Float → Float → Eigenvalues
 byMagnitude first second = if lt (abs first) (abs second) then nonzeroPair second first else nonzeroPair first second
 
--- what follows the quadratic: its refusal ends the solve
+-- what follows the quadratic: its refusal ends the solve. It answers two roots or refuses: the arm of a single root only makes the match whole.
 unfoldable pub pairOfRoots : Roots → Eigenvalues
 pairOfRoots (Two first second) = byMagnitude first second
 pairOfRoots (One root) = NoPair

@@ -12,25 +12,25 @@ use Rattle.linalg.specs.declared.matrix3.Matrix3.{Matrix3}
 use Rattle.eigen.specs.RowCrosses.{eigenvectorFromRowCrosses}
 use Rattle.eigen.specs.declared.row_crosses.Eigenvector.{Eigenvector}
 use Rattle.eigen.specs.declared.row_crosses.Eigenvector.the-variants.{Unit, Missing}
-use Rattle.eigen.specs.declared.eigenvector.Minors.{Minors}
+use Rattle.eigen.specs.declared.eigenvector.Precomputed.{Precomputed}
 
 -- let product00_11 = -matrix[(0, 0)] * matrix[(1, 1)];
 -- let precomputed0 = matrix[(0, 1)] * matrix[(1, 2)] - matrix[(0, 2)] * matrix[(1, 1)];
 -- let precomputed1 = matrix[(0, 1)] * matrix[(0, 2)] - matrix[(0, 0)] * matrix[(1, 2)];
-unfoldable pub eigenMinors : Matrix3 → Float → Traced Minors
-eigenMinors m offDiagonalSquared = do
+unfoldable pub precompute : Matrix3 → Float → Traced Precomputed
+precompute m offDiagonalSquared = do
   product ← ⊝ ! (m .m00) ⊗ ! (m .m11)
   pre0 ← ! (m .m01) ⊗ ! (m .m12) ⊖ ! (m .m02) ⊗ ! (m .m11)
   pre1 ← ! (m .m01) ⊗ ! (m .m02) ⊖ ! (m .m00) ⊗ ! (m .m12)
   pure (record { square = offDiagonalSquared; product = product; pre0 = pre0; pre1 = pre1 })
 
 -- eigenvalue * (matrix[(0, 0)] + matrix[(1, 1)]) + product00_11 - eigenvalue * eigenvalue + off_diagonal_squared
-unfoldable pub eigenDenominator : Matrix3 → Minors → Float → Traced Float
+unfoldable pub eigenDenominator : Matrix3 → Precomputed → Float → Traced Float
 eigenDenominator m p eigenvalue =
     ! eigenvalue ⊗ (! (m .m00) ⊕ ! (m .m11)) ⊕ ! (p .product) ⊖ ! eigenvalue ⊗ ! eigenvalue ⊕ ! (p .square)
 
 -- (eigenvalue * (matrix[(0, 0)] + matrix[(1, 1)])).abs() + product00_11.abs() + eigenvalue * eigenvalue + off_diagonal_squared
-unfoldable pub denominatorScale : Matrix3 → Minors → Float → Traced Float
+unfoldable pub denominatorScale : Matrix3 → Precomputed → Float → Traced Float
 denominatorScale m p eigenvalue = do
   linear ← ! eigenvalue ⊗ (! (m .m00) ⊕ ! (m .m11))
   ! abs linear ⊕ ! abs (p .product) ⊕ ! eigenvalue ⊗ ! eigenvalue ⊕ ! (p .square)
@@ -39,8 +39,8 @@ denominatorScale m p eigenvalue = do
 unfoldable pub ifFinite : Vector3 → Eigenvector
 ifFinite v = if allFinite v then Unit v else Missing
 
-unfoldable pub eigenvectorByMinors : Matrix3 → Minors → Float → Float → Traced Eigenvector
-eigenvectorByMinors m p eigenvalue denominator = do
+unfoldable pub eigenvectorByDivision : Matrix3 → Precomputed → Float → Float → Traced Eigenvector
+eigenvectorByDivision m p eigenvalue denominator = do
   -- let first = -(eigenvalue * matrix[(0, 2)] + precomputed0) / denominator;
   first ← ⊝ (! eigenvalue ⊗ ! (m .m02) ⊕ ! (p .pre0)) ⊘ ! denominator
   -- let second = -(eigenvalue * matrix[(1, 2)] + precomputed1) / denominator;
@@ -52,12 +52,12 @@ eigenvectorByMinors m p eigenvalue denominator = do
   y ← ! second ⊗ ! inverseNorm
   pure (ifFinite (vector x y inverseNorm))
 
-unfoldable pub eigenvectorOf : Matrix3 → Minors → Float → Traced Eigenvector
+unfoldable pub eigenvectorOf : Matrix3 → Precomputed → Float → Traced Eigenvector
 eigenvectorOf m p eigenvalue = do
   denominator ← eigenDenominator m p eigenvalue
   scale ← denominatorScale m p eigenvalue
   -- denominator.abs() <= 64.0 * f64::EPSILON * denominator_scale.max(f64::MIN_POSITIVE) || !denominator.is_finite()
   limit ← ! sixtyFour ⊗ ! epsilon ⊗ ! max scale minPositive
   if le (abs denominator) limit then eigenvectorFromRowCrosses m eigenvalue
-      else if finite denominator then eigenvectorByMinors m p eigenvalue denominator
+      else if finite denominator then eigenvectorByDivision m p eigenvalue denominator
       else eigenvectorFromRowCrosses m eigenvalue

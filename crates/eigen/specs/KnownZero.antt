@@ -9,7 +9,7 @@ use Rattle.linalg.specs.declared.vector3.Vector3.{Vector3}
 use Rattle.linalg.specs.declared.matrix3.Matrix3.{Matrix3}
 use Rattle.eigen.specs.ZeroVector.{zeroVector}
 use Rattle.eigen.specs.EigenPair.{eigenvaluePair}
-use Rattle.eigen.specs.EigenvectorOf.{eigenMinors, eigenvectorOf}
+use Rattle.eigen.specs.EigenvectorOf.{precompute, eigenvectorOf}
 use Rattle.eigen.specs.declared.row_crosses.Eigenvector.{Eigenvector}
 use Rattle.eigen.specs.declared.row_crosses.Eigenvector.the-variants.{Unit, Missing}
 use Rattle.eigen.specs.declared.eigenvalues.Eigenvalues.{Eigenvalues}
@@ -29,7 +29,7 @@ orNoPair NoPair next = pure NotFound
 -- Some((Matrix3::from_columns(&[eigenvector(first_value)?, eigenvector(second_value)?, zero_vector]), Vector3::new(first_value, second_value, 0.0)))
 unfoldable pub systemOfPair : Matrix3 → Vector3 → Float → Float → Float → Traced Eigensystem
 systemOfPair m zeroUnit offDiagonalSquared firstValue secondValue = do
-  p ← eigenMinors m offDiagonalSquared
+  p ← precompute m offDiagonalSquared
   first ← eigenvectorOf m p firstValue
   orNotFound first (λ column0. do
     second ← eigenvectorOf m p secondValue

@@ -1,5 +1,4 @@
 -- The definitions that the contracts of this crate cite: what eig_with_known_zero of lambdatwist.rs computes, line by line, and the ratio made of its eigenvalues.
-pub mod Literal
 pub mod RowCrosses
 pub mod ZeroVector
 pub mod EigenPair

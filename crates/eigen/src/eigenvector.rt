@@ -1,7 +1,7 @@
 // The eigenvector of a nonzero eigenvalue: the closure `eigenvector` of eig_with_known_zero (lambdatwist.rs), and what is
 // computed before it for both values.
 ghost use mathlib.Core.Path.{_≡_};
-ghost use Rattle.eigen.specs.EigenvectorOf.{eigenMinors, eigenDenominator, denominatorScale, eigenvectorByMinors, eigenvectorOf};
+ghost use Rattle.eigen.specs.EigenvectorOf.{precompute, eigenDenominator, denominatorScale, eigenvectorByDivision, eigenvectorOf};
 use crate::row_crosses::Eigenvector;
 use crate::row_crosses::eigenvector_from_row_crosses;
 use ieee754::abs::abs;
@@ -17,17 +17,17 @@ const EPSILON: f64 = 2.220446049250313e-16;
 const MIN_POSITIVE: f64 = 2.2250738585072014e-308;
 
 // off_diagonal_squared, product00_11, precomputed0 and precomputed1
-pub struct Minors {
+pub struct Precomputed {
     pub square: f64,
     pub product: f64,
     pub pre0: f64,
     pub pre1: f64,
 }
 
-pub fn eigen_minors(m: Matrix3, square: f64) -> Minors
-    ensures { λ r. ⌜ r ≡ eigenMinors m square .value ⌝ }
+pub fn precompute(m: Matrix3, square: f64) -> Precomputed
+    ensures { λ r. ⌜ r ≡ precompute m square .value ⌝ }
 {
-    Minors {
+    Precomputed {
         square,
         product: -m.m00 * m.m11,
         pre0: m.m01 * m.m12 - m.m02 * m.m11,
@@ -35,13 +35,13 @@ pub fn eigen_minors(m: Matrix3, square: f64) -> Minors
     }
 }
 
-pub fn eigen_denominator(m: Matrix3, p: Minors, eigenvalue: f64) -> f64
+pub fn eigen_denominator(m: Matrix3, p: Precomputed, eigenvalue: f64) -> f64
     ensures { λ r. ⌜ r ≡ eigenDenominator m p eigenvalue .value ⌝ }
 {
     eigenvalue * (m.m00 + m.m11) + p.product - eigenvalue * eigenvalue + p.square
 }
 
-pub fn denominator_scale(m: Matrix3, p: Minors, eigenvalue: f64) -> f64
+pub fn denominator_scale(m: Matrix3, p: Precomputed, eigenvalue: f64) -> f64
     ensures { λ r. ⌜ r ≡ denominatorScale m p eigenvalue .value ⌝ }
 {
     let linear = abs(eigenvalue * (m.m00 + m.m11));
@@ -49,13 +49,13 @@ pub fn denominator_scale(m: Matrix3, p: Minors, eigenvalue: f64) -> f64
     linear + product + eigenvalue * eigenvalue + p.square
 }
 
-pub fn eigenvector_by_minors(
+pub fn eigenvector_by_division(
     m: Matrix3,
-    p: Minors,
+    p: Precomputed,
     eigenvalue: f64,
     denominator: f64,
 ) -> Eigenvector
-    ensures { λ r. ⌜ r ≡ eigenvectorByMinors m p eigenvalue denominator .value ⌝ }
+    ensures { λ r. ⌜ r ≡ eigenvectorByDivision m p eigenvalue denominator .value ⌝ }
 {
     let first = -(eigenvalue * m.m02 + p.pre0) / denominator;
     let second = -(eigenvalue * m.m12 + p.pre1) / denominator;
@@ -71,7 +71,7 @@ pub fn eigenvector_by_minors(
     Eigenvector::Unit(vector)
 }
 
-pub fn eigenvector(m: Matrix3, p: Minors, eigenvalue: f64) -> Eigenvector
+pub fn eigenvector(m: Matrix3, p: Precomputed, eigenvalue: f64) -> Eigenvector
     ensures { λ r. ⌜ r ≡ eigenvectorOf m p eigenvalue .value ⌝ }
 {
     let denominator = eigen_denominator(m, p, eigenvalue);
@@ -82,5 +82,5 @@ pub fn eigenvector(m: Matrix3, p: Minors, eigenvalue: f64) -> Eigenvector
     if !is_finite(denominator) {
         return eigenvector_from_row_crosses(m, eigenvalue);
     }
-    eigenvector_by_minors(m, p, eigenvalue, denominator)
+    eigenvector_by_division(m, p, eigenvalue, denominator)
 }

@@ -4,8 +4,8 @@ ghost use mathlib.Core.Path.{_≡_};
 ghost use Rattle.eigen.specs.KnownZero.{systemOfPair, eigWithKnownZero};
 use crate::eigenvalues::Eigenvalues;
 use crate::eigenvalues::eigenvalue_pair;
-use crate::eigenvector::eigen_minors;
 use crate::eigenvector::eigenvector;
+use crate::eigenvector::precompute;
 use crate::row_crosses::Eigenvector;
 use crate::zero_vector::zero_vector;
 use linalg::matrix3::Matrix3;
@@ -26,7 +26,7 @@ pub fn system_of_pair(
 ) -> Eigensystem
     ensures { λ r. ⌜ r ≡ systemOfPair m zero square first second .value ⌝ }
 {
-    let p = eigen_minors(m, square);
+    let p = precompute(m, square);
     let Eigenvector::Unit(column0) = eigenvector(m, p, first) else {
         return Eigensystem::NotFound;
     };

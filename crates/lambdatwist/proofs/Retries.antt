@@ -10,12 +10,12 @@ use Rattle.lambdatwist.specs.Angles.{cosines, squaredSines, bearingFacto
 use Rattle.lambdatwist.specs.Cubic.{cubicCoefficients, isUnusable}
 use Rattle.lambdatwist.specs.Solve.{refused, orderedOr, bestOr, solveCubic, solveOrdered, solveBestConditionedPermutation}
 use Rattle.lambdatwist.specs.declared.edges.EdgeVectors.{EdgeVectors}
-use Rattle.lambdatwist.specs.declared.angles.Sines.{Sines}
+use Rattle.lambdatwist.specs.declared.angles.SquaredSines.{SquaredSines}
 use Rattle.lambdatwist.specs.declared.angles.Factors.{Factors}
 use Rattle.lambdatwist.specs.declared.cubic.Coefficients.{Coefficients}
 use Rattle.lambdatwist.specs.declared.poses.View.{View}
 
-module _ (view : View) {vectors : EdgeVectors} {edges : SquaredEdges} {m : Cosines} {angles : Sines} {b : Factors} {cubic : Coefficients}
+module _ (view : View) {vectors : EdgeVectors} {edges : SquaredEdges} {m : Cosines} {angles : SquaredSines} {b : Factors} {cubic : Coefficients}
     (e₀ : vectors ≡ edgeVectors (view .world) .value) (e₁ : edges ≡ squaredEdges vectors .value) (e₂ : m ≡ cosines (view .bearings) .value) (e₃ : angles ≡ squaredSines m .value)
     (e₄ : b ≡ bearingFactors m .value) (e₅ : cubic ≡ cubicCoefficients edges angles .value) where
   pub out-of-retries : isUnusable cubic .value ≡ true → refused 2 ≡ solveOrdered 0 view .value

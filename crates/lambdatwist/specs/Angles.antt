@@ -7,7 +7,7 @@ use Rattle.linalg.specs.Vectors.{dot}
 use Rattle.linalg.specs.declared.vector3.Vector3.{Vector3}
 use Rattle.p3p_common.specs.declared.input.Bearings.{Bearings}
 use Rattle.p3p_common.specs.declared.refine_depths.Cosines.{Cosines}
-use Rattle.lambdatwist.specs.declared.angles.Sines.{Sines}
+use Rattle.lambdatwist.specs.declared.angles.SquaredSines.{SquaredSines}
 use Rattle.lambdatwist.specs.declared.angles.Factors.{Factors}
 
 -- f.dot(&g).clamp(-1.0, 1.0)
@@ -33,7 +33,7 @@ cosines bearings =
 -- let s20_squared = 1.0 - c20 * c20;
 -- let s12_squared = 1.0 - c12 * c12;
 -- let s01_squared = 1.0 - c01 * c01;
-unfoldable pub squaredSines : Cosines → Traced Sines
+unfoldable pub squaredSines : Cosines → Traced SquaredSines
 squaredSines bearingCosines =
     let record { m01 = c01; m02 = c20; m12 = c12 } = bearingCosines in
     do

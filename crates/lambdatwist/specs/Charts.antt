@@ -15,7 +15,7 @@ use Rattle.lambdatwist.specs.DepthSlots.{pushIfPositive}
 use Rattle.lambdatwist.specs.declared.angles.Factors.{Factors}
 use Rattle.lambdatwist.specs.declared.candidates.Candidates.{Candidates}
 
--- for tau in roots { .. }, with the two turns given as `turn`
+-- for tau in roots { .. }, whose body is `turn`. The quadratic answers two roots or refuses: the arm of a single root only makes the match whole.
 unfoldable pub forRoots : Roots → (Candidates → Float → Traced Candidates) → Candidates → Traced Candidates
 forRoots (Two first second) turn found = do
   once ← turn found first
@@ -27,9 +27,9 @@ forRoots (Refused number) turn found = pure found
 unfoldable pub noDivisor : Float → Bool
 noDivisor denominator = eq denominator zero || not (finite denominator)
 
--- ---- the chart for u0.abs() < u1.abs()
-unfoldable pub firstTurn : SquaredEdges → Factors → Vector3 → Candidates → Float → Traced Candidates
-firstTurn edges b nullVector found tau =
+-- ---- the chart for u0.abs() < u1.abs(): the depths of a root, then the chart
+unfoldable pub firstChartDepths : SquaredEdges → Factors → Vector3 → Candidates → Float → Traced Candidates
+firstChartDepths edges b nullVector found tau =
     let record { x = u0; y = u1; z = u2 } = nullVector in
     do
       -- let depth_denominator = tau * (tau + b02) + 1.0;
@@ -59,11 +59,11 @@ firstChart edges b nullVector found =
             -- ((a12 - a01) * u0 * u0 + a12 * u1 * u1 - a12 * b01 * u0 * u1) / denominator
             quadraticC ← ((! a12 ⊖ ! a01) ⊗ ! u0 ⊗ ! u0 ⊕ ! a12 ⊗ ! u1 ⊗ ! u1 ⊖ ! a12 ⊗ ! b01 ⊗ ! u0 ⊗ ! u1) ⊘ ! denominator
             roots ← quadraticRealMonic quadraticB quadraticC
-            forRoots roots (firstTurn edges b nullVector) found
+            forRoots roots (firstChartDepths edges b nullVector) found
 
--- ---- the other chart
-unfoldable pub secondTurn : SquaredEdges → Factors → Float → Float → Candidates → Float → Traced Candidates
-secondTurn edges b w0 w1 found tau = do
+-- ---- the other chart: the depths of a root, the chart from w0 and w1 on, and the chart
+unfoldable pub secondChartDepths : SquaredEdges → Factors → Float → Float → Candidates → Float → Traced Candidates
+secondChartDepths edges b w0 w1 found tau = do
   -- let depth_denominator = tau * (b12 + tau) + 1.0;
   depthDenominator ← ! tau ⊗ (! (b .b12) ⊕ ! tau) ⊕ ! one
   if le tau zero || le depthDenominator zero then pure found
@@ -90,7 +90,7 @@ weightChart edges b w0 w1 found =
             -- ((a02 - a01) * w0 * w0 + a02 * b01 * w0 + a02) / denominator
             quadraticC ← ((! a02 ⊖ ! a01) ⊗ ! w0 ⊗ ! w0 ⊕ ! a02 ⊗ ! b01 ⊗ ! w0 ⊕ ! a02) ⊘ ! denominator
             roots ← quadraticRealMonic quadraticB quadraticC
-            forRoots roots (secondTurn edges b w0 w1) found
+            forRoots roots (secondChartDepths edges b w0 w1) found
 
 unfoldable pub secondChart : SquaredEdges → Factors → Vector3 → Candidates → Traced Candidates
 secondChart edges b nullVector found =

@@ -8,10 +8,10 @@ use Rattle.ieee754.specs.Magnitude.{abs}
 use Rattle.ieee754.specs.Maximum.{max}
 use Rattle.ieee754.specs.Traced.{Traced, pure, _>>=_, if_then_else_, _⊗_, _⊕_, _⊖_, !_}
 use Rattle.p3p_common.specs.declared.refine_depths.SquaredEdges.{SquaredEdges}
-use Rattle.lambdatwist.specs.declared.angles.Sines.{Sines}
+use Rattle.lambdatwist.specs.declared.angles.SquaredSines.{SquaredSines}
 use Rattle.lambdatwist.specs.declared.cubic.Coefficients.{Coefficients}
 
-unfoldable pub cubicCoefficients : SquaredEdges → Sines → Traced Coefficients
+unfoldable pub cubicCoefficients : SquaredEdges → SquaredSines → Traced Coefficients
 cubicCoefficients edges angles =
     let record { a01 = a01; a02 = a02; a12 = a12 } = edges in
     let record { triple = triple; s20 = s20; s12 = s12; s01 = s01 } = angles in

@@ -15,7 +15,7 @@ use Rattle.lambdatwist.specs.declared.candidates.Candidates.{Candidates}
 unfoldable pub noCandidates : Candidates
 noCandidates = record { count = 0; depths = zeros ∷ zeros ∷ zeros ∷ zeros ∷ [] }
 
--- if depth1 > 0.0 && depth_count < depths.len() { depths[depth_count] = ..; depth_count += 1; }
+-- if depth1 > 0.0 && depth_count < depths.len() { depths[depth_count] = ..; depth_count += 1; }, in the other chart of depth0
 unfoldable pub pushIfPositive : Candidates → Float → Vector3 → Candidates
 pushIfPositive found depth depths =
     if lt zero depth then (

@@ -9,6 +9,3 @@ pub mod DepthSlots
 pub mod Poses
 pub mod Permutation
 pub mod Solve
-pub mod ScalingRule
-pub mod Cases
-pub mod Plates

@@ -42,7 +42,7 @@ use Rattle.lambdatwist.specs.declared.poses.View.{View}
 use Rattle.lambdatwist.specs.declared.permutation.Conditioned.{Conditioned}
 use Rattle.lambdatwist.specs.declared.solve.Answer.{Answer}
 
--- ---- an answer: of a refusal its number, count 0 and plus zeros
+-- ---- an answer: number 0 with the poses that were kept, or a refusal's number with count 0 and plus zeros
 unfoldable pub answered : ℕ → Solutions → Answer
 answered number solutions = record { refusal = number; count = solutions .count; poses = solutions .poses; updates = solutions .updates }
 
@@ -54,6 +54,7 @@ unfoldable pub ifKept : Solutions → Answer
 ifKept solutions = if eqb (solutions .count) 0 then refused 3 else answered 0 solutions
 
 -- ---- each step that can stop, and what follows it: its stop ends the solve with 3
+-- the cubic answers one root or refuses: the arm of two only makes the match whole
 unfoldable pub orNoRoot : Roots → (Float → Traced Answer) → Traced Answer
 orNoRoot (One root) next = next root
 orNoRoot (Two first second) next = pure (refused 3)
@@ -123,7 +124,7 @@ bestOr ordered input = do
   if le (best .condition) limit then pure (refused 2)
       else ordered (record { input = input; world = best .world; bearings = best .bearings })
 
--- with n retries left
+-- with n retries left. The retry is written out as `bestOr`, since a definition may call itself only with a smaller number; by the next definition it is the retry of the Rust.
 unfoldable pub solveOrdered : ℕ → View → Traced Answer
 solveOrdered zero view = orderedOr (λ input. pure (refused 2)) view
 solveOrdered (suc n) view = orderedOr (bestOr (solveOrdered n)) view

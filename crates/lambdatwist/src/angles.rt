@@ -8,7 +8,7 @@ use p3p_common::input::Bearings;
 use p3p_common::refine_depths::Cosines;
 
 // s20, s12 and s01 are squared sines.
-pub struct Sines {
+pub struct SquaredSines {
     pub triple: f64,
     pub s20: f64,
     pub s12: f64,
@@ -43,13 +43,13 @@ pub fn cosines(bearings: Bearings) -> Cosines
     }
 }
 
-pub fn squared_sines(cosines: Cosines) -> Sines
+pub fn squared_sines(cosines: Cosines) -> SquaredSines
     ensures { λ r. ⌜ r ≡ squaredSines cosines .value ⌝ }
 {
     let c01 = cosines.m01;
     let c20 = cosines.m02;
     let c12 = cosines.m12;
-    Sines {
+    SquaredSines {
         triple: c01 * c12 * c20 - 1.0,
         s20: 1.0 - c20 * c20,
         s12: 1.0 - c12 * c12,

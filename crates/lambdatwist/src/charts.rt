@@ -1,7 +1,7 @@
 // The two charts of solve_ordered (lambdatwist.rs): from the null vector of one sign to at most two depth candidates, one for
 // each root of the chart's quadratic. Where the quadratic refuses, only that sign's turn ends.
 ghost use mathlib.Core.Path.{_≡_};
-ghost use Rattle.lambdatwist.specs.Charts.{noDivisor, firstTurn, firstChart, secondTurn, weightChart, secondChart, chart};
+ghost use Rattle.lambdatwist.specs.Charts.{noDivisor, firstChartDepths, firstChart, secondChartDepths, weightChart, secondChart, chart};
 use crate::angles::Factors;
 use crate::candidates::Candidates;
 use ieee754::abs::abs;
@@ -23,14 +23,14 @@ pub fn no_divisor(denominator: f64) -> bool
 }
 
 // One root of the first chart's quadratic.
-pub fn first_turn(
+pub fn first_chart_depths(
     edges: SquaredEdges,
     b: Factors,
     u: Vector3,
     found: Candidates,
     tau: f64,
 ) -> Candidates
-    ensures { λ r. ⌜ r ≡ firstTurn edges b u found tau .value ⌝ }
+    ensures { λ r. ⌜ r ≡ firstChartDepths edges b u found tau .value ⌝ }
 {
     let u0 = u.x;
     let u1 = u.y;
@@ -73,12 +73,12 @@ pub fn first_chart(edges: SquaredEdges, b: Factors, u: Vector3, found: Candidate
     let Roots::Two(first, second) = quadratic_real_monic(quadratic_b, quadratic_c) else {
         return found;
     };
-    let once = first_turn(edges, b, u, found, first);
-    first_turn(edges, b, u, once, second)
+    let once = first_chart_depths(edges, b, u, found, first);
+    first_chart_depths(edges, b, u, once, second)
 }
 
 // One root of the second chart's quadratic.
-pub fn second_turn(
+pub fn second_chart_depths(
     edges: SquaredEdges,
     b: Factors,
     w0: f64,
@@ -86,7 +86,7 @@ pub fn second_turn(
     found: Candidates,
     tau: f64,
 ) -> Candidates
-    ensures { λ r. ⌜ r ≡ secondTurn edges b w0 w1 found tau .value ⌝ }
+    ensures { λ r. ⌜ r ≡ secondChartDepths edges b w0 w1 found tau .value ⌝ }
 {
     let depth_denominator = tau * (b.b12 + tau) + 1.0;
     if tau <= 0.0 {
@@ -129,8 +129,8 @@ pub fn weight_chart(
     let Roots::Two(first, second) = quadratic_real_monic(quadratic_b, quadratic_c) else {
         return found;
     };
-    let once = second_turn(edges, b, w0, w1, found, first);
-    second_turn(edges, b, w0, w1, once, second)
+    let once = second_chart_depths(edges, b, w0, w1, found, first);
+    second_chart_depths(edges, b, w0, w1, once, second)
 }
 
 pub fn second_chart(edges: SquaredEdges, b: Factors, u: Vector3, found: Candidates) -> Candidates

@@ -2,7 +2,7 @@
 // unusable: solve_ordered (lambdatwist.rs), from `let cubic3` to the retry, and document 01, question 2.
 ghost use mathlib.Core.Path.{_≡_};
 ghost use Rattle.lambdatwist.specs.Cubic.{cubicCoefficients, coefficientScale, isUnusable};
-use crate::angles::Sines;
+use crate::angles::SquaredSines;
 use ieee754::abs::abs;
 use ieee754::is_finite::is_finite;
 use ieee754::max::max;
@@ -18,7 +18,7 @@ pub struct Coefficients {
     pub cubic0: f64,
 }
 
-pub fn cubic_coefficients(edges: SquaredEdges, sines: Sines) -> Coefficients
+pub fn cubic_coefficients(edges: SquaredEdges, sines: SquaredSines) -> Coefficients
     ensures { λ r. ⌜ r ≡ cubicCoefficients edges sines .value ⌝ }
 {
     let a01 = edges.a01;

@@ -12,8 +12,8 @@ unfoldable pub projectToRotation : Matrix3 → Traced Projection
 projectToRotation matrix =
     if matFinite matrix then (do
       firstNorm ← norm (column0 matrix)
-      smallest ← √ ! epsilon
-      if le firstNorm smallest then pure Refused
+      rootEpsilon ← √ ! epsilon
+      if le firstNorm rootEpsilon then pure Refused
           else do
             first ← vecDiv (column0 matrix) firstNorm
             -- matrix.column(1).into_owned() - first * first.dot(&matrix.column(1))
@@ -21,7 +21,7 @@ projectToRotation matrix =
             parallel ← vecMul first along
             second ← vecSub (column1 matrix) parallel
             secondNorm ← norm second
-            if le secondNorm smallest then pure Refused
+            if le secondNorm rootEpsilon then pure Refused
                 else do
                   unit ← vecDiv second secondNorm
                   third ← cross first unit

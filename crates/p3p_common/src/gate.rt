@@ -14,7 +14,7 @@ use linalg::vector3::Vector3;
 pub enum Gated {
     // As it came.
     Passed(Pose),
-    // With the nearest rotation for the matrix, and camera point 0 kept.
+    // With the projected rotation for the matrix, and camera point 0 kept.
     Projected(Pose),
     Dropped,
 }

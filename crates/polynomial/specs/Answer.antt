@@ -1,5 +1,5 @@
 -- What the enums of this crate stand for. An answer, `Roots`, holds two roots, one root, or the number by which document 01 names a refusal ("Questions, in order").
--- A `Step` is the Rust's Option<f64>: a value to go on with, or a stop.
+-- A `Step` is a value to go on with, or a stop: the Rust returns None there, or breaks off its loop of Newton steps.
 use Prim.Native.Nat.{ℕ}
 use mathlib.Core.List.{List, [], _∷_}
 use lib.Ieee.{Float}

@@ -20,9 +20,9 @@ large b c d = lt ten⁵⁰ (abs b) || (lt ten¹⁰⁰ (abs c) || lt ten¹⁵⁰ 
 unfoldable pub tiny : Float → Float → Float → Bool
 tiny b c d = lt (abs b) ten⁻⁵⁰ && (lt (abs c) ten⁻¹⁰⁰ && lt (abs d) ten⁻¹⁵⁰)
 
--- b.abs().max(c.abs().sqrt()).max(d.abs().cbrt())
-unfoldable pub coefficientScale : Float → Float → Float → Traced Float
-coefficientScale b c d = do
+-- b.abs().max(c.abs().sqrt()).max(d.abs().cbrt()): of the magnitude of the largest root
+unfoldable pub rootMagnitude : Float → Float → Float → Traced Float
+rootMagnitude b c d = do
   rootC ← √ ! (abs c)
   rootD ← ∛ ! (abs d)
   pure (max (max (abs b) rootC) rootD)
@@ -30,7 +30,7 @@ coefficientScale b c d = do
 unfoldable pub cubicVariableScale : Float → Float → Float → Traced Float
 cubicVariableScale b c d =
     if allZero b c d then pure one
-    else if large b c d || tiny b c d then coefficientScale b c d
+    else if large b c d || tiny b c d then rootMagnitude b c d
     else pure one
 
 -- (b * inverse, c * inverse_squared, d * inverse_squared * inverse)

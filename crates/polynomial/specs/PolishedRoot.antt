@@ -12,7 +12,7 @@ use Rattle.polynomial.specs.declared.Monic.{Monic}
 use Rattle.polynomial.specs.declared.Roots.{Roots}
 use Rattle.polynomial.specs.declared.Roots.the-variants.{One}
 
--- at most four Newton steps from the start, and back to the scale of the coefficients
+-- at most four Newton steps from the start, and the root of the coefficients as they came
 unfoldable pub rescaledRoot : Monic → Float → Float → Traced Roots
 rescaledRoot p variableScale start = do
   polished ← newtonSteps 4 p start

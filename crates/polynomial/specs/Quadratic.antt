@@ -12,7 +12,7 @@ use Rattle.polynomial.specs.Answer.{notFinite, noRealRoots}
 use Rattle.polynomial.specs.declared.Roots.{Roots}
 use Rattle.polynomial.specs.declared.Roots.the-variants.{Two}
 
--- the roots where the discriminant is in the band or above it; a negative one counts as zero
+-- the roots where the discriminant is in the band or above it; the caller has cut a negative one to zero
 unfoldable pub quadraticPair : Float → Float → Float → Traced Roots
 quadraticPair b c discriminant =
     if eq discriminant zero then (do

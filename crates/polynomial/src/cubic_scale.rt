@@ -1,6 +1,6 @@
 // The scale of a cubic's variable, by which its coefficients come near to one.
 ghost use mathlib.Core.Path.{_≡_};
-ghost use Rattle.polynomial.specs.CubicScale.{allZero, large, tiny, coefficientScale, cubicVariableScale, normalised};
+ghost use Rattle.polynomial.specs.CubicScale.{allZero, large, tiny, rootMagnitude, cubicVariableScale, normalised};
 use crate::Monic;
 use ieee754::abs::abs;
 use ieee754::cbrt::cbrt;
@@ -40,8 +40,8 @@ fn tiny(b: f64, c: f64, d: f64) -> bool
     false
 }
 
-fn coefficient_scale(b: f64, c: f64, d: f64) -> f64
-    ensures { λ r. ⌜ r ≡ coefficientScale b c d .value ⌝ }
+fn root_magnitude(b: f64, c: f64, d: f64) -> f64
+    ensures { λ r. ⌜ r ≡ rootMagnitude b c d .value ⌝ }
 {
     max(max(abs(b), sqrt(abs(c))), cbrt(abs(d)))
 }
@@ -54,10 +54,10 @@ pub fn cubic_variable_scale(b: f64, c: f64, d: f64) -> f64
         return 1.0;
     }
     if large(b, c, d) {
-        return coefficient_scale(b, c, d);
+        return root_magnitude(b, c, d);
     }
     if tiny(b, c, d) {
-        return coefficient_scale(b, c, d);
+        return root_magnitude(b, c, d);
     }
     1.0
 }

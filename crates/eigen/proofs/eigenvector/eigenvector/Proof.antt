@@ -34,12 +34,12 @@ returns-2 : tie.Need-returns-2
 unfolding eigenvectorOf
 returns-2 c = rw (← c .before .before .before .before .before .before .before .eigen-denominator .ensures, ← c .before .before .before .before .before .before .denominator-scale .ensures, ← c .before .before .before .before .before .abs .ensures, ← c .before .before .before .before .max .ensures, c .before .before .before .if1 .left, ← c .before .before .is-finite .ensures, not-true (c .before .before .is-finite .result) (c .before .if2 .taken), ← c .eigenvector-from-row-crosses2 .ensures)
 
-eigenvector-by-minors-requires : tie.Need-eigenvector-by-minors-requires
-eigenvector-by-minors-requires c κs = search needs
+eigenvector-by-division-requires : tie.Need-eigenvector-by-division-requires
+eigenvector-by-division-requires c κs = search needs
 
 returns-3 : tie.Need-returns-3
 unfolding eigenvectorOf
-returns-3 c = rw (← c .before .before .before .before .before .before .before .eigen-denominator .ensures, ← c .before .before .before .before .before .before .denominator-scale .ensures, ← c .before .before .before .before .before .abs .ensures, ← c .before .before .before .before .max .ensures, c .before .before .before .if1 .left, ← c .before .before .is-finite .ensures, not-false (c .before .before .is-finite .result) (c .before .if2 .left), ← c .eigenvector-by-minors .ensures)
+returns-3 c = rw (← c .before .before .before .before .before .before .before .eigen-denominator .ensures, ← c .before .before .before .before .before .before .denominator-scale .ensures, ← c .before .before .before .before .before .abs .ensures, ← c .before .before .before .before .max .ensures, c .before .before .before .if1 .left, ← c .before .before .is-finite .ensures, not-false (c .before .before .is-finite .result) (c .before .if2 .left), ← c .eigenvector-by-division .ensures)
 
 pub eigenvector-spec : {M : Type 1} → statement M
 eigenvector-spec =
@@ -54,5 +54,5 @@ eigenvector-spec =
     is-finite-requires
     eigenvector-from-row-crosses-requires-2
     returns-2
-    eigenvector-by-minors-requires
+    eigenvector-by-division-requires
     returns-3)

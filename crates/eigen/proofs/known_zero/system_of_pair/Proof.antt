@@ -4,8 +4,8 @@ use Rattle.eigen.specs.KnownZero.{systemOfPair, orNotFound}
 use Rattle.eigen.proofs.known_zero.system_of_pair.Statement.{statement}
 use Rattle.eigen.proofs.known_zero.system_of_pair.Tie as tie
 
-eigen-minors-requires : tie.Need-eigen-minors-requires
-eigen-minors-requires c κs = search needs
+precompute-requires : tie.Need-precompute-requires
+precompute-requires c κs = search needs
 
 eigenvector-requires : tie.Need-eigenvector-requires
 eigenvector-requires c κs = search needs
@@ -18,7 +18,7 @@ enum-told c = search needs
 
 returns : tie.Need-returns
 unfolding systemOfPair orNotFound
-returns c = rw (← c .before .before .before .eigen-minors .ensures, ← c .before .before .eigenvector .ensures, c .enum-told .given .1)
+returns c = rw (← c .before .before .before .precompute .ensures, ← c .before .before .eigenvector .ensures, c .enum-told .given .1)
 
 eigenvector-requires-2 : tie.Need-eigenvector-requires-2
 eigenvector-requires-2 c κs = search needs
@@ -31,20 +31,20 @@ enum-told-2 c = search needs
 
 returns-2 : tie.Need-returns-2
 unfolding systemOfPair orNotFound
-returns-2 c = rw (← c .before .before .before .before .before .before .before .eigen-minors .ensures, ← c .before .before .before .before .before .before .eigenvector .ensures, c .before .before .before .before .column0 .given .1, ← c .before .before .eigenvector2 .ensures, c .enum-told2 .given .1)
+returns-2 c = rw (← c .before .before .before .before .before .before .before .precompute .ensures, ← c .before .before .before .before .before .before .eigenvector .ensures, c .before .before .before .before .column0 .given .1, ← c .before .before .eigenvector2 .ensures, c .enum-told2 .given .1)
 
 from-columns-requires : tie.Need-from-columns-requires
 from-columns-requires c κs = search needs
 
 returns-3 : tie.Need-returns-3
 unfolding systemOfPair orNotFound
-returns-3 c = rw (← c .before .before .before .before .before .before .before .before .before .eigen-minors .ensures, ← c .before .before .before .before .before .before .before .before .eigenvector .ensures, c .before .before .before .before .before .before .column0 .given .1, ← c .before .before .before .before .eigenvector2 .ensures, c .before .before .column1 .given .1, ← c .from-columns .ensures)
+returns-3 c = rw (← c .before .before .before .before .before .before .before .before .before .precompute .ensures, ← c .before .before .before .before .before .before .before .before .eigenvector .ensures, c .before .before .before .before .before .before .column0 .given .1, ← c .before .before .before .before .eigenvector2 .ensures, c .before .before .column1 .given .1, ← c .from-columns .ensures)
 
 pub system-of-pair-spec : {M : Type 1} → statement M
 system-of-pair-spec =
     tie.close
     (tie.spec
-    eigen-minors-requires
+    precompute-requires
     eigenvector-requires
     enum-known-column0
     enum-told

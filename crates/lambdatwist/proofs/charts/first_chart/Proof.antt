@@ -22,15 +22,15 @@ returns-2 : tie.Need-returns-2
 unfolding firstChart forRoots
 returns-2 c = rw (← c .before .before .before .no-divisor .ensures, c .before .before .if1 .left, ← c .before .quadratic-real-monic .ensures) (no-turns (c .before .quadratic-real-monic .result) _ _ (c .match .keys2))
 
-first-turn-requires : tie.Need-first-turn-requires
-first-turn-requires c κs = search needs
+first-chart-depths-requires : tie.Need-first-chart-depths-requires
+first-chart-depths-requires c κs = search needs
 
-first-turn-requires-2 : tie.Need-first-turn-requires-2
-first-turn-requires-2 c κs = search needs
+first-chart-depths-requires-2 : tie.Need-first-chart-depths-requires-2
+first-chart-depths-requires-2 c κs = search needs
 
 returns-3 : tie.Need-returns-3
 unfolding firstChart forRoots
-returns-3 c = rw (← c .before .before .before .before .before .before .before .no-divisor .ensures, c .before .before .before .before .before .before .if1 .left, ← c .before .before .before .before .before .quadratic-real-monic .ensures, c .before .before .before .first .given .1, ← c .before .first-turn .ensures, ← c .first-turn2 .ensures)
+returns-3 c = rw (← c .before .before .before .before .before .before .before .no-divisor .ensures, c .before .before .before .before .before .before .if1 .left, ← c .before .before .before .before .before .quadratic-real-monic .ensures, c .before .before .before .first .given .1, ← c .before .first-chart-depths .ensures, ← c .first-chart-depths2 .ensures)
 
 pub first-chart-spec : {M : Type 1} → statement M
 first-chart-spec =
@@ -41,6 +41,6 @@ first-chart-spec =
     quadratic-real-monic-requires
     enum-known-first
     returns-2
-    first-turn-requires
-    first-turn-requires-2
+    first-chart-depths-requires
+    first-chart-depths-requires-2
     returns-3)

@@ -22,15 +22,15 @@ returns-2 : tie.Need-returns-2
 unfolding weightChart forRoots
 returns-2 c = rw (← c .before .before .before .no-divisor .ensures, c .before .before .if1 .left, ← c .before .quadratic-real-monic .ensures) (no-turns (c .before .quadratic-real-monic .result) _ _ (c .match .keys2))
 
-second-turn-requires : tie.Need-second-turn-requires
-second-turn-requires c κs = search needs
+second-chart-depths-requires : tie.Need-second-chart-depths-requires
+second-chart-depths-requires c κs = search needs
 
-second-turn-requires-2 : tie.Need-second-turn-requires-2
-second-turn-requires-2 c κs = search needs
+second-chart-depths-requires-2 : tie.Need-second-chart-depths-requires-2
+second-chart-depths-requires-2 c κs = search needs
 
 returns-3 : tie.Need-returns-3
 unfolding weightChart forRoots
-returns-3 c = rw (← c .before .before .before .before .before .before .before .no-divisor .ensures, c .before .before .before .before .before .before .if1 .left, ← c .before .before .before .before .before .quadratic-real-monic .ensures, c .before .before .before .first .given .1, ← c .before .second-turn .ensures, ← c .second-turn2 .ensures)
+returns-3 c = rw (← c .before .before .before .before .before .before .before .no-divisor .ensures, c .before .before .before .before .before .before .if1 .left, ← c .before .before .before .before .before .quadratic-real-monic .ensures, c .before .before .before .first .given .1, ← c .before .second-chart-depths .ensures, ← c .second-chart-depths2 .ensures)
 
 pub weight-chart-spec : {M : Type 1} → statement M
 weight-chart-spec =
@@ -41,6 +41,6 @@ weight-chart-spec =
     quadratic-real-monic-requires
     enum-known-first
     returns-2
-    second-turn-requires
-    second-turn-requires-2
+    second-chart-depths-requires
+    second-chart-depths-requires-2
     returns-3)

@@ -14,21 +14,21 @@ returns c = rw (← c .before .all-zero .ensures, c .if1 .taken)
 large-requires : tie.Need-large-requires
 large-requires c κs = search needs
 
-coefficient-scale-requires : tie.Need-coefficient-scale-requires
-coefficient-scale-requires c κs = search needs
+root-magnitude-requires : tie.Need-root-magnitude-requires
+root-magnitude-requires c κs = search needs
 
 returns-2 : tie.Need-returns-2
 unfolding cubicVariableScale
 returns-2 c =
     let e2 = c .before in
     let e1 = e2 .before .before in
-    rw (← e1 .before .all-zero .ensures, e1 .if1 .left, ← e2 .before .large .ensures, e2 .if2 .taken, ← c .coefficient-scale .ensures)
+    rw (← e1 .before .all-zero .ensures, e1 .if1 .left, ← e2 .before .large .ensures, e2 .if2 .taken, ← c .root-magnitude .ensures)
 
 tiny-requires : tie.Need-tiny-requires
 tiny-requires c κs = search needs
 
-coefficient-scale-requires-2 : tie.Need-coefficient-scale-requires-2
-coefficient-scale-requires-2 c κs = search needs
+root-magnitude-requires-2 : tie.Need-root-magnitude-requires-2
+root-magnitude-requires-2 c κs = search needs
 
 returns-3 : tie.Need-returns-3
 unfolding cubicVariableScale
@@ -36,7 +36,7 @@ returns-3 c =
     let e3 = c .before in
     let e2 = e3 .before .before in
     let e1 = e2 .before .before in
-    rw (← e1 .before .all-zero .ensures, e1 .if1 .left, ← e2 .before .large .ensures, e2 .if2 .left, ← e3 .before .tiny .ensures, e3 .if3 .taken, ← c .coefficient-scale2 .ensures)
+    rw (← e1 .before .all-zero .ensures, e1 .if1 .left, ← e2 .before .large .ensures, e2 .if2 .left, ← e3 .before .tiny .ensures, e3 .if3 .taken, ← c .root-magnitude2 .ensures)
 
 returns-4 : tie.Need-returns-4
 unfolding cubicVariableScale
@@ -52,9 +52,9 @@ cubic-variable-scale-spec =
     all-zero-requires
     returns
     large-requires
-    coefficient-scale-requires
+    root-magnitude-requires
     returns-2
     tiny-requires
-    coefficient-scale-requires-2
+    root-magnitude-requires-2
     returns-3
     returns-4)

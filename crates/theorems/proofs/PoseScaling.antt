@@ -24,10 +24,10 @@ use Rattle.p3p_common.specs.PoseScaling.{AtWorld, AtInput, AtEdges, AtRefined, 
 use Rattle.p3p_common.proofs.RefineScaling.{refineDepths-scales}
 use Rattle.p3p_common.proofs.BasisScaling.{rotationFromEdges-same}
 use Rattle.p3p_common.proofs.SlotScaling.{empty-scales, pushPose-scales}
 use Rattle.lambdatwist.specs.Poses.{allPositive, pushDepths, poseTurn, poseTurns, poses}
 use Rattle.lambdatwist.specs.declared.candidates.Candidates.{Candidates}
 use Rattle.lambdatwist.specs.declared.poses.View.{View}
-use Rattle.lambdatwist.proofs.ChartScaling.{AtVectors, no-vectors, more-vectors, AtCandidates}
+use Rattle.theorems.proofs.ChartScaling.{AtVectors, no-vectors, more-vectors, AtCandidates}
 use lib.IntN.{negsuc}
 
 -- two runs' orderings: the same bearings, and the points at degree 1

@@ -14,13 +14,13 @@ use Rattle.linalg.specs.VectorScaling.{AtVector}
 use Rattle.p3p_common.specs.declared.input.World.{World}
 use Rattle.p3p_common.specs.declared.input.Bearings.{Bearings}
 use Rattle.p3p_common.specs.PoseScaling.{AtWorld, AtPoses, no-poses, more-poses}
-use Rattle.lambdatwist.specs.ScalingRule as rule
-use Rattle.lambdatwist.specs.ScalingRule.{ScalingRule}
+use Rattle.theorems.specs.ScalingRule as rule
+use Rattle.theorems.specs.ScalingRule.{ScalingRule}
 use Rattle.lambdatwist.specs.Solve.{solve}
 use Rattle.lambdatwist.specs.declared.solve.Answer.{Answer}
-use Rattle.lambdatwist.proofs.TimesPower.{times-at, at-times}
-use Rattle.lambdatwist.proofs.SolveScaling.{AtAnswer, solve-scales}
-use Rattle.lambdatwist.proofs.FiniteTranslation.{FinitePoses, no-pose, finite-pose, solve-finite}
+use Rattle.theorems.proofs.TimesPower.{times-at, at-times}
+use Rattle.theorems.proofs.SolveScaling.{AtAnswer, solve-scales}
+use Rattle.theorems.proofs.FiniteTranslation.{FinitePoses, no-pose, finite-pose, solve-finite}
 
 module _ (k : ℤ) where
   -- ---- from the statement's hypotheses to the calculus of degrees

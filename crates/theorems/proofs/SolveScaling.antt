@@ -30,26 +30,26 @@ use Rattle.p3p_common.specs.Input.{inputFinite}
 use Rattle.p3p_common.specs.PoseScaling.{AtWorld, AtInput, AtEdges, AtBasis, inverse-at, singular-at, AtPoses, AtSolutions}
 use Rattle.p3p_common.proofs.BasisScaling.{worldBasisInverse-scales}
 use Rattle.p3p_common.proofs.SlotScaling.{empty-scales}
 use Rattle.lambdatwist.specs.Angles.{cosines, squaredSines, bearingFactors}
 use Rattle.lambdatwist.specs.Solve.{answered, refused, ifKept, orNoRoot, orNoSystem, orNoRatio, orSingular, solveCandidates, solveRoot, solveCubic, orderedOr, bestOr, solveOrdered, solve}
 use Rattle.lambdatwist.specs.declared.edges.EdgeVectors.{EdgeVectors}
 use Rattle.lambdatwist.specs.declared.angles.Factors.{Factors}
 use Rattle.lambdatwist.specs.declared.cubic.Coefficients.{Coefficients}
 use Rattle.lambdatwist.specs.declared.candidates.Candidates.{Candidates}
 use Rattle.eigen.specs.declared.known_zero.Eigensystem.{Eigensystem}
 use Rattle.eigen.specs.declared.ratio.Ratio.{Ratio}
 use Rattle.eigen.specs.declared.ratio.Ratio.the-variants.{Real, NotReal}
 use Rattle.lambdatwist.specs.declared.poses.View.{View}
 use Rattle.lambdatwist.specs.declared.solve.Answer.{Answer}
-use Rattle.lambdatwist.proofs.Equal.{equal}
-use Rattle.lambdatwist.proofs.EdgeScaling.{AtEdgeVectors, edgeVectors-scales, squaredEdges-scales}
-use Rattle.lambdatwist.proofs.CubicScaling.{AtCoefficients, cubicCoefficients-scales, isUnusable-same}
-use Rattle.lambdatwist.proofs.MatrixScaling.{singularMatrix-scales}
+use Rattle.theorems.proofs.Equal.{equal}
+use Rattle.theorems.proofs.EdgeScaling.{AtEdgeVectors, edgeVectors-scales, squaredEdges-scales}
+use Rattle.theorems.proofs.CubicScaling.{AtCoefficients, cubicCoefficients-scales, isUnusable-same}
+use Rattle.theorems.proofs.MatrixScaling.{singularMatrix-scales}
 use Rattle.eigen.proofs.EigenvalueScaling.{ratioOf-same}
 use Rattle.eigen.proofs.SystemScaling.{AtSystem, found-at, not-found, eigWithKnownZero-scales}
-use Rattle.lambdatwist.proofs.ChartScaling.{AtCandidates, candidates-scales}
-use Rattle.lambdatwist.proofs.PoseScaling.{poses-scales}
-use Rattle.lambdatwist.proofs.PermutationScaling.{AtConditioned, bestPermutation-scales}
+use Rattle.theorems.proofs.ChartScaling.{AtCandidates, candidates-scales}
+use Rattle.theorems.proofs.PoseScaling.{poses-scales}
+use Rattle.theorems.proofs.PermutationScaling.{AtConditioned, bestPermutation-scales}
 
 pub record AtAnswer (k : ℤ) (a a' : Answer) : Type 0 where
   pub refusal : a .refusal ≡ a' .refusal

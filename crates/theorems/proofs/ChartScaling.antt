@@ -23,12 +23,12 @@ use Rattle.p3p_common.specs.PoseScaling.{AtEdges}
 use Rattle.polynomial.specs.declared.Roots.{Roots}
 use Rattle.polynomial.specs.RootScaling.{AtRoots, two-at, one-at, refused-at}
 use Rattle.polynomial.proofs.QuadraticScaling.{quadratic-scales}
 use Rattle.lambdatwist.specs.DepthSlots.{noCandidates, pushIfPositive}
-use Rattle.lambdatwist.specs.Charts.{forRoots, noDivisor, firstTurn, firstChart, secondTurn, weightChart, secondChart, chart}
+use Rattle.lambdatwist.specs.Charts.{forRoots, noDivisor, firstChartDepths, firstChart, secondChartDepths, weightChart, secondChart, chart}
 use Rattle.lambdatwist.specs.Poses.{signTurn, candidates}
 use Rattle.lambdatwist.specs.declared.angles.Factors.{Factors}
 use Rattle.lambdatwist.specs.declared.candidates.Candidates.{Candidates}
-use Rattle.lambdatwist.proofs.Equal.{equal}
+use Rattle.theorems.proofs.Equal.{equal}
 
 pub data AtVectors (k : ℤ) : List Vector3 → List Vector3 → Type 0 where
   no-vectors : AtVectors k [] []
@@ -75,9 +75,9 @@ module _ {k : ℤ} where
   module _ {e e' : SquaredEdges} (b : Factors) (E : AtEdges k e e') where
     -- ---- the chart for u0.abs() < u1.abs()
     module _ (nullVector : Vector3) where
-      firstTurn-scales : (c c' : Candidates) (t t' : Float) → AtCandidates k c c' → At k (pos 0) t t' → Both (AtCandidates k) (firstTurn e b nullVector c t) (firstTurn e' b nullVector c' t')
-      unfolding firstTurn
-      firstTurn-scales _ _ _ _ found tau =
+      firstChartDepths-scales : (c c' : Candidates) (t t' : Float) → AtCandidates k c c' → At k (pos 0) t t' → Both (AtCandidates k) (firstChartDepths e b nullVector c t) (firstChartDepths e' b nullVector c' t')
+      unfolding firstChartDepths
+      firstChartDepths-scales _ _ _ _ found tau =
           let u0 = same (nullVector .x) in
           let u1 = same (nullVector .y) in
           let u2 = same (nullVector .z) in
@@ -105,13 +105,13 @@ module _ {k : ℤ} where
           (! same two ⊗ (! a12 ⊖ ! a01) ⊗ ! u0 ⊗ ! u2 ⊕ ! a01 ⊗ ! b12 ⊗ ! u0 ⊗ ! u1 ⊖ ! a12 ⊗ ! b01 ⊗ ! u1 ⊗ ! u2) ⊘ ! denominator >>= λ _ _ quadraticB.
           ((! a12 ⊖ ! a01) ⊗ ! u0 ⊗ ! u0 ⊕ ! a12 ⊗ ! u1 ⊗ ! u1 ⊖ ! a12 ⊗ ! b01 ⊗ ! u0 ⊗ ! u1) ⊘ ! denominator >>= λ _ _ quadraticC.
           quadratic-scales quadraticB quadraticC >>= λ _ _ roots.
-          forRoots-scales roots firstTurn-scales found)
+          forRoots-scales roots firstChartDepths-scales found)
 
     -- ---- the other chart
     module _ (w0 w1 : Float) where
-      secondTurn-scales : (c c' : Candidates) (t t' : Float) → AtCandidates k c c' → At k (pos 0) t t' → Both (AtCandidates k) (secondTurn e b w0 w1 c t) (secondTurn e' b w0 w1 c' t')
-      unfolding secondTurn
-      secondTurn-scales _ _ _ _ found tau =
+      secondChartDepths-scales : (c c' : Candidates) (t t' : Float) → AtCandidates k c c' → At k (pos 0) t t' → Both (AtCandidates k) (secondChartDepths e b w0 w1 c t) (secondChartDepths e' b w0 w1 c' t')
+      unfolding secondChartDepths
+      secondChartDepths-scales _ _ _ _ found tau =
           ! tau ⊗ (! same (b .b12) ⊕ ! tau) ⊕ ! same one >>= λ _ _ depthDenominator.
           if ap₂ _||_ (le-same tau null) (le-same depthDenominator null) then pure found
           else (
@@ -135,7 +135,7 @@ module _ {k : ℤ} where
           (! a02 ⊗ ! b01 ⊗ ! W1 ⊖ ! a01 ⊗ ! b02 ⊗ ! W0 ⊖ ! same two ⊗ ! W0 ⊗ ! W1 ⊗ (! a01 ⊖ ! a02)) ⊘ ! denominator >>= λ _ _ quadraticB.
           ((! a02 ⊖ ! a01) ⊗ ! W0 ⊗ ! W0 ⊕ ! a02 ⊗ ! b01 ⊗ ! W0 ⊕ ! a02) ⊘ ! denominator >>= λ _ _ quadraticC.
           quadratic-scales quadraticB quadraticC >>= λ _ _ roots.
-          forRoots-scales roots secondTurn-scales found)
+          forRoots-scales roots secondChartDepths-scales found)
 
     module _ (nullVector : Vector3) where
       secondChart-scales : {c c' : Candidates} → AtCandidates k c c' → Both (AtCandidates k) (secondChart e b nullVector c) (secondChart e' b nullVector c')

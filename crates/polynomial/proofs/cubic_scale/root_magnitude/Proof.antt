@@ -1,8 +1,8 @@
--- `polynomial::cubic_scale::coefficient_scale` meets its contract. Assumes nothing.
+-- `polynomial::cubic_scale::root_magnitude` meets its contract. Assumes nothing.
 use borrow.Author.Needs.{needs}
-use Rattle.polynomial.specs.CubicScale.{coefficientScale}
-use Rattle.polynomial.proofs.cubic_scale.coefficient_scale.Statement.{statement}
-use Rattle.polynomial.proofs.cubic_scale.coefficient_scale.Tie as tie
+use Rattle.polynomial.specs.CubicScale.{rootMagnitude}
+use Rattle.polynomial.proofs.cubic_scale.root_magnitude.Statement.{statement}
+use Rattle.polynomial.proofs.cubic_scale.root_magnitude.Tie as tie
 
 abs-requires : tie.Need-abs-requires
 abs-requires c κs = search needs
@@ -26,11 +26,11 @@ max-requires-2 : tie.Need-max-requires-2
 max-requires-2 c κs = search needs
 
 returns : tie.Need-returns
-unfolding coefficientScale
+unfolding rootMagnitude
 returns c = rw (← c .before .before .before .before .before .before .abs .ensures, ← c .before .before .before .before .before .abs2 .ensures, ← c .before .before .before .before .sqrt .ensures, ← c .before .before .before .max .ensures, ← c .before .before .abs3 .ensures, ← c .before .cbrt .ensures, ← c .max2 .ensures)
 
-pub coefficient-scale-spec : {M : Type 1} → statement M
-coefficient-scale-spec =
+pub root-magnitude-spec : {M : Type 1} → statement M
+root-magnitude-spec =
     tie.close
     (tie.spec
     abs-requires

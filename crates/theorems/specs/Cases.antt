@@ -9,11 +9,11 @@ use Rattle.polynomial.specs.Cases.{RootCase, rootCaseHolds, rootCases}
 use Rattle.p3p_common.specs.Cases.{PoseCase, poseCaseHolds, poseCases}
 use Rattle.p3p_common.specs.declared.input.World.{World}
 use Rattle.p3p_common.specs.declared.input.Bearings.{Bearings}
 use Rattle.lambdatwist.specs.Permutation.{points, rays}
 use Rattle.lambdatwist.specs.Solve.{solve}
 use Rattle.lambdatwist.specs.declared.solve.Answer.{Answer}
 
--- a row: one of the tables below, or a frame with the number of its refusal
+-- a row of the root finders' table or of the refinement's and the rays', or a frame with the number of its refusal
 pub data MarkedCase : Type 0 where
   roots : RootCase → MarkedCase
   pose : PoseCase → MarkedCase

@@ -10,13 +10,13 @@ use Rattle.p3p_common.specs.declared.input.World.{World}
 use Rattle.p3p_common.specs.declared.input.Bearings.{Bearings}
 use Rattle.p3p_common.specs.declared.refine_depths.SquaredEdges.{SquaredEdges}
 use Rattle.p3p_common.specs.PoseScaling.{AtWorld, AtEdges}
 use Rattle.lambdatwist.specs.Angles.{cosines, squaredSines}
 use Rattle.lambdatwist.specs.Cubic.{cubicCoefficients, coefficientScale, isUnusable}
 use Rattle.lambdatwist.specs.Condition.{foldedScale, leadingShare, leadingCubicCondition}
-use Rattle.lambdatwist.specs.declared.angles.Sines.{Sines}
+use Rattle.lambdatwist.specs.declared.angles.SquaredSines.{SquaredSines}
 use Rattle.lambdatwist.specs.declared.cubic.Coefficients.{Coefficients}
-use Rattle.lambdatwist.proofs.Equal.{equal}
-use Rattle.lambdatwist.proofs.EdgeScaling.{edgeVectors-scales, squaredEdges-scales}
+use Rattle.theorems.proofs.Equal.{equal}
+use Rattle.theorems.proofs.EdgeScaling.{edgeVectors-scales, squaredEdges-scales}
 
 pub record AtCoefficients (k : ℤ) (c c' : Coefficients) : Type 0 where
   pub cubic3 : At k (pos 4) (c .cubic3) (c' .cubic3)
@@ -25,7 +25,7 @@ pub record AtCoefficients (k : ℤ) (c c' : Coefficients) : Type 0 where
   pub cubic0 : At k (pos 4) (c .cubic0) (c' .cubic0)
 
 module _ {k : ℤ} where
-  pub cubicCoefficients-scales : {e e' : SquaredEdges} (angles : Sines) → AtEdges k e e' → Both (AtCoefficients k) (cubicCoefficients e angles) (cubicCoefficients e' angles)
+  pub cubicCoefficients-scales : {e e' : SquaredEdges} (angles : SquaredSines) → AtEdges k e e' → Both (AtCoefficients k) (cubicCoefficients e angles) (cubicCoefficients e' angles)
   unfolding cubicCoefficients
   cubicCoefficients-scales angles e =
       let a01 = e .a01 in

@@ -6,12 +6,12 @@ use lib.IntN.{pos, negsuc}
 use lib.Dec.{T, leb}
 use Rattle.linalg.specs.declared.vector3.Vector3.{Vector3}
 use Rattle.p3p_common.specs.declared.input.World.{World}
-use Rattle.lambdatwist.specs.ScalingRule.{TimesWorld, DoubleWorld}
+use Rattle.theorems.specs.ScalingRule.{TimesWorld, DoubleWorld}
 use Rattle.lambdatwist.specs.declared.solve.Answer.{Answer}
 use lib.Ieee.{fits, ofBits, size}
 use Rattle.lambdatwist.specs.Solve.{solve}
-use Rattle.lambdatwist.proofs.Evaluation.{evaluated}
-use Rattle.lambdatwist.specs.Plates.{plateInMetres, plateInCounts, plateTooSmall, plateBearings}
+use Rattle.theorems.proofs.Evaluation.{evaluated}
+use Rattle.theorems.specs.Plates.{plateInMetres, plateInCounts, plateTooSmall, plateBearings}
 
 -- ---- the coordinates: exactly 2 ^ 12 times, and 2 ^ -600 times
 pub counts-times : TimesWorld (pos 12) plateInMetres plateInCounts

@@ -1,9 +1,9 @@
--- `eigen::eigenvector::eigenvector_by_minors` meets its contract. Assumes nothing.
+-- `eigen::eigenvector::eigenvector_by_division` meets its contract. Assumes nothing.
 use borrow.Author.Needs.{needs}
 use borrow.Author.Tests.{not-true, not-false}
-use Rattle.eigen.specs.EigenvectorOf.{eigenvectorByMinors, ifFinite}
-use Rattle.eigen.proofs.eigenvector.eigenvector_by_minors.Statement.{statement}
-use Rattle.eigen.proofs.eigenvector.eigenvector_by_minors.Tie as tie
+use Rattle.eigen.specs.EigenvectorOf.{eigenvectorByDivision, ifFinite}
+use Rattle.eigen.proofs.eigenvector.eigenvector_by_division.Statement.{statement}
+use Rattle.eigen.proofs.eigenvector.eigenvector_by_division.Tie as tie
 
 sqrt-requires : tie.Need-sqrt-requires
 sqrt-requires c κs = search needs
@@ -12,13 +12,13 @@ all-finite-requires : tie.Need-all-finite-requires
 all-finite-requires c κs = search needs
 
 returns : tie.Need-returns
-unfolding eigenvectorByMinors ifFinite
+unfolding eigenvectorByDivision ifFinite
 returns c = rw (← c .before .before .sqrt .ensures, ← c .before .all-finite .ensures, not-true (c .before .all-finite .result) (c .if1 .taken))
 
 returns-2 : tie.Need-returns-2
-unfolding eigenvectorByMinors ifFinite
+unfolding eigenvectorByDivision ifFinite
 returns-2 c = rw (← c .before .before .sqrt .ensures, ← c .before .all-finite .ensures, not-false (c .before .all-finite .result) (c .if1 .left))
 
-pub eigenvector-by-minors-spec : {M : Type 1} → statement M
-eigenvector-by-minors-spec =
+pub eigenvector-by-division-spec : {M : Type 1} → statement M
+eigenvector-by-division-spec =
     tie.close (tie.spec sqrt-requires all-finite-requires returns returns-2)

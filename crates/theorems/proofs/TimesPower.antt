@@ -12,7 +12,7 @@ use lib.Ieee.Fits.{up-pos, down-pos, and-l}
 use lib.Ieee.Scale.{finite}
 use Rattle.ieee754.specs.Scaling.{scale, At}
 use Rattle.ieee754.proofs.Powers.{Ratio, moved-ratio}
-use Rattle.lambdatwist.specs.ScalingRule.{Times}
+use Rattle.theorems.specs.ScalingRule.{Times}
 
 -- ---- an odd number times a power of two is so in one way
 odd-pow : (m n a b : ℕ) → m % 2 ≡ 1 → n % 2 ≡ 1 → m * 2 ^ a ≡ n * 2 ^ b → (m ≡ n) × (a ≡ b)

@@ -1,0 +1,16 @@
+-- The scaling laws of the stages, in the order of a solve, up to the scaling rule; what is stated of the choice of permutation; and the marked cases.
+mod Equal
+mod EdgeScaling
+mod CubicScaling
+mod MatrixScaling
+mod ChartScaling
+mod PoseScaling
+mod PermutationScaling
+mod SolveScaling
+mod TimesPower
+mod FiniteTranslation
+pub mod ScalingRule
+mod Evaluation
+pub mod ScalingExamples
+pub mod NanCondition
+pub mod MarkedCases
