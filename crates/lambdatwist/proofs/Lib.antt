@@ -1,5 +1,5 @@
 -- What the proofs of several functions use.
-mod NoRoots
+mod NoRoot
 mod PoseTurns
 mod PoseCount
 mod Retries

@@ -20,7 +20,7 @@ use Rattle.p3p_common.specs.RefineDepths.{refineDepths}
 use Rattle.p3p_common.specs.Slots.{empty, push}
 use Rattle.p3p_common.specs.PushPose.{pushGated, pushPose}
 use Rattle.lambdatwist.specs.Poses.{allPositive, pushDepths, poseTurn, poseTurns, poses}
-use Rattle.lambdatwist.specs.declared.candidates.Candidates.{Candidates}
+use Rattle.depths.specs.declared.candidates.Candidates.{Candidates}
 use Rattle.lambdatwist.specs.declared.poses.View.{View}
 
 abbrev few : Solutions → Type 0

@@ -14,12 +14,12 @@ use Rattle.p3p_common.specs.declared.refine_depths.Cosines.{Cosines}
 use Rattle.p3p_common.specs.declared.solutions.Solutions.{Solutions}
 use Rattle.lambdatwist.specs.Poses.{poseTurn, poseTurns}
 use Rattle.lambdatwist.specs.declared.poses.View.{View}
-use Rattle.lambdatwist.specs.declared.candidates.Candidates.{Candidates}
+use Rattle.depths.specs.declared.candidates.Candidates.{Candidates}
 use denote.Laws.{Is}
 use denote.Struct.Declared.{row}
 use denote.Struct.Laws as struct
-use Rattle.lambdatwist.proofs.candidates.Candidates as candidates
-use Rattle.lambdatwist.proofs.candidates.Candidates.Laws as candidates-laws
+use Rattle.depths.proofs.candidates.Candidates as candidates
+use Rattle.depths.proofs.candidates.Candidates.Laws as candidates-laws
 
 -- the candidates from the slot `at` on, of the first n
 module _ {A : Type 0} (d : A) where

@@ -5,14 +5,14 @@ use Prim.Native.Nat.{ℕ, zero, suc, _+_, _-_, _<_}
 use native.Mathlib.Omega.{arith}
 use Rattle.p3p_common.specs.declared.refine_depths.SquaredEdges.{SquaredEdges}
 use Rattle.p3p_common.specs.declared.refine_depths.Cosines.{Cosines}
-use Rattle.lambdatwist.specs.Edges.{edgeVectors, squaredEdges}
-use Rattle.lambdatwist.specs.Angles.{cosines, squaredSines, bearingFactors}
-use Rattle.lambdatwist.specs.Cubic.{cubicCoefficients, isUnusable}
+use Rattle.depths.specs.Edges.{edgeVectors, squaredEdges}
+use Rattle.depths.specs.Angles.{cosines, squaredSines, bearingFactors}
+use Rattle.depths.specs.Cubic.{cubicCoefficients, isUnusable}
 use Rattle.lambdatwist.specs.Solve.{refused, orderedOr, bestOr, solveCubic, solveOrdered, solveBestConditionedPermutation}
-use Rattle.lambdatwist.specs.declared.edges.EdgeVectors.{EdgeVectors}
-use Rattle.lambdatwist.specs.declared.angles.SquaredSines.{SquaredSines}
-use Rattle.lambdatwist.specs.declared.angles.Factors.{Factors}
-use Rattle.lambdatwist.specs.declared.cubic.Coefficients.{Coefficients}
+use Rattle.depths.specs.declared.edges.EdgeVectors.{EdgeVectors}
+use Rattle.depths.specs.declared.angles.SquaredSines.{SquaredSines}
+use Rattle.depths.specs.declared.angles.Factors.{Factors}
+use Rattle.depths.specs.declared.cubic.Coefficients.{Coefficients}
 use Rattle.lambdatwist.specs.declared.poses.View.{View}
 
 module _ (view : View) {vectors : EdgeVectors} {edges : SquaredEdges} {m : Cosines} {angles : SquaredSines} {b : Factors} {cubic : Coefficients}

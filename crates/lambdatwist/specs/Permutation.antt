@@ -7,7 +7,7 @@ use Rattle.linalg.specs.declared.vector3.Vector3.{Vector3}
 use Rattle.p3p_common.specs.declared.input.World.{World}
 use Rattle.p3p_common.specs.declared.input.Bearings.{Bearings}
 use Rattle.p3p_common.specs.declared.input.P3pInput.{P3pInput}
-use Rattle.lambdatwist.specs.Condition.{leadingCubicCondition}
+use Rattle.depths.specs.Condition.{leadingCubicCondition}
 use Rattle.lambdatwist.specs.declared.permutation.Conditioned.{Conditioned}
 
 -- permutation.map(|index| input.world[index]) and of the bearings, by the three points and the three bearings in their new order

@@ -19,10 +19,10 @@ use Rattle.p3p_common.specs.RefineDepths.{refineDepths}
 use Rattle.p3p_common.specs.RotationFromEdges.{rotationFromEdges}
 use Rattle.p3p_common.specs.Slots.{empty}
 use Rattle.p3p_common.specs.PushPose.{pushPose}
-use Rattle.lambdatwist.specs.Charts.{chart}
-use Rattle.lambdatwist.specs.DepthSlots.{noCandidates}
-use Rattle.lambdatwist.specs.declared.angles.Factors.{Factors}
-use Rattle.lambdatwist.specs.declared.candidates.Candidates.{Candidates}
+use Rattle.depths.specs.Charts.{chart}
+use Rattle.depths.specs.DepthSlots.{noCandidates}
+use Rattle.depths.specs.declared.angles.Factors.{Factors}
+use Rattle.depths.specs.declared.candidates.Candidates.{Candidates}
 use Rattle.lambdatwist.specs.declared.poses.View.{View}
 
 -- the turn of one sign: let null_vector = eigenvectors.column(0) - sign * eigenvectors.column(1);

@@ -22,18 +22,18 @@ use Rattle.p3p_common.specs.declared.refine_depths.Cosines.{Cosines}
 use Rattle.p3p_common.specs.declared.world_basis_inverse.Basis.{Basis}
 use Rattle.p3p_common.specs.declared.world_basis_inverse.Basis.the-variants.{Inverse, Singular}
 use Rattle.p3p_common.specs.declared.solutions.Solutions.{Solutions}
-use Rattle.lambdatwist.specs.Edges.{edgeVectors, squaredEdges}
-use Rattle.lambdatwist.specs.Angles.{cosines, squaredSines, bearingFactors}
-use Rattle.lambdatwist.specs.Cubic.{cubicCoefficients, isUnusable}
-use Rattle.lambdatwist.specs.Matrix.{singularMatrix}
+use Rattle.depths.specs.Edges.{edgeVectors, squaredEdges}
+use Rattle.depths.specs.Angles.{cosines, squaredSines, bearingFactors}
+use Rattle.depths.specs.Cubic.{cubicCoefficients, isUnusable}
+use Rattle.depths.specs.Matrix.{singularMatrix}
 use Rattle.eigen.specs.KnownZero.{eigWithKnownZero}
 use Rattle.eigen.specs.RatioOf.{ratioOf}
 use Rattle.lambdatwist.specs.Poses.{candidates, poses}
 use Rattle.lambdatwist.specs.Permutation.{bestPermutation}
-use Rattle.lambdatwist.specs.declared.edges.EdgeVectors.{EdgeVectors}
-use Rattle.lambdatwist.specs.declared.angles.Factors.{Factors}
-use Rattle.lambdatwist.specs.declared.cubic.Coefficients.{Coefficients}
-use Rattle.lambdatwist.specs.declared.candidates.Candidates.{Candidates}
+use Rattle.depths.specs.declared.edges.EdgeVectors.{EdgeVectors}
+use Rattle.depths.specs.declared.angles.Factors.{Factors}
+use Rattle.depths.specs.declared.cubic.Coefficients.{Coefficients}
+use Rattle.depths.specs.declared.candidates.Candidates.{Candidates}
 use Rattle.eigen.specs.declared.known_zero.Eigensystem.{Eigensystem}
 use Rattle.eigen.specs.declared.known_zero.Eigensystem.the-variants.{Found, NotFound}
 use Rattle.eigen.specs.declared.ratio.Ratio.{Ratio}

@@ -2,7 +2,7 @@
 // leading coefficient is the largest beside the others.
 ghost use mathlib.Core.Path.{_≡_};
 ghost use Rattle.lambdatwist.specs.Permutation.{points, rays, withCondition, better, bestPermutation};
-use crate::condition::leading_cubic_condition;
+use depths::condition::leading_cubic_condition;
 use linalg::vector3::Vector3;
 use p3p_common::input::Bearings;
 use p3p_common::input::P3pInput;

@@ -2,9 +2,9 @@
 // depth candidates; each is refined, and where its depths are positive a pose is made of it and goes to the gate.
 ghost use mathlib.Core.Path.{_≡_};
 ghost use Rattle.lambdatwist.specs.Poses.{signTurn, candidates, allPositive, pushDepths, poseTurn, poses};
-use crate::angles::Factors;
-use crate::candidates::Candidates;
-use crate::charts::chart;
+use depths::angles::Factors;
+use depths::candidates::Candidates;
+use depths::charts::chart;
 use linalg::matrix3::Matrix3;
 use linalg::vector3::Vector3;
 use p3p_common::input::Bearings;

@@ -2,11 +2,11 @@
 // reference/ made the vectors; a file has its function's name and holds records of words: what the function takes, then what it
 // gives.
 ghost use Prim.Native.Nat.{_≤_};
+use depths::condition::leading_cubic_condition;
 use eigen::known_zero::Eigensystem;
 use eigen::known_zero::eig_with_known_zero;
 use eigen::row_crosses::Eigenvector;
 use eigen::row_crosses::eigenvector_from_row_crosses;
-use lambdatwist::condition::leading_cubic_condition;
 use lambdatwist::solve::solve;
 use linalg::matrix3::Matrix3;
 use linalg::pose::Pose;

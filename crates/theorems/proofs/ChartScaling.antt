@@ -23,11 +23,11 @@ use Rattle.p3p_common.specs.PoseScaling.{AtEdges}
 use Rattle.polynomial.specs.declared.Roots.{Roots}
 use Rattle.polynomial.specs.RootScaling.{AtRoots, two-at, one-at, refused-at}
 use Rattle.polynomial.proofs.QuadraticScaling.{quadratic-scales}
-use Rattle.lambdatwist.specs.DepthSlots.{noCandidates, pushIfPositive}
-use Rattle.lambdatwist.specs.Charts.{forRoots, noDivisor, firstChartDepths, firstChart, secondChartDepths, weightChart, secondChart, chart}
+use Rattle.depths.specs.DepthSlots.{noCandidates, pushIfPositive}
+use Rattle.depths.specs.Charts.{forRoots, noDivisor, firstChartDepths, firstChart, secondChartDepths, weightChart, secondChart, chart}
 use Rattle.lambdatwist.specs.Poses.{signTurn, candidates}
-use Rattle.lambdatwist.specs.declared.angles.Factors.{Factors}
-use Rattle.lambdatwist.specs.declared.candidates.Candidates.{Candidates}
+use Rattle.depths.specs.declared.angles.Factors.{Factors}
+use Rattle.depths.specs.declared.candidates.Candidates.{Candidates}
 use Rattle.theorems.proofs.Equal.{equal}
 
 pub data AtVectors (k : ℤ) : List Vector3 → List Vector3 → Type 0 where

@@ -10,11 +10,11 @@ use Rattle.p3p_common.specs.declared.input.World.{World}
 use Rattle.p3p_common.specs.declared.input.Bearings.{Bearings}
 use Rattle.p3p_common.specs.declared.refine_depths.SquaredEdges.{SquaredEdges}
 use Rattle.p3p_common.specs.PoseScaling.{AtWorld, AtEdges}
-use Rattle.lambdatwist.specs.Angles.{cosines, squaredSines}
-use Rattle.lambdatwist.specs.Cubic.{cubicCoefficients, coefficientScale, isUnusable}
-use Rattle.lambdatwist.specs.Condition.{foldedScale, leadingShare, leadingCubicCondition}
-use Rattle.lambdatwist.specs.declared.angles.SquaredSines.{SquaredSines}
-use Rattle.lambdatwist.specs.declared.cubic.Coefficients.{Coefficients}
+use Rattle.depths.specs.Angles.{cosines, squaredSines}
+use Rattle.depths.specs.Cubic.{cubicCoefficients, coefficientScale, isUnusable}
+use Rattle.depths.specs.Condition.{foldedScale, leadingShare, leadingCubicCondition}
+use Rattle.depths.specs.declared.angles.SquaredSines.{SquaredSines}
+use Rattle.depths.specs.declared.cubic.Coefficients.{Coefficients}
 use Rattle.theorems.proofs.Equal.{equal}
 use Rattle.theorems.proofs.EdgeScaling.{edgeVectors-scales, squaredEdges-scales}
 

@@ -21,19 +21,19 @@ use Rattle.p3p_common.specs.RefineDepths.{depthResidual, ifFinite, depthUpdate,
 use Rattle.p3p_common.specs.RayFits.{rayFits}
 use Rattle.p3p_common.specs.WorldBasisInverse.{dualBasis, isSingular, worldBasisInverse}
 use Rattle.p3p_common.specs.Slots.{empty, push}
-use Rattle.lambdatwist.specs.Edges.{edgeVectors, squaredEdges}
-use Rattle.lambdatwist.specs.Angles.{cosine, cosines, squaredSines, bearingFactors}
-use Rattle.lambdatwist.specs.Cubic.{cubicCoefficients, coefficientScale, isUnusable}
-use Rattle.lambdatwist.specs.Condition.{foldedScale, leadingShare, leadingCubicCondition}
-use Rattle.lambdatwist.specs.Matrix.{singularMatrix}
+use Rattle.depths.specs.Edges.{edgeVectors, squaredEdges}
+use Rattle.depths.specs.Angles.{cosine, cosines, squaredSines, bearingFactors}
+use Rattle.depths.specs.Cubic.{cubicCoefficients, coefficientScale, isUnusable}
+use Rattle.depths.specs.Condition.{foldedScale, leadingShare, leadingCubicCondition}
+use Rattle.depths.specs.Matrix.{singularMatrix}
 use Rattle.eigen.specs.RowCrosses.{lastGreatest, longer, unitVector, eigenvectorFromRowCrosses}
 use Rattle.eigen.specs.ZeroVector.{zeroDirection, zeroVector}
 use Rattle.eigen.specs.EigenPair.{pairCoefficient, nonzeroPair, byMagnitude, pairOfRoots, eigenvaluePair}
 use Rattle.eigen.specs.EigenvectorOf.{precompute, eigenDenominator, denominatorScale, ifFinite as ifAllFinite, eigenvectorByDivision, eigenvectorOf}
 use Rattle.eigen.specs.KnownZero.{orNotFound, orNoPair, systemOfPair, eigWithKnownZero}
 use Rattle.eigen.specs.RatioOf.{ratioOf}
-use Rattle.lambdatwist.specs.DepthSlots.{noCandidates, pushIfPositive}
-use Rattle.lambdatwist.specs.Charts.{forRoots, noDivisor, firstChartDepths, firstChart, secondChartDepths, weightChart, secondChart, chart}
+use Rattle.depths.specs.DepthSlots.{noCandidates, pushIfPositive}
+use Rattle.depths.specs.Charts.{forRoots, noDivisor, firstChartDepths, firstChart, secondChartDepths, weightChart, secondChart, chart}
 use Rattle.lambdatwist.specs.Poses.{signTurn, candidates, allPositive, pushDepths, poseTurn, poseTurns, poses}
 use Rattle.lambdatwist.specs.Permutation.{withCondition, better, bestOf, bestPermutation}
 use Rattle.lambdatwist.specs.Solve.{answered, refused, orNoRoot, orNoSystem, orNoRatio, orSingular, solveCandidates, solveRoot, solveCubic, orderedOr, bestOr, solveOrdered, solve, ifKept}

@@ -36,16 +36,16 @@ use Rattle.p3p_common.specs.ProjectedPose.{cameraPoint, projectedPoseFitsMinima
 use Rattle.p3p_common.specs.Gate.{ifValid, keepPoint0, projectedGate, gate}
 use Rattle.p3p_common.specs.Slots.{empty, push}
 use Rattle.p3p_common.specs.PushPose.{pushGated, pushPose}
-use Rattle.lambdatwist.specs.Edges.{edgeVectors, squaredEdges}
-use Rattle.lambdatwist.specs.Angles.{cosines, squaredSines, bearingFactors}
-use Rattle.lambdatwist.specs.Cubic.{cubicCoefficients, isUnusable}
+use Rattle.depths.specs.Edges.{edgeVectors, squaredEdges}
+use Rattle.depths.specs.Angles.{cosines, squaredSines, bearingFactors}
+use Rattle.depths.specs.Cubic.{cubicCoefficients, isUnusable}
 use Rattle.lambdatwist.specs.Permutation.{bestPermutation}
 use Rattle.lambdatwist.specs.Poses.{allPositive, pushDepths, poseTurn, poseTurns, poses}
 use Rattle.lambdatwist.specs.Solve.{answered, refused, ifKept, orNoRoot, orNoSystem, orNoRatio, orSingular, solveCandidates, solveRoot, solveCubic, orderedOr, bestOr, solveOrdered, solve}
-use Rattle.lambdatwist.specs.declared.edges.EdgeVectors.{EdgeVectors}
-use Rattle.lambdatwist.specs.declared.angles.Factors.{Factors}
-use Rattle.lambdatwist.specs.declared.cubic.Coefficients.{Coefficients}
-use Rattle.lambdatwist.specs.declared.candidates.Candidates.{Candidates}
+use Rattle.depths.specs.declared.edges.EdgeVectors.{EdgeVectors}
+use Rattle.depths.specs.declared.angles.Factors.{Factors}
+use Rattle.depths.specs.declared.cubic.Coefficients.{Coefficients}
+use Rattle.depths.specs.declared.candidates.Candidates.{Candidates}
 use Rattle.eigen.specs.declared.known_zero.Eigensystem.{Eigensystem}
 use Rattle.eigen.specs.declared.known_zero.Eigensystem.the-variants.{Found, NotFound}
 use Rattle.eigen.specs.declared.ratio.Ratio.{Ratio}

@@ -25,7 +25,7 @@ use Rattle.p3p_common.proofs.RefineScaling.{refineDepths-scales}
 use Rattle.p3p_common.proofs.BasisScaling.{rotationFromEdges-same}
 use Rattle.p3p_common.proofs.SlotScaling.{empty-scales, pushPose-scales}
 use Rattle.lambdatwist.specs.Poses.{allPositive, pushDepths, poseTurn, poseTurns, poses}
-use Rattle.lambdatwist.specs.declared.candidates.Candidates.{Candidates}
+use Rattle.depths.specs.declared.candidates.Candidates.{Candidates}
 use Rattle.lambdatwist.specs.declared.poses.View.{View}
 use Rattle.theorems.proofs.ChartScaling.{AtVectors, no-vectors, more-vectors, AtCandidates}
 use lib.IntN.{negsuc}

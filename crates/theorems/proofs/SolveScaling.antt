@@ -30,12 +30,12 @@ use Rattle.p3p_common.specs.Input.{inputFinite}
 use Rattle.p3p_common.specs.PoseScaling.{AtWorld, AtInput, AtEdges, AtBasis, inverse-at, singular-at, AtPoses, AtSolutions}
 use Rattle.p3p_common.proofs.BasisScaling.{worldBasisInverse-scales}
 use Rattle.p3p_common.proofs.SlotScaling.{empty-scales}
-use Rattle.lambdatwist.specs.Angles.{cosines, squaredSines, bearingFactors}
+use Rattle.depths.specs.Angles.{cosines, squaredSines, bearingFactors}
 use Rattle.lambdatwist.specs.Solve.{answered, refused, ifKept, orNoRoot, orNoSystem, orNoRatio, orSingular, solveCandidates, solveRoot, solveCubic, orderedOr, bestOr, solveOrdered, solve}
-use Rattle.lambdatwist.specs.declared.edges.EdgeVectors.{EdgeVectors}
-use Rattle.lambdatwist.specs.declared.angles.Factors.{Factors}
-use Rattle.lambdatwist.specs.declared.cubic.Coefficients.{Coefficients}
-use Rattle.lambdatwist.specs.declared.candidates.Candidates.{Candidates}
+use Rattle.depths.specs.declared.edges.EdgeVectors.{EdgeVectors}
+use Rattle.depths.specs.declared.angles.Factors.{Factors}
+use Rattle.depths.specs.declared.cubic.Coefficients.{Coefficients}
+use Rattle.depths.specs.declared.candidates.Candidates.{Candidates}
 use Rattle.eigen.specs.declared.known_zero.Eigensystem.{Eigensystem}
 use Rattle.eigen.specs.declared.ratio.Ratio.{Ratio}
 use Rattle.eigen.specs.declared.ratio.Ratio.the-variants.{Real, NotReal}

@@ -1,6 +1,6 @@
 -- `lambdatwist::solve::solve_cubic` meets its contract. Assumes nothing.
 use borrow.Author.Needs.{needs}
-use Rattle.lambdatwist.proofs.NoRoots.{no-root}
+use Rattle.lambdatwist.proofs.NoRoot.{no-root}
 use Rattle.lambdatwist.specs.Solve.{solveCubic, orNoRoot}
 use Rattle.lambdatwist.proofs.solve.solve_cubic.Statement.{statement}
 use Rattle.lambdatwist.proofs.solve.solve_cubic.Tie as tie

@@ -1,0 +1,2 @@
+-- What the proofs of both charts use.
+mod NoRoots

@@ -1,0 +1,112 @@
+-- The two charts of `solve_ordered`: from the null vector of one sign to at most two depth candidates, one for each root of the chart's quadratic. Where the quadratic refuses, only that sign's turn ends.
+use mathlib.Core.Bool.{Bool, not, _||_}
+use lib.Ieee.{Float, lt, le, eq}
+use lib.Ieee.Scale.{finite}
+use Rattle.ieee754.specs.Literal.{zero, one, two}
+use Rattle.ieee754.specs.Magnitude.{abs}
+use Rattle.ieee754.specs.Traced.{Traced, pure, _>>=_, if_then_else_, _⊗_, _⊕_, _⊖_, _⊘_, !_, ⊝_, √_}
+use Rattle.linalg.specs.Vectors.{vector}
+use Rattle.linalg.specs.declared.vector3.Vector3.{Vector3}
+use Rattle.p3p_common.specs.declared.refine_depths.SquaredEdges.{SquaredEdges}
+use Rattle.polynomial.specs.Quadratic.{quadraticRealMonic}
+use Rattle.polynomial.specs.declared.Roots.{Roots}
+use Rattle.polynomial.specs.declared.Roots.the-variants.{Two, One, Refused}
+use Rattle.depths.specs.DepthSlots.{pushIfPositive}
+use Rattle.depths.specs.declared.angles.Factors.{Factors}
+use Rattle.depths.specs.declared.candidates.Candidates.{Candidates}
+
+-- for tau in roots { .. }, whose body is `turn`. The quadratic answers two roots or refuses: the arm of a single root only makes the match whole.
+unfoldable pub forRoots : Roots → (Candidates → Float → Traced Candidates) → Candidates → Traced Candidates
+forRoots (Two first second) turn found = do
+  once ← turn found first
+  turn once second
+forRoots (One root) turn found = pure found
+forRoots (Refused number) turn found = pure found
+
+-- denominator == 0.0 || !denominator.is_finite()
+unfoldable pub noDivisor : Float → Bool
+noDivisor denominator = eq denominator zero || not (finite denominator)
+
+-- ---- the chart for u0.abs() < u1.abs(): the depths of a root, then the chart
+unfoldable pub firstChartDepths : SquaredEdges → Factors → Vector3 → Candidates → Float → Traced Candidates
+firstChartDepths edges b nullVector found tau =
+    let record { x = u0; y = u1; z = u2 } = nullVector in
+    do
+      -- let depth_denominator = tau * (tau + b02) + 1.0;
+      depthDenominator ← ! tau ⊗ (! tau ⊕ ! (b .b02)) ⊕ ! one
+      if le tau zero || le depthDenominator zero then pure found
+          else do
+            -- let depth0 = (a02 / depth_denominator).sqrt();
+            depth0 ← √ (! (edges .a02) ⊘ ! depthDenominator)
+            -- let depth2 = tau * depth0;
+            depth2 ← ! tau ⊗ ! depth0
+            -- let depth1 = -(u0 * depth0 + u2 * depth2) / u1;
+            depth1 ← ⊝ (! u0 ⊗ ! depth0 ⊕ ! u2 ⊗ ! depth2) ⊘ ! u1
+            pure (pushIfPositive found depth1 (vector depth0 depth1 depth2))
+
+unfoldable pub firstChart : SquaredEdges → Factors → Vector3 → Candidates → Traced Candidates
+firstChart edges b nullVector found =
+    let record { a01 = a01; a02 = a02; a12 = a12 } = edges in
+    let record { b01 = b01; b02 = b02; b12 = b12 } = b in
+    let record { x = u0; y = u1; z = u2 } = nullVector in
+    do
+      -- let denominator = (a12 - a01) * u2 * u2 - a01 * u1 * u1 + a01 * b12 * u1 * u2;
+      denominator ← (! a12 ⊖ ! a01) ⊗ ! u2 ⊗ ! u2 ⊖ ! a01 ⊗ ! u1 ⊗ ! u1 ⊕ ! a01 ⊗ ! b12 ⊗ ! u1 ⊗ ! u2
+      if noDivisor denominator then pure found
+          else do
+            -- (2.0 * (a12 - a01) * u0 * u2 + a01 * b12 * u0 * u1 - a12 * b01 * u1 * u2) / denominator
+            quadraticB ← (! two ⊗ (! a12 ⊖ ! a01) ⊗ ! u0 ⊗ ! u2 ⊕ ! a01 ⊗ ! b12 ⊗ ! u0 ⊗ ! u1 ⊖ ! a12 ⊗ ! b01 ⊗ ! u1 ⊗ ! u2) ⊘ ! denominator
+            -- ((a12 - a01) * u0 * u0 + a12 * u1 * u1 - a12 * b01 * u0 * u1) / denominator
+            quadraticC ← ((! a12 ⊖ ! a01) ⊗ ! u0 ⊗ ! u0 ⊕ ! a12 ⊗ ! u1 ⊗ ! u1 ⊖ ! a12 ⊗ ! b01 ⊗ ! u0 ⊗ ! u1) ⊘ ! denominator
+            roots ← quadraticRealMonic quadraticB quadraticC
+            forRoots roots (firstChartDepths edges b nullVector) found
+
+-- ---- the other chart: the depths of a root, the chart from w0 and w1 on, and the chart
+unfoldable pub secondChartDepths : SquaredEdges → Factors → Float → Float → Candidates → Float → Traced Candidates
+secondChartDepths edges b w0 w1 found tau = do
+  -- let depth_denominator = tau * (b12 + tau) + 1.0;
+  depthDenominator ← ! tau ⊗ (! (b .b12) ⊕ ! tau) ⊕ ! one
+  if le tau zero || le depthDenominator zero then pure found
+      else do
+        -- let depth1 = (a12 / depth_denominator).sqrt();
+        depth1 ← √ (! (edges .a12) ⊘ ! depthDenominator)
+        -- let depth2 = tau * depth1;
+        depth2 ← ! tau ⊗ ! depth1
+        -- let depth0 = w0 * depth1 + w1 * depth2;
+        depth0 ← ! w0 ⊗ ! depth1 ⊕ ! w1 ⊗ ! depth2
+        pure (pushIfPositive found depth0 (vector depth0 depth1 depth2))
+
+unfoldable pub weightChart : SquaredEdges → Factors → Float → Float → Candidates → Traced Candidates
+weightChart edges b w0 w1 found =
+    let record { a01 = a01; a02 = a02; a12 = a12 } = edges in
+    let record { b01 = b01; b02 = b02; b12 = b12 } = b in
+    do
+      -- let denominator = (a02 - a01) * w1 * w1 - a01 * b02 * w1 - a01;
+      denominator ← (! a02 ⊖ ! a01) ⊗ ! w1 ⊗ ! w1 ⊖ ! a01 ⊗ ! b02 ⊗ ! w1 ⊖ ! a01
+      if noDivisor denominator then pure found
+          else do
+            -- (a02 * b01 * w1 - a01 * b02 * w0 - 2.0 * w0 * w1 * (a01 - a02)) / denominator
+            quadraticB ← (! a02 ⊗ ! b01 ⊗ ! w1 ⊖ ! a01 ⊗ ! b02 ⊗ ! w0 ⊖ ! two ⊗ ! w0 ⊗ ! w1 ⊗ (! a01 ⊖ ! a02)) ⊘ ! denominator
+            -- ((a02 - a01) * w0 * w0 + a02 * b01 * w0 + a02) / denominator
+            quadraticC ← ((! a02 ⊖ ! a01) ⊗ ! w0 ⊗ ! w0 ⊕ ! a02 ⊗ ! b01 ⊗ ! w0 ⊕ ! a02) ⊘ ! denominator
+            roots ← quadraticRealMonic quadraticB quadraticC
+            forRoots roots (secondChartDepths edges b w0 w1) found
+
+unfoldable pub secondChart : SquaredEdges → Factors → Vector3 → Candidates → Traced Candidates
+secondChart edges b nullVector found =
+    let record { x = u0; y = u1; z = u2 } = nullVector in
+    if noDivisor u0 then pure found
+    else do
+      -- let inverse = -u0.recip();
+      inverse ← ⊝ (! one ⊘ ! u0)
+      -- let w0 = u1 * inverse;
+      -- let w1 = u2 * inverse;
+      w0 ← ! u1 ⊗ ! inverse
+      w1 ← ! u2 ⊗ ! inverse
+      weightChart edges b w0 w1 found
+
+-- if u0.abs() < u1.abs() { .. } else { .. }
+unfoldable pub chart : SquaredEdges → Factors → Vector3 → Candidates → Traced Candidates
+chart edges b nullVector found =
+    if lt (abs (nullVector .x)) (abs (nullVector .y)) then firstChart edges b nullVector found
+    else secondChart edges b nullVector found

@@ -1,0 +1,8 @@
+-- The definitions that the contracts of this crate cite, in the order of a solve: what lambdatwist.rs computes up to the depth candidates, line by line.
+pub mod Edges
+pub mod Angles
+pub mod Cubic
+pub mod Condition
+pub mod Matrix
+pub mod DepthSlots
+pub mod Charts

@@ -1,0 +1,32 @@
+// The matrix that is singular at the cubic's root g: `let matrix = Matrix3::new(..)` of solve_ordered (lambdatwist.rs). It is
+// symmetric, and the Rust writes each entry off the diagonal twice.
+ghost use mathlib.Core.Path.{_≡_};
+ghost use Rattle.depths.specs.Matrix.{singularMatrix};
+use crate::angles::Factors;
+use linalg::matrix3::Matrix3;
+use p3p_common::refine_depths::SquaredEdges;
+
+pub fn singular_matrix(edges: SquaredEdges, b: Factors, g: f64) -> Matrix3
+    ensures { λ r. ⌜ r ≡ singularMatrix edges b g .value ⌝ }
+{
+    let a01 = edges.a01;
+    let a02 = edges.a02;
+    let a12 = edges.a12;
+    let b01 = b.b01;
+    let b02 = b.b02;
+    let b12 = b.b12;
+    let m01 = 0.5 * a12 * b01;
+    let m02 = -0.5 * a12 * b02 * g;
+    let m12 = 0.5 * b12 * (a02 * g - a01);
+    Matrix3 {
+        m00: a12 * (1.0 - g),
+        m01,
+        m02,
+        m10: m01,
+        m11: a12 - a01 + a02 * g,
+        m12,
+        m20: m02,
+        m21: m12,
+        m22: g * (a02 - a12) - a01,
+    }
+}
