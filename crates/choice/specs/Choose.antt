@@ -8,6 +8,7 @@ use lib.Ieee.Scale.{finite}
 use Rattle.ieee754.specs.Traced.{Traced, pure, _>>=_, if_then_else_}
 use Rattle.linalg.specs.declared.vector3.Vector3.{Vector3}
 use Rattle.linalg.specs.declared.pose.Pose.{Pose}
+use Rattle.choice.specs.Answer.{noScore}
 use Rattle.choice.specs.Score.{score}
 use Rattle.choice.specs.declared.choose.Choice.{Choice}
 use Rattle.choice.specs.declared.choose.Choice.the-variants.{Best, Refused}
@@ -30,4 +31,4 @@ chooseAmong (pose ∷ poses) passed target bearing best = do
 
 -- A stated pose count above 4 is read as 4. Has any pose a finite score? If no (also for an empty list): 10.
 unfoldable pub choose : List Pose → ℕ → Vector3 → Vector3 → Traced Choice
-choose poses count target bearing = chooseAmong (take (min count 4) poses) 0 target bearing (Refused 10)
+choose poses count target bearing = chooseAmong (take (min count 4) poses) 0 target bearing noScore

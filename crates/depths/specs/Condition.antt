@@ -1,5 +1,4 @@
 -- `leading_cubic_condition`: how large the leading coefficient of the cubic is beside the largest.
-use mathlib.Core.Bool.{Bool, not, _||_}
 use lib.Ieee.{Float, eq}
 use lib.Ieee.Scale.{finite}
 use Rattle.ieee754.specs.Literal.{zero}

@@ -1,7 +1,6 @@
 -- The edges of the world's triangle and their squared lengths: the first lines of `solve_ordered` and of `leading_cubic_condition`.
 use Rattle.ieee754.specs.Traced.{Traced, pure, _>>=_}
 use Rattle.linalg.specs.Vectors.{vecSub, normSquared}
-use Rattle.linalg.specs.declared.vector3.Vector3.{Vector3}
 use Rattle.p3p_common.specs.declared.input.World.{World}
 use Rattle.p3p_common.specs.declared.refine_depths.SquaredEdges.{SquaredEdges}
 use Rattle.depths.specs.declared.edges.EdgeVectors.{EdgeVectors}

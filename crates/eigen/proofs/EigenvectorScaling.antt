@@ -1,9 +1,9 @@
 -- Eigenvectors are equal in the two runs: that of the row crosses, at degree 4, is divided by its length, and so is that of the eigenvalue zero; the others are made of ratios. Assumes nothing.
 use mathlib.Core.Path.{_≡_, refl, ap, subst}
-use mathlib.Core.Bool.{Bool, _&&_}
+use mathlib.Core.Bool.{_&&_}
 use lib.IntN.{ℤ, pos}
-use lib.Ieee.{Float, lt}
-use Rattle.ieee754.specs.Literal.{one, sixtyFour, epsilon, minPositive}
+use lib.Ieee.{Float}
+use Rattle.ieee754.specs.Literal.{one, sixtyFour, epsilon}
 use Rattle.ieee754.specs.declared.total_cmp.Order.{Order}
 use Rattle.ieee754.specs.declared.total_cmp.Order.the-variants.{Less, Equal, Greater}
 use Rattle.ieee754.specs.Scaling.{Both, At, Scales}
@@ -13,7 +13,7 @@ use Rattle.linalg.specs.declared.vector3.Vector3.{Vector3}
 use Rattle.linalg.specs.declared.matrix3.Matrix3.{Matrix3}
 use Rattle.linalg.specs.Vectors.{norm}
 use Rattle.linalg.specs.VectorScaling.{AtVector, AtMatrix}
-use Rattle.linalg.proofs.VectorDegrees.{vector-at-zero, vecDiv-scales, normSquared-scales, cross-scales, allFinite-same}
+use Rattle.linalg.proofs.VectorDegrees.{vector-at-zero, vecDiv-scales, normSquared-scales, cross-scales}
 use Rattle.linalg.proofs.MatrixDegrees.{matNormSquared-scales}
 use Rattle.eigen.specs.RowCrosses.{lastGreatest, longer, unitVector, eigenvectorFromRowCrosses}
 use Rattle.eigen.specs.ZeroVector.{zeroDirection, zeroVector}

@@ -1,5 +1,4 @@
 -- The eigenvector of a nonzero eigenvalue: the closure `eigenvector` of `eig_with_known_zero`, and what is computed before it for both values.
-use mathlib.Core.Bool.{Bool}
 use lib.Ieee.{Float, le}
 use lib.Ieee.Scale.{finite}
 use Rattle.ieee754.specs.Literal.{one, sixtyFour, epsilon, minPositive}

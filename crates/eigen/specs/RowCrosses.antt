@@ -1,5 +1,5 @@
 -- `eigenvector_from_row_crosses`: the longest cross product of two rows of matrix - eigenvalue, divided by its length.
-use mathlib.Core.Bool.{Bool, _&&_}
+use mathlib.Core.Bool.{_&&_}
 use lib.Ieee.{Float, lt}
 use lib.Ieee.Scale.{finite}
 use Rattle.ieee754.specs.Literal.{minPositive}

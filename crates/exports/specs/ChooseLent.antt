@@ -17,10 +17,6 @@ unfoldable pub chosen : List Float → ℕ → List Float → List Float → Cho
 chosen poses count target bearing =
     choose (poseAt poses 0 ∷ poseAt poses 12 ∷ poseAt poses 24 ∷ poseAt poses 36 ∷ []) count (vectorAt target 0) (vectorAt bearing 0) .value
 
-abbrev pub choiceNumber : Choice → ℕ
-choiceNumber (Best place value) = 0
-choiceNumber (Refused number) = number
-
 abbrev pub bestAfter : Choice → ℕ → ℕ
 bestAfter (Best place value) held = place
 bestAfter (Refused number) held = held

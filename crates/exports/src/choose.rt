@@ -2,7 +2,8 @@
 ghost use mathlib.Core.Path.{_≡_};
 ghost use Prim.Native.Nat.{_+_, _≤_};
 ghost use lib.ListN.{length};
-ghost use Rattle.exports.specs.ChooseLent.{poseAt, chosen, choiceNumber, bestAfter};
+ghost use Rattle.exports.specs.ChooseLent.{poseAt, chosen, bestAfter};
+ghost use Rattle.choice.specs.Answer.{number};
 use crate::vectors::vector_at;
 use choice::choose::Choice;
 use linalg::matrix3::Matrix3;
@@ -33,7 +34,7 @@ pub extern "C" fn p3p_choose(
     bearing: &[f64; 3],
     best: &mut u32,
 ) -> u32
-    ensures { λ r. ⌜ r ≡ choiceNumber (chosen (now (poses .entry)) count (now (target .entry)) (now (bearing .entry))) ⌝ }
+    ensures { λ r. ⌜ r ≡ number (chosen (now (poses .entry)) count (now (target .entry)) (now (bearing .entry))) ⌝ }
     ensures { λ _. ⌜ now (best .exit) ≡ bestAfter (chosen (now (poses .entry)) count (now (target .entry)) (now (bearing .entry))) (now (best .entry)) ⌝ }
 {
     let p0 = pose_at(poses, 0);

@@ -8,7 +8,7 @@ use Rattle.p3p_common.specs.declared.refine_depths.Cosines.{Cosines}
 use Rattle.depths.specs.Edges.{edgeVectors, squaredEdges}
 use Rattle.depths.specs.Angles.{cosines, squaredSines, bearingFactors}
 use Rattle.depths.specs.Cubic.{cubicCoefficients, isUnusable}
-use Rattle.lambdatwist.specs.Solve.{refused, orderedOr, bestOr, solveCubic, solveOrdered, solveBestConditionedPermutation}
+use Rattle.lambdatwist.specs.Solve.{refused, orderedOr, solveCubic, solveOrdered, solveBestConditionedPermutation}
 use Rattle.depths.specs.declared.edges.EdgeVectors.{EdgeVectors}
 use Rattle.depths.specs.declared.angles.SquaredSines.{SquaredSines}
 use Rattle.depths.specs.declared.angles.Factors.{Factors}

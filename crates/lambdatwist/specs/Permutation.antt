@@ -1,7 +1,7 @@
 -- The choice of `solve_best_conditioned_permutation`: of the five other orderings of the points, the one whose leading coefficient is the largest beside the others. A later one replaces the best only
 -- if its condition is greater, so a NaN in the first stays.
 use mathlib.Core.List.{List, [], _∷_}
-use lib.Ieee.{Float, lt}
+use lib.Ieee.{lt}
 use Rattle.ieee754.specs.Traced.{Traced, pure, _>>=_, if_then_else_}
 use Rattle.linalg.specs.declared.vector3.Vector3.{Vector3}
 use Rattle.p3p_common.specs.declared.input.World.{World}

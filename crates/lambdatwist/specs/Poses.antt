@@ -10,7 +10,6 @@ use Rattle.linalg.specs.Vectors.{vecSub, vecMul, allFinite}
 use Rattle.linalg.specs.Matrices.{column0, column1, matVec}
 use Rattle.linalg.specs.declared.vector3.Vector3.{Vector3}
 use Rattle.linalg.specs.declared.matrix3.Matrix3.{Matrix3}
-use Rattle.p3p_common.specs.declared.input.P3pInput.{P3pInput}
 use Rattle.p3p_common.specs.declared.refine_depths.SquaredEdges.{SquaredEdges}
 use Rattle.p3p_common.specs.declared.refine_depths.Cosines.{Cosines}
 use Rattle.p3p_common.specs.declared.refine_depths.Refined.{Refined}

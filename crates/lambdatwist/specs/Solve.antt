@@ -1,7 +1,6 @@
 -- The solve of eighteen doubles: `solve_ordered`, `solve_best_conditioned_permutation` and `solve_solver_minimal`, with the refusals of document 01. An ordering is solved with an allowance of retries;
 -- where it is unusable and one is left, the best conditioned of the other orderings is solved with one less.
 use Prim.Native.Nat.{ℕ, zero, suc}
-use mathlib.Core.Bool.{Bool}
 use lib.Dec.{eqb}
 use lib.Ieee.{Float, le}
 use Rattle.ieee754.specs.Literal.{sixtyFour, epsilon}
@@ -39,7 +38,6 @@ use Rattle.eigen.specs.declared.known_zero.Eigensystem.the-variants.{Found, Not
 use Rattle.eigen.specs.declared.ratio.Ratio.{Ratio}
 use Rattle.eigen.specs.declared.ratio.Ratio.the-variants.{Real, NotReal}
 use Rattle.lambdatwist.specs.declared.poses.View.{View}
-use Rattle.lambdatwist.specs.declared.permutation.Conditioned.{Conditioned}
 use Rattle.lambdatwist.specs.declared.solve.Answer.{Answer}
 
 -- ---- an answer: number 0 with the poses that were kept, or a refusal's number with count 0 and plus zeros

@@ -1,5 +1,5 @@
 -- Bytes stored from a position on: in two parts, one more at the end, one in front. Assumes nothing.
-use Prim.Native.Nat.{ℕ, zero, suc, _+_, _≤_, _<_}
+use Prim.Native.Nat.{ℕ, suc, _+_, _<_}
 use mathlib.Core.Path.{_≡_, refl, sym, ap, _∙_, subst}
 use mathlib.Core.List.{List, [], _∷_, _++_}
 use native.Mathlib.Nat.{add-zero, add-suc, suc-add, le-of-lt}
@@ -7,7 +7,7 @@ use native.Mathlib.Numerals.{add-one}
 use native.Mathlib.Omega.{arith}
 use lib.ListN.{length, getD, take, set, length-append}
 use lib.Seq.{sets, set-comm, take-suc, length-take-le}
-use Rattle.listing.specs.Bytes.{ascii, Stored}
+use Rattle.listing.specs.Bytes.{Stored}
 
 pub sets-append : (xs ys : List ℕ) (l : List ℕ) (at : ℕ) → sets (sets l at xs) (at + length xs) ys ≡ sets l at (xs ++ ys)
 sets-append [] ys l at = rw add-zero

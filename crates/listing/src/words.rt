@@ -1,26 +1,14 @@
 // The words of a pose: doubles by their bit patterns.
 use crate::digits::put_word;
 use crate::put::put_byte;
+use ieee754::bits::to_bits;
 use linalg::pose::Pose;
 use linalg::vector3::Vector3;
 ghost use mathlib.Core.Path.{_≡_};
 ghost use Prim.Native.Nat.{_+_, _≤_};
 ghost use lib.ListN.{length};
-ghost use lib.Ieee.{binary64, toBits};
 ghost use Rattle.listing.specs.Bytes.{Stored};
 ghost use Rattle.listing.specs.Lines.{wordOf, wordsOf, poseWords};
-
-// The pattern that stands for NaN, whose own is open.
-const NAN: u64 = 0x7ff8_0000_0000_0000;
-
-fn pattern(x: f64) -> u64
-    ensures { λ r. ⌜ r ≡ toBits binary64 x ⌝ }
-{
-    if x != x {
-        return NAN;
-    }
-    f64::to_bits(x)
-}
 
 // Puts a space and the sixteen digits of a double.
 fn put_double(out: &mut [u8], at: usize, x: f64) -> usize
@@ -28,7 +16,7 @@ fn put_double(out: &mut [u8], at: usize, x: f64) -> usize
     ensures { λ r. ⌜ Stored (now (out .entry)) at (wordOf x) r (now (out .exit)) ⌝ }
     ensures { λ r. ⌜ r ≡ at + 17 ⌝ }
 {
-    let word = pattern(x);
+    let word = to_bits(x);
     let next = put_byte(out, at, b' ');
     put_word(out, next, word)
 }

@@ -1,5 +1,4 @@
 -- The cubic's part in the scaling rule: its coefficients are of degree 0, so both runs solve the same cubic (`cubic-scales`). Assumes nothing.
-use mathlib.Core.Path.{_≡_, refl}
 use lib.IntN.{ℤ, pos}
 use lib.Ieee.{Float}
 use Rattle.ieee754.specs.Scaling.{Both, At}

@@ -1,8 +1,8 @@
 -- The quadratic's part in the scaling rule: with b at a degree n and c at 2 * n the roots are at n, and the refusals are the same (`quadratic-scales`). Each proof is its definition, with the
 -- hypotheses on the inputs in their places. Assumes nothing.
-use mathlib.Core.Path.{_≡_, ap}
-use mathlib.Core.Bool.{Bool, not}
-use lib.IntN.{ℤ, pos, _+ℤ_, +ℤ-idl, +ℤ-negℤ-cancel}
+use mathlib.Core.Path.{ap}
+use mathlib.Core.Bool.{not}
+use lib.IntN.{ℤ, _+ℤ_, +ℤ-idl, +ℤ-negℤ-cancel}
 use lib.Ieee.{Float}
 use Rattle.ieee754.specs.Literal.{half, epsilon}
 use Rattle.ieee754.specs.Scaling.{Both, At}

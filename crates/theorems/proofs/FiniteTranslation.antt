@@ -1,5 +1,4 @@
 -- Every slot of an answer has a finite translation: the gate drops a pose whose translation is not finite, and an empty slot holds plus zeros. Assumes nothing.
-use mathlib.Core.Path.{_≡_, refl}
 use mathlib.Core.Bool.{Bool, true, false}
 use mathlib.Core.List.{List, [], _∷_}
 use Prim.Native.Nat.{ℕ, zero, suc, _+_}

@@ -1,7 +1,7 @@
 -- A NaN as the condition of the first permutation is kept as best, since nothing compares greater, and passes the limit, since it is not at most anything (document 01, the second of the wrong readings).
 -- No frame reaches it, so it is stated of the choice. Assumes nothing.
-use mathlib.Core.Path.{_≡_, refl, ap, _∙_}
-use mathlib.Core.Bool.{Bool, false}
+use mathlib.Core.Path.{_≡_, refl}
+use mathlib.Core.Bool.{false}
 use mathlib.Core.List.{List, [], _∷_}
 use lib.Ieee.{Float, nan, le, lt}
 use Rattle.lambdatwist.specs.Permutation.{better, bestOf}

@@ -1,10 +1,10 @@
 -- The same permutation is taken in the two runs, since the conditions are equal. Assumes nothing.
 use mathlib.Core.Path.{_≡_, refl}
 use mathlib.Core.List.{List, [], _∷_}
-use lib.IntN.{ℤ, pos}
-use lib.Ieee.{Float, lt}
+use lib.IntN.{ℤ}
+use lib.Ieee.{lt}
 use Rattle.ieee754.specs.Scaling.{Both}
-use Rattle.ieee754.proofs.Degrees.{pure, _>>=_, choose, both-map}
+use Rattle.ieee754.proofs.Degrees.{pure, _>>=_, choose}
 use Rattle.p3p_common.specs.declared.input.World.{World}
 use Rattle.p3p_common.specs.declared.input.Bearings.{Bearings}
 use Rattle.p3p_common.specs.PoseScaling.{AtWorld}

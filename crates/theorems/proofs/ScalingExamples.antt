@@ -1,13 +1,10 @@
 -- The scaling rule's premise can be met, and is needed. A real plate in metres and in counts of 4,096 to the metre: both solves are regular, and there are at least two poses (`plate-regular`). The same plate at
 -- 2 ^ -600 of its size: its solve is not regular, and answers otherwise (`premise-needed`). All of it computes. Assumes nothing.
 use mathlib.Core.Path.{_≡_, refl}
-use mathlib.Core.Bool.{Bool, not, _&&_}
+use mathlib.Core.Bool.{not, _&&_}
 use lib.IntN.{pos, negsuc}
 use lib.Dec.{T, leb}
-use Rattle.linalg.specs.declared.vector3.Vector3.{Vector3}
-use Rattle.p3p_common.specs.declared.input.World.{World}
 use Rattle.theorems.specs.ScalingRule.{TimesWorld, DoubleWorld}
-use Rattle.lambdatwist.specs.declared.solve.Answer.{Answer}
 use lib.Ieee.{fits, ofBits, size}
 use Rattle.lambdatwist.specs.Solve.{solve}
 use Rattle.theorems.proofs.Evaluation.{evaluated}

@@ -1,6 +1,6 @@
 -- The solve of two runs whose worlds are at degree 1 and whose bearings are equal: answers alike, with the rotations, counts and refusals equal and the translations at degree 1. Assumes nothing.
 use mathlib.Core.Path.{_≡_, refl, ap, subst}
-use mathlib.Core.Bool.{Bool, _&&_}
+use mathlib.Core.Bool.{_&&_}
 use Prim.Native.Nat.{ℕ, zero, suc}
 use lib.Dec.{eqb}
 use lib.IntN.{ℤ, pos, negsuc}
@@ -8,7 +8,7 @@ use lib.Ieee.{Float, le}
 use Rattle.ieee754.specs.Literal.{sixtyFour, epsilon}
 use Rattle.ieee754.specs.Traced as traced
 use Rattle.ieee754.specs.Traced.{Traced}
-use Rattle.ieee754.specs.Scaling.{Both, At}
+use Rattle.ieee754.specs.Scaling.{Both}
 use Rattle.ieee754.proofs.Degrees.{same, at-zero, !_, _⊗_, _⊘_, pure, _>>=_, _>>≡_, if_then_else_, choose, alike}
 use Rattle.linalg.specs.declared.vector3.Vector3.{Vector3}
 use Rattle.linalg.specs.declared.matrix3.Matrix3.{Matrix3}
@@ -16,7 +16,6 @@ use Rattle.linalg.specs.VectorScaling.{AtVector, AtRows}
 use Rattle.linalg.specs.Vectors.{allFinite}
 use Rattle.linalg.proofs.VectorDegrees.{allFinite-same}
 use Rattle.polynomial.specs.declared.Roots.{Roots}
-use Rattle.polynomial.specs.declared.Roots.the-variants.{Two, One, Refused}
 use Rattle.polynomial.specs.RootScaling.{AtRoots, two-at, one-at, refused-at}
 use Rattle.polynomial.proofs.CubicScaling.{cubic-scales}
 use Rattle.p3p_common.specs.declared.input.World.{World}
@@ -49,7 +48,7 @@ use Rattle.eigen.proofs.EigenvalueScaling.{ratioOf-same}
 use Rattle.eigen.proofs.SystemScaling.{AtSystem, found-at, not-found, eigWithKnownZero-scales}
 use Rattle.theorems.proofs.ChartScaling.{AtCandidates, candidates-scales}
 use Rattle.theorems.proofs.PoseScaling.{poses-scales}
-use Rattle.theorems.proofs.PermutationScaling.{AtConditioned, bestPermutation-scales}
+use Rattle.theorems.proofs.PermutationScaling.{bestPermutation-scales}
 
 pub record AtAnswer (k : ℤ) (a a' : Answer) : Type 0 where
   pub refusal : a .refusal ≡ a' .refusal

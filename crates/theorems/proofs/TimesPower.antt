@@ -1,17 +1,17 @@
 -- `Times k x x'`, over whole numbers, says of two doubles that x' is `scale k x` (`times-at`), and of a finite x with `scale k x` it holds (`at-times`). Assumes nothing.
-use mathlib.Core.Path.{_≡_, refl, sym, ap, ap₂, _∙_, subst}
+use mathlib.Core.Path.{_≡_, refl, sym, ap, _∙_, subst}
 use Prim.Native.Nat.{ℕ, zero, suc, _*_, _%_, _^_, _<_}
-use native.Mathlib.Nat.{lt-irrefl, zero-lt-suc, zero-mul, mul-one, mul-assoc, mul-left-comm, mul-pos, eq-of-mul-eq-mul-right, pow-suc, pow-succ'}
+use native.Mathlib.Nat.{lt-irrefl, zero-lt-suc, mul-pos, eq-of-mul-eq-mul-right, pow-succ'}
 use native.Mathlib.Omega.{arith}
-use mathlib.Core.Bool.{Bool, true, false, _&&_}
+use mathlib.Core.Bool.{Bool, _&&_}
 use lib.IntN.{ℤ, pos, negsuc, _+ℤ_, _*ℤ_, zero-*ℤ, sucℤ-*ℤ, +ℤ-idl}
 use lib.Dec.{T, eqb, ltb, leb, eqb→eq}
 use lib.Pow.{pow-pos}
-use lib.Ieee.{Float, nan, inf, fin, binary64, prec, low, emax, up, down, fits}
+use lib.Ieee.{Float, nan, inf, fin, binary64, up, down, fits}
 use lib.Ieee.Fits.{up-pos, down-pos, and-l}
 use lib.Ieee.Scale.{finite}
 use Rattle.ieee754.specs.Scaling.{scale, At}
-use Rattle.ieee754.proofs.Powers.{Ratio, moved-ratio}
+use Rattle.ieee754.proofs.Powers.{moved-ratio}
 use Rattle.theorems.specs.ScalingRule.{Times}
 
 -- ---- an odd number times a power of two is so in one way

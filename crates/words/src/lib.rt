@@ -6,6 +6,8 @@ ghost use lib.Dec.{eqb};
 ghost use lib.Ieee.{binary64, ofBits, toBits};
 ghost use lib.ListN.{getD};
 ghost use Rattle.words.specs.Words.{halfAt, wordAt};
+use ieee754::bits::from_bits;
+use ieee754::bits::to_bits;
 
 pub mod report;
 
@@ -42,20 +44,14 @@ pub fn word(s: &[u8], at: usize) -> u64
 pub fn float(bits: u64) -> f64
     ensures { λ r. ⌜ r ≡ ofBits binary64 bits ⌝ }
 {
-    if 0x7ff0_0000_0000_0000 < bits % 0x8000_0000_0000_0000 {
-        return 0.0 / 0.0;
-    }
-    f64::from_bits(bits)
+    from_bits(bits)
 }
 
 // The bit pattern of a double, 7ff8000000000000 for a NaN.
 pub fn pattern(x: f64) -> u64
     ensures { λ r. ⌜ r ≡ toBits binary64 x ⌝ }
 {
-    if x != x {
-        return 0x7ff8_0000_0000_0000;
-    }
-    f64::to_bits(x)
+    to_bits(x)
 }
 
 // Whether x has the bit pattern w.

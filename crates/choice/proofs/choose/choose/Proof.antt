@@ -1,8 +1,8 @@
 -- `choice::choose::choose` meets its contract: what is left of the loop gives what the whole does. Assumes nothing.
 use borrow.Author.Needs.{needs}
 use native.Mathlib.Omega.{arith}
-use Prim.Native.Nat.{_+_, _-_, _≤_}
-use mathlib.Core.Path.{_≡_, refl, sym, _∙_}
+use Prim.Native.Nat.{_-_, _≤_}
+use mathlib.Core.Path.{_≡_, refl, _∙_}
 use lib.ListN.{length, take, drop}
 use Rattle.choice.specs.Choose.{chooseAmong, choose}
 use Rattle.choice.proofs.Turns.{turns-go, turns-end}

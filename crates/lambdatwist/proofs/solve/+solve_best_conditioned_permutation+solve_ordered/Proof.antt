@@ -1,7 +1,7 @@
 -- The proof of the cycle of calls {solve_ordered, solve_best_conditioned_permutation}. With n retries left the ordered solve calls the retry at n - 1, and the retry at n the ordered solve at n, so
 -- the measures are 2 * n and 2 * n + 1. Assumes nothing.
 use borrow.Author.Needs.{needs}
-use mathlib.Core.Path.{_≡_, sym, ap, _∙_, subst}
+use mathlib.Core.Path.{sym, ap, _∙_, subst}
 use Prim.Native.Nat.{ℕ, _+_, _-_, _<_}
 use native.Mathlib.Nat.{pos-of-ne-zero}
 use native.Mathlib.Omega.{arith}

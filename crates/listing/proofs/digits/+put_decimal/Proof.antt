@@ -1,11 +1,10 @@
 -- The proof of the cycle of calls {put_decimal}: the measure is the number, which is divided by 10. Assumes nothing.
-use Prim.Native.Nat.{ℕ, _+_, _/_, _%_, _^_, _≤_, _<_}
-use mathlib.Core.Path.{_≡_, refl, sym, ap, _∙_}
+use Prim.Native.Nat.{ℕ, _+_, _/_, _^_, _≤_, _<_}
+use mathlib.Core.Path.{sym, ap, _∙_}
 use mathlib.Core.List.{List, [], _∷_, _++_}
 use native.Mathlib.Nat.{lt-of-lt-of-le}
 use native.Mathlib.Omega.{arith}
 use lib.Dec.{lit≤}
-use lib.ListN.{length}
 use Rattle.listing.specs.Bytes.{Stored}
 use Rattle.listing.specs.Digits.{decimal}
 use Rattle.listing.proofs.Storing.{stored-as, then}

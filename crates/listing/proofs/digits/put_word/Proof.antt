@@ -1,12 +1,9 @@
 -- `listing::digits::put_word` meets its contract: the digits are put in place from the last to the first. Assumes nothing.
-use Prim.Native.Nat.{ℕ, _+_, _-_, _/_, _%_, _≤_, _<_}
-use mathlib.Core.Path.{_≡_, refl, sym, ap, _∙_, subst}
-use mathlib.Core.List.{List}
+use Prim.Native.Nat.{ℕ, _+_, _-_, _/_, _≤_}
+use mathlib.Core.Path.{_≡_, refl, sym, ap, subst}
 use native.Mathlib.Omega.{arith}
 use lib.ListN.{length, set, length-set}
-use lib.Seq.{sets}
 use borrow.Author.Needs.{needs}
-use Rattle.listing.specs.Bytes.{Stored}
 use Rattle.listing.specs.Digits.{glyph, hexadecimal}
 use Rattle.listing.proofs.Hexadecimal.{Left, start, turn, finish, length-hexadecimal}
 use Rattle.listing.proofs.digits.put_word.Statement.{statement}

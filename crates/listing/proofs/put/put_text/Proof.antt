@@ -1,12 +1,11 @@
 -- `listing::put::put_text` meets its contract: after i turns the first i bytes are in place. Assumes nothing.
-use Prim.Native.Nat.{ℕ, _+_, _-_, _≤_, _<_}
-use mathlib.Core.Path.{_≡_, refl, sym, ap, _∙_}
+use Prim.Native.Nat.{ℕ, _+_, _-_, _≤_}
+use mathlib.Core.Path.{_≡_, refl, ap, _∙_}
 use mathlib.Core.List.{List}
 use native.Mathlib.Omega.{arith}
 use lib.ListN.{length, getD, take, set, length-set}
-use lib.Seq.{sets, length-sets, take-all}
+use lib.Seq.{sets, take-all}
 use borrow.Author.Needs.{needs}
-use Rattle.listing.specs.Bytes.{Stored}
 use Rattle.listing.proofs.Storing.{sets-next}
 use Rattle.listing.proofs.put.put_text.Statement.{statement}
 use Rattle.listing.proofs.put.put_text.Tie as tie

@@ -1,6 +1,6 @@
 -- `listing::words::put_double` meets its contract. Assumes nothing.
 use Prim.Native.Nat.{ℕ}
-use mathlib.Core.Path.{_≡_, ap}
+use mathlib.Core.Path.{ap}
 use mathlib.Core.List.{_++_}
 use native.Mathlib.Omega.{arith}
 use borrow.Author.Needs.{needs}
@@ -11,8 +11,8 @@ use Rattle.listing.proofs.Storing.{stored-as, then}
 use Rattle.listing.proofs.words.put_double.Statement.{statement}
 use Rattle.listing.proofs.words.put_double.Tie as tie
 
-pattern-requires : tie.Need-pattern-requires
-pattern-requires c κs = search needs
+to-bits-requires : tie.Need-to-bits-requires
+to-bits-requires c κs = search needs
 
 put-byte-requires : tie.Need-put-byte-requires
 put-byte-requires c κs = search needs
@@ -29,9 +29,9 @@ returns c =
     let word = c .before .before in
     let space = word .before .before .before .before in
     let bits = space .before .before in (
-      stored-as (ap (λ (n : ℕ). ascii " " ++ hexadecimal 16 n) (bits .pattern .ensures)) (then (space .put-byte .ensures) (word .put-word .ensures .0)),
+      stored-as (ap (λ (n : ℕ). ascii " " ++ hexadecimal 16 n) (bits .to-bits .ensures)) (then (space .put-byte .ensures) (word .put-word .ensures .0)),
       omega (arith, space .put-byte .ensures .next-at, word .put-word .ensures .1),
     )
 
 pub put-double-spec : {M : Type 1} → statement M
-put-double-spec = tie.close (tie.spec pattern-requires put-byte-requires put-word-requires same-length returns)
+put-double-spec = tie.close (tie.spec to-bits-requires put-byte-requires put-word-requires same-length returns)

@@ -1,10 +1,9 @@
 -- `records::big_endian::number` meets its contract: after i bytes the number is that of the first i, below 2 ^ (8 * i). Assumes nothing.
 use Prim.Native.Nat.{ℕ, _+_, _-_, _*_, _^_, _≤_, _<_}
-use mathlib.Core.Path.{_≡_, refl, sym, ap, _∙_}
+use mathlib.Core.Path.{_≡_, sym, ap, _∙_}
 use native.Mathlib.Nat.{lt-of-lt-of-le}
 use native.Mathlib.Omega.{arith}
 use mathlib.Core.List.{List}
-use lib.ListN.{length, getD}
 use denote.Ref.{now}
 use lib.Pow.{pow-mono}
 use borrow.Author.Needs.{needs}

@@ -1,5 +1,5 @@
 -- `records::double::double_at` meets its contract. Assumes nothing.
-use mathlib.Core.Path.{_≡_, refl, sym, ap, _∙_}
+use mathlib.Core.Path.{ap, _∙_}
 use lib.Ieee.{binary64, ofBits}
 use borrow.Author.Needs.{needs}
 use Rattle.records.specs.Format.{doubleAt}
@@ -9,12 +9,12 @@ use Rattle.records.proofs.double.double_at.Tie as tie
 number-requires : tie.Need-number-requires
 number-requires c κs = search needs
 
-of-bits-requires : tie.Need-of-bits-requires
-of-bits-requires c κs = search needs
+from-bits-requires : tie.Need-from-bits-requires
+from-bits-requires c κs = search needs
 
 returns : tie.Need-returns
 unfolding doubleAt
-returns c = c .of-bits .ensures ∙ ap (ofBits binary64) (c .before .number .ensures)
+returns c = c .from-bits .ensures ∙ ap (ofBits binary64) (c .before .number .ensures)
 
 pub double-at-spec : {M : Type 1} → statement M
-double-at-spec = tie.close (tie.spec number-requires of-bits-requires returns)
+double-at-spec = tie.close (tie.spec number-requires from-bits-requires returns)

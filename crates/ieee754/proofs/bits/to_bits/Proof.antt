@@ -1,10 +1,10 @@
--- `listing::words::pattern` meets its contract. Assumes nothing.
+-- `ieee754::bits::to_bits` meets its contract. Assumes nothing.
 use mathlib.Core.Path.{_≡_, refl, sym, ap, _∙_}
 use lib.Ieee.{nan, binary64, toBits}
 use borrow.Author.Needs.{needs}
 use Rattle.ieee754.proofs.Reading.{nan-of, not-nan}
-use Rattle.listing.proofs.words.pattern.Statement.{statement}
-use Rattle.listing.proofs.words.pattern.Tie as tie
+use Rattle.ieee754.proofs.bits.to_bits.Statement.{statement}
+use Rattle.ieee754.proofs.bits.to_bits.Tie as tie
 
 nan-bits : 0x7ff8_0000_0000_0000 ≡ toBits binary64 nan
 unfolding toBits
@@ -19,5 +19,5 @@ float-to-bits-result c = not-nan (c .before .args .x) (c .if1 .left)
 returns-2 : tie.Need-returns-2
 returns-2 c = search needs
 
-pub pattern-spec : {M : Type 1} → statement M
-pattern-spec = tie.close (tie.spec returns float-to-bits-result returns-2)
+pub to-bits-spec : {M : Type 1} → statement M
+to-bits-spec = tie.close (tie.spec returns float-to-bits-result returns-2)

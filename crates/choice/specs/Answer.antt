@@ -1,0 +1,18 @@
+-- What the enum of this crate stands for: the place of a pose with its score, or document 01's number 10.
+use Prim.Native.Nat.{ℕ}
+use Rattle.choice.specs.declared.choose.Choice.{Choice}
+use Rattle.choice.specs.declared.choose.Choice.the-variants.{Best, Refused}
+
+-- a choice's number, 0 where nothing is refused
+abbrev pub number : Choice → ℕ
+number (Best place value) = 0
+number (Refused n) = n
+
+-- the place of the chosen pose, from 1, and 0 where there is none
+abbrev pub place : Choice → ℕ
+place (Best at value) = at
+place (Refused n) = 0
+
+-- no pose has a finite score
+abbrev pub noScore : Choice
+noScore = Refused 10
