@@ -126,6 +126,7 @@ const UNREACHABLE: &[(&str, bool, By, &str)] = &[
     ),
     ("first chart: room", false, By::Any, "two signs with two roots each"),
     ("second chart: room", false, By::Any, "two signs with two roots each"),
+    ("push_valid_rotation: room", false, By::Frame, "two signs with two roots each"),
     ("second chart: u0 not finite", true, By::Any, "eigenvectors are finite, their entries at most one"),
     (
         "solve_ordered: refined depth not finite",
@@ -157,6 +158,7 @@ pub fn print(folder: &Path) -> Result<(), String> {
             total += 1;
         }
     }
+    println!("\n## Tests of the Rust, and which way they came out\n");
     println!("{frame_count} frames, {total} vectors in all\n");
     println!("| test | frames: yes | frames: no | all vectors: yes | all vectors: no | |");
     println!("|---|---:|---:|---:|---:|---|");
