@@ -60,6 +60,16 @@ fn found<const N: usize>(answer: Option<[f64; N]>) -> Vec<u64> {
 }
 
 macro_rules! answers {
+    ($module:ident, $copy:ident) => {
+        answers!(
+            $module,
+            $copy,
+            $copy::listed::Listed::listed_cbrt,
+            $copy::listed::Listed::listed_max,
+            $copy::listed::Listed::listed_total_cmp,
+            plus_if_nan
+        );
+    };
     ($module:ident, $copy:ident, $cbrt:expr, $max:expr, $order:expr, $sign:expr) => {
         pub mod $module {
             use super::*;
@@ -156,19 +166,5 @@ fn plus_if_nan(x: f64) -> f64 {
 }
 
 answers!(asis, copy_asis, f64::cbrt, f64::max, f64::total_cmp, f64::from);
-answers!(
-    second,
-    copy_second,
-    copy_second::listed::Listed::listed_cbrt,
-    copy_second::listed::Listed::listed_max,
-    copy_second::listed::Listed::listed_total_cmp,
-    plus_if_nan
-);
-answers!(
-    counted,
-    copy_counted,
-    copy_counted::listed::Listed::listed_cbrt,
-    copy_counted::listed::Listed::listed_max,
-    copy_counted::listed::Listed::listed_total_cmp,
-    plus_if_nan
-);
+answers!(second, copy_second);
+answers!(counted, copy_counted);
