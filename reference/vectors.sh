@@ -8,5 +8,5 @@ folder=${2:?usage: vectors.sh SOURCES FOLDER}
 mkdir -p "$folder"
 "$here/run" "$sources" vectors "$folder" >"$folder/kinds.md"
 "$here/run" "$sources" coverage "$folder" >"$folder/coverage.md"
-head -n 1 "$folder/kinds.md"
+grep "^- seed" "$folder/kinds.md"
 tail -n 1 "$folder/coverage.md"

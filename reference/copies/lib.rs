@@ -158,6 +158,24 @@ pub fn edges(first: &[f64; 3], second: &[f64; 3], inverse: &[f64; 9]) -> [f64; 9
     words(&common::rotation_from_edges(vector(first), vector(second), &matrix(inverse)))
 }
 
+/// One push onto a list that holds `count` poses: the count then, and where it grew, the updates and the
+/// twelve words of the pose pushed.
+pub fn push(
+    input: &[f64; 18],
+    rotation: &[f64; 9],
+    translation: &[f64; 3],
+    updates: u32,
+    count: usize,
+) -> (usize, Option<(u32, [f64; 12])>) {
+    let part = |at: usize| std::array::from_fn(|index| vector(&input[at + 3 * index..]));
+    let input = common::P3pInput { world: part(0), bearings: part(9) };
+    let mut output = common::SolverP3pSolutions::default();
+    (0..count).for_each(|_| output.push(pose::SolverPose::identity()));
+    record::holding(count, updates);
+    input.push_edge_basis_pose_from_positive_depths(&mut output, matrix(rotation), vector(translation));
+    (output.len(), record::grown(count, output.len()))
+}
+
 pub fn eig(m: &[f64; 9]) -> Option<([f64; 9], [f64; 3])> {
     lambdatwist::eig_with_known_zero(&matrix(m)).map(|(m, v)| (words(&m), v.into()))
 }

@@ -26,6 +26,22 @@ pub(crate) fn start() {
     with(|record| record.answer = Answer::default());
 }
 
+/// A list with so many poses, before a push of depths with so many updates.
+pub(crate) fn holding(count: usize, updates: u32) {
+    with(|record| {
+        record.answer = Answer { count, ..Answer::default() };
+        record.updates = updates;
+    });
+}
+
+/// What was pushed, once the list has grown from one count to another.
+pub(crate) fn grown(from: usize, to: usize) -> Option<(u32, [f64; 12])> {
+    with(|record| {
+        assert_eq!(record.answer.count, to);
+        (from < to).then(|| (record.answer.updates[from], record.answer.poses[from]))
+    })
+}
+
 pub(crate) fn refused(number: u32) {
     with(|record| record.answer.refusal = number);
 }

@@ -1,7 +1,10 @@
 // Whether a function gives a record's answer.
-ghost use Prim.Native.Nat.{_≤_};
-use linalg::matrix3::Matrix3;
-use linalg::vector3::Vector3;
+use crate::push::push_holds;
+use crate::record::matrix_agrees;
+use crate::record::matrix_at;
+use crate::record::narrow;
+use crate::record::vector_agrees;
+use crate::record::vector_at;
 use p3p_common::has_near_orthonormal_columns::has_near_orthonormal_columns;
 use p3p_common::project_to_rotation::Projection;
 use p3p_common::project_to_rotation::project_to_rotation;
@@ -12,7 +15,6 @@ use p3p_common::refine_depths::refine_depths;
 use p3p_common::rotation_from_edges::rotation_from_edges;
 use p3p_common::world_basis_inverse::Basis;
 use p3p_common::world_basis_inverse::world_basis_inverse;
-use words::agrees;
 use words::float;
 use words::word;
 
@@ -23,39 +25,7 @@ pub enum Piece {
     Project,
     Basis,
     Edges,
-}
-
-fn vector_at(s: &[u8; 192], at: usize) -> Vector3
-    requires { ⌜ at ≤ 168 ⌝ }
-{
-    Vector3 {
-        x: float(word(s, at)),
-        y: float(word(s, at + 8)),
-        z: float(word(s, at + 16)),
-    }
-}
-
-fn matrix_at(s: &[u8; 192], at: usize) -> Matrix3
-    requires { ⌜ at ≤ 120 ⌝ }
-{
-    let c0 = vector_at(s, at);
-    let c1 = vector_at(s, at + 24);
-    let c2 = vector_at(s, at + 48);
-    Matrix3::from_columns(c0, c1, c2)
-}
-
-fn vector_agrees(v: Vector3, s: &[u8; 192], at: usize) -> bool
-    requires { ⌜ at ≤ 168 ⌝ }
-{
-    agrees(v.x, word(s, at)) && agrees(v.y, word(s, at + 8)) && agrees(v.z, word(s, at + 16))
-}
-
-fn matrix_agrees(m: Matrix3, s: &[u8; 192], at: usize) -> bool
-    requires { ⌜ at ≤ 120 ⌝ }
-{
-    vector_agrees(m.column0(), s, at)
-        && vector_agrees(m.column1(), s, at + 24)
-        && vector_agrees(m.column2(), s, at + 48)
+    Push,
 }
 
 // A bool as a word.
@@ -63,17 +33,8 @@ fn flag(b: bool) -> u64 {
     if b { 1 } else { 0 }
 }
 
-// A word as a count, the largest count for a word beyond it.
-fn narrow(w: u64) -> u32 {
-    if w <= 0xffff_ffff {
-        w as u32
-    } else {
-        0xffff_ffff
-    }
-}
-
 // Depths, squared edges, cosines and the limit; the updates and the depths.
-fn refine_holds(s: &[u8; 192]) -> bool {
+fn refine_holds(s: &[u8; 368]) -> bool {
     let depths = vector_at(s, 0);
     let edges = SquaredEdges {
         a01: float(word(s, 24)),
@@ -91,19 +52,19 @@ fn refine_holds(s: &[u8; 192]) -> bool {
 }
 
 // The camera point and the bearing; whether they fit.
-fn ray_holds(s: &[u8; 192]) -> bool {
+fn ray_holds(s: &[u8; 368]) -> bool {
     let camera = vector_at(s, 0);
     let bearing = vector_at(s, 24);
     flag(ray_fits(camera, bearing)) == word(s, 48)
 }
 
 // The matrix; whether it is near a rotation.
-fn near_holds(s: &[u8; 192]) -> bool {
+fn near_holds(s: &[u8; 368]) -> bool {
     flag(has_near_orthonormal_columns(matrix_at(s, 0))) == word(s, 72)
 }
 
 // The matrix; whether there is a rotation, and the rotation.
-fn project_holds(s: &[u8; 192]) -> bool {
+fn project_holds(s: &[u8; 368]) -> bool {
     let ok = word(s, 72);
     let projection = project_to_rotation(matrix_at(s, 0));
     match projection {
@@ -113,7 +74,7 @@ fn project_holds(s: &[u8; 192]) -> bool {
 }
 
 // Two edges; whether there is an inverse, and the inverse.
-fn basis_holds(s: &[u8; 192]) -> bool {
+fn basis_holds(s: &[u8; 368]) -> bool {
     let first = vector_at(s, 0);
     let second = vector_at(s, 24);
     let ok = word(s, 48);
@@ -125,13 +86,13 @@ fn basis_holds(s: &[u8; 192]) -> bool {
 }
 
 // Two edges and the inverse; the rotation.
-fn edges_hold(s: &[u8; 192]) -> bool {
+fn edges_hold(s: &[u8; 368]) -> bool {
     let first = vector_at(s, 0);
     let second = vector_at(s, 24);
     matrix_agrees(rotation_from_edges(first, second, matrix_at(s, 48)), s, 120)
 }
 
-pub fn holds(piece: Piece, s: &[u8; 192]) -> bool {
+pub fn holds(piece: Piece, s: &[u8; 368]) -> bool {
     match piece {
         Piece::Refine => refine_holds(s),
         Piece::Ray => ray_holds(s),
@@ -139,5 +100,6 @@ pub fn holds(piece: Piece, s: &[u8; 192]) -> bool {
         Piece::Project => project_holds(s),
         Piece::Basis => basis_holds(s),
         Piece::Edges => edges_hold(s),
+        Piece::Push => push_holds(s),
     }
 }

@@ -1,7 +1,10 @@
 // Runs the functions that the three-point solvers share on the vectors in data/ and says of each how many answers differ from
 // the Rust's bits. reference/ made the vectors; a file holds records of words: the arguments, then the answer. A matrix is
-// given by its columns, a bool as 0 or 1, and an answer that may be missing has such a word before it.
+// given by its columns, a bool as 0 or 1, and an answer that may be missing has such a word before it; whether a pose was pushed,
+// the count says.
 mod holds;
+mod push;
+mod record;
 
 ghost use Prim.Native.Nat.{_≤_};
 use holds::Piece;
@@ -16,7 +19,7 @@ pub enum Found {
 
 // The bytes of a record.
 fn length(piece: Piece) -> usize
-    ensures { λ r. ⌜ r ≤ 192 ⌝ }
+    ensures { λ r. ⌜ r ≤ 368 ⌝ }
 {
     match piece {
         Piece::Refine => 112,
@@ -25,12 +28,13 @@ fn length(piece: Piece) -> usize
         Piece::Project => 152,
         Piece::Basis => 128,
         Piece::Edges => 192,
+        Piece::Push => 368,
     }
 }
 
 // Reads the next record and tries it.
 fn step(fd: i32, piece: Piece) -> Found {
-    let mut record = [0u8; 192];
+    let mut record = [0u8; 368];
     let n = length(piece);
     let got = io::read_full(fd, &mut record[..n]);
     if got == 0 {
@@ -78,4 +82,5 @@ fn main() {
     compare(Piece::Project, b"project_to_rotation", b"project.bin");
     compare(Piece::Basis, b"world_basis_inverse", b"basis.bin");
     compare(Piece::Edges, b"rotation_from_edges", b"edges.bin");
+    compare(Piece::Push, b"push_pose", b"push.bin");
 }

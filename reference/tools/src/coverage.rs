@@ -43,104 +43,16 @@ const PLACES: &[&str] = &[
     "retry: no permutation",
 ];
 
-/// Outcomes that nothing can reach, and why. `Frame`: by no frame, though arguments of the
-/// function itself reach them; `Any`: by no argument; `Search`: none was found.
-#[derive(Clone, Copy)]
-enum By {
-    Frame,
-    Any,
-    Search,
+const UNREACHABLE: &str = include_str!("unreachable.txt");
+
+/// How far an outcome is from being reached, and why, where unreachable.txt names it.
+fn reason(label: &str, side: &str) -> Option<(&'static str, &'static str)> {
+    UNREACHABLE.lines().filter(|line| !line.starts_with('#')).find_map(|line| {
+        let parts: Vec<&str> = line.split(" | ").collect();
+        assert!(parts.len() == 4 && ["never", "by no frame", "none found"].contains(&parts[0]), "{line}");
+        (parts[1] == side && parts[2] == label).then_some((parts[0], parts[3]))
+    })
 }
-
-const BOUNDED: &str =
-    "the leading coefficient is above 2^-46 of the largest, so b, c and d are below 2^46 in magnitude";
-const PRODUCTS: &str =
-    "cubic2 holds a02 (2 a01 + a02), and a coefficient that is not finite has ended the solve before";
-
-const UNREACHABLE: &[(&str, bool, By, &str)] = &[
-    (
-        "quadratic: q zero",
-        true,
-        By::Any,
-        "the discriminant is above zero, so its root is at least 2^-537 and has b's sign",
-    ),
-    ("fast_cbrt: zero", true, By::Frame, "the argument is at least the root of a discriminant above zero"),
-    ("fast_cbrt: not finite", true, By::Frame, BOUNDED),
-    ("fast_cbrt: subnormal", true, By::Frame, "the root of a discriminant above zero is at least 2^-537"),
-    ("fast_cbrt: cube not finite", true, By::Frame, BOUNDED),
-    ("fast_cbrt: cube zero", true, By::Any, "the start is at least 2^-342 and the step keeps it near the root"),
-    ("cubic_variable_scale: all zero", true, By::Any, "polished_cubic_root has answered before"),
-    ("cubic_variable_scale: b large", true, By::Frame, BOUNDED),
-    ("cubic_variable_scale: c large", true, By::Frame, BOUNDED),
-    ("cubic_variable_scale: d large", true, By::Frame, BOUNDED),
-    (
-        "cubic: d not finite",
-        true,
-        By::Frame,
-        "what makes cubic0 not a number (a01 a01 s12, a12 s01) stands in cubic1 too",
-    ),
-    ("cubic: value not finite", true, By::Frame, BOUNDED),
-    (
-        "cubic: derivative not finite",
-        true,
-        By::Any,
-        "where the value is finite the root is below 1e60 in magnitude, b at most 1e50 and c at most 1e100",
-    ),
-    (
-        "cubic: candidate not finite",
-        true,
-        By::Search,
-        "a derivative below 2^-1024 of the value, which the start (at a simple root, or off the turning point by the root of a rounding error) does not give",
-    ),
-    ("cubic: root finite", false, By::Frame, BOUNDED),
-    ("world_basis_inverse: determinant not finite", true, By::Frame, PRODUCTS),
-    (
-        "eig: entry not finite",
-        true,
-        By::Frame,
-        "squared edges are below 2^512 and the cubic's root below 2^47 in magnitude",
-    ),
-    (
-        "eig: first eigenvalue zero",
-        true,
-        By::Frame,
-        "a frame's matrix is symmetric: with trace and pair coefficient zero it is all but zero, and the row crosses have refused it",
-    ),
-    (
-        "eigenvector: denominator not finite",
-        true,
-        By::Frame,
-        "a frame's matrix is symmetric: an eigenvalue of 2^511 or more makes the row crosses overflow, which refuses it",
-    ),
-    (
-        "solve_ordered: ratio not finite",
-        true,
-        By::Any,
-        "both eigenvalues are finite and not zero, the second the smaller",
-    ),
-    (
-        "first chart: denominator not finite",
-        true,
-        By::Any,
-        "eigenvector entries are at most one and squared edges below 2^512",
-    ),
-    ("first chart: room", false, By::Any, "two signs with two roots each"),
-    ("second chart: room", false, By::Any, "two signs with two roots each"),
-    ("second chart: u0 not finite", true, By::Any, "eigenvectors are finite, their entries at most one"),
-    (
-        "solve_ordered: refined depth not finite",
-        true,
-        By::Search,
-        "refine_depths keeps no candidate that is not finite, so the first chart's quotient by u1 would have to overflow",
-    ),
-    ("retry: no permutation", true, By::Any, "the first of the five is always taken"),
-    (
-        "retry: condition a NaN",
-        true,
-        By::Search,
-        "cubic3 of the first permutation would be a NaN beside a finite coefficient, and the given ordering was usable then",
-    ),
-];
 
 pub fn print(folder: &Path) -> Result<(), String> {
     let mut frames = Counts::default();
@@ -157,6 +69,7 @@ pub fn print(folder: &Path) -> Result<(), String> {
             total += 1;
         }
     }
+    println!("\n## Tests of the Rust, and which way they came out\n");
     println!("{frame_count} frames, {total} vectors in all\n");
     println!("| test | frames: yes | frames: no | all vectors: yes | all vectors: no | |");
     println!("|---|---:|---:|---:|---:|---|");
@@ -166,25 +79,21 @@ pub fn print(folder: &Path) -> Result<(), String> {
         let outcomes: &[bool] = if is_place(label) { &[true] } else { &[true, false] };
         for &outcome in outcomes {
             let side = if outcome { "yes" } else { "no" };
-            let reason = UNREACHABLE.iter().find(|(l, o, _, _)| *l == label && *o == outcome);
-            let claimed = matches!(reason, Some((_, _, By::Any | By::Search, _)));
+            let reason = reason(label, side);
+            let claimed = reason.is_some_and(|(far, _)| far != "by no frame");
             if claimed && all.of(label, outcome) > 0 || reason.is_some() && frames.of(label, outcome) > 0 {
                 return Err(format!("{label}, {side}: named as unreachable, but reached"));
             }
-            if all.of(label, outcome) == 0 {
-                match reason {
-                    Some((_, _, By::Any, why)) => notes.push(format!("{side}: never: {why}")),
-                    Some((_, _, By::Search, why)) => notes.push(format!("{side}: none found: {why}")),
-                    _ => {
-                        missing += 1;
-                        notes.push(format!("{side}: NOT REACHED"));
-                    }
+            match reason {
+                Some((far, why)) if claimed || all.of(label, outcome) > 0 => {
+                    notes.push(format!("{side}: {far}: {why}"));
                 }
-            } else if frames.of(label, outcome) == 0 {
-                match reason {
-                    Some((_, _, By::Frame, why)) => notes.push(format!("{side}: by no frame: {why}")),
-                    _ => notes.push(format!("{side}: by no stored frame")),
+                _ if all.of(label, outcome) == 0 => {
+                    missing += 1;
+                    notes.push(format!("{side}: NOT REACHED"));
                 }
+                _ if frames.of(label, outcome) == 0 => notes.push(format!("{side}: by no stored frame")),
+                _ => {}
             }
         }
         let count = |counts: &Counts, outcome: bool| {

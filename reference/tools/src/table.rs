@@ -14,6 +14,7 @@ const fn function(name: &'static str, takes: usize, gives: usize) -> Function {
     Function { name, takes, gives }
 }
 
+/// The place decides which generator the inputs come from (vectors.rs), so a new one goes last.
 pub const FUNCTIONS: &[Function] = &[
     function("frame", 24, 55),      // -> number, count, best, 4 x (updates, 12)
     function("quadratic", 2, 3),    // b c -> number, root, root
@@ -36,6 +37,7 @@ pub const FUNCTIONS: &[Function] = &[
     function("max", 2, 1),
     function("clamp", 3, 1),      // x low high
     function("totalorder", 2, 1), // -1, 0 or 1 in two's complement
+    function("push", 32, 14),     // world, bearings, m, translation, updates, count -> count, updates, 12
 ];
 
 pub fn find(name: &str) -> &'static Function {
@@ -58,6 +60,16 @@ fn found<const N: usize>(answer: Option<[f64; N]>) -> Vec<u64> {
 }
 
 macro_rules! answers {
+    ($module:ident, $copy:ident) => {
+        answers!(
+            $module,
+            $copy,
+            $copy::listed::Listed::listed_cbrt,
+            $copy::listed::Listed::listed_max,
+            $copy::listed::Listed::listed_total_cmp,
+            plus_if_nan
+        );
+    };
     ($module:ident, $copy:ident, $cbrt:expr, $max:expr, $order:expr, $sign:expr) => {
         pub mod $module {
             use super::*;
@@ -106,6 +118,17 @@ macro_rules! answers {
                     "edges" => {
                         $copy::edges(&doubles(input), &doubles(&input[3..]), &doubles(&input[6..])).map(word).to_vec()
                     }
+                    "push" => {
+                        let (count, pushed) = $copy::push(
+                            &doubles(input),
+                            &doubles(&input[18..]),
+                            &doubles(&input[27..]),
+                            input[30] as u32,
+                            input[31] as usize,
+                        );
+                        let (updates, pose) = pushed.unwrap_or((0, [0.0; 12]));
+                        [vec![count as u64, updates as u64], pose.map(word).to_vec()].concat()
+                    }
                     "eig" => match $copy::eig(&doubles(input)) {
                         Some((vectors, values)) => {
                             [vec![1], vectors.map(word).to_vec(), values.map(word).to_vec()].concat()
@@ -143,19 +166,5 @@ fn plus_if_nan(x: f64) -> f64 {
 }
 
 answers!(asis, copy_asis, f64::cbrt, f64::max, f64::total_cmp, f64::from);
-answers!(
-    second,
-    copy_second,
-    copy_second::listed::Listed::listed_cbrt,
-    copy_second::listed::Listed::listed_max,
-    copy_second::listed::Listed::listed_total_cmp,
-    plus_if_nan
-);
-answers!(
-    counted,
-    copy_counted,
-    copy_counted::listed::Listed::listed_cbrt,
-    copy_counted::listed::Listed::listed_max,
-    copy_counted::listed::Listed::listed_total_cmp,
-    plus_if_nan
-);
+answers!(second, copy_second);
+answers!(counted, copy_counted);

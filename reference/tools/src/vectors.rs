@@ -76,8 +76,9 @@ fn inputs(name: &str) -> Vec<Vec<u64>> {
 
 pub fn write(folder: &Path) -> Result<(), String> {
     std::fs::create_dir_all(folder).map_err(|e| format!("{}: {e}", folder.display()))?;
-    println!("seed {SEED:016x}");
-    let mut total = 0;
+    println!("## Vectors and frames\n");
+    println!("| file | records | bytes | the unchanged copy differs on | answers |");
+    println!("|---|---:|---:|---:|---|");
     for function in FUNCTIONS {
         let records: Vec<Vec<u64>> = inputs(function.name)
             .into_iter()
@@ -93,15 +94,14 @@ pub fn write(folder: &Path) -> Result<(), String> {
             .filter(|record| table::asis::answer(function.name, &record[..function.takes]) != record[function.takes..])
             .count();
         println!(
-            "{}.bin: {} records, {size} bytes; the unchanged copy differs on {differ}{}",
+            "| {}.bin | {} | {size} | {differ} | {} |",
             function.name,
             records.len(),
             summary(function.name, &records)
         );
-        total += size;
     }
-    println!("{total} bytes in all");
-    println!("scaled frames: {}, each answer exactly scaled", scaled_exactly()?);
+    println!("\n- seed {SEED:016x}");
+    println!("- scaled frames: {}, each answer exactly scaled", scaled_exactly()?);
     kinds();
     Ok(())
 }
@@ -146,12 +146,16 @@ fn summary(name: &str, records: &[Vec<u64>]) -> String {
             }
             let updates: Vec<String> =
                 updates.iter().enumerate().map(|(value, count)| format!("{value}: {count}")).collect();
-            format!("; refusals {}; poses {}; best {}; updates {}", tally(0), tally(1), tally(2), updates.join(", "))
+            format!("refusals {}; poses {}; best {}; updates {}", tally(0), tally(1), tally(2), updates.join(", "))
         }
-        "quadratic" | "cubic" => format!("; numbers {}", tally(0)),
-        "refine" => format!("; updates {}", tally(0)),
-        "choice" => format!("; numbers {}; best {}", tally(0), tally(1)),
-        "ray_fits" | "near" | "project" | "basis" | "eig" | "row_crosses" => format!("; answers {}", tally(0)),
+        "quadratic" | "cubic" => format!("numbers {}", tally(0)),
+        "refine" => format!("updates {}", tally(0)),
+        "choice" => format!("numbers {}; best {}", tally(0), tally(1)),
+        "push" => {
+            let pushed = records.iter().filter(|record| record[takes] > record[takes - 1]).count();
+            format!("pushed 0: {}, 1: {pushed}; poses {}", records.len() - pushed, tally(0))
+        }
+        "ray_fits" | "near" | "project" | "basis" | "eig" | "row_crosses" => format!("answers {}", tally(0)),
         _ => String::new(),
     }
 }

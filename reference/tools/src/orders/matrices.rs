@@ -1,6 +1,6 @@
 //! Operations with matrices.
 
-use super::{BIG, H, Operation, T, TOP, dot, dot_from_zero, dot_fused, dot_right, m, v};
+use super::{BIG, H, Operation, T, TOP, dot, dot_from_zero, dot_fused, dot_right, m, sum, sum_bare, sum_right, v};
 use nalgebra::{Matrix3, RowVector3};
 
 /// A matrix by columns whose first row is given, and the vector beside it.
@@ -107,12 +107,12 @@ pub(super) fn operations() -> Vec<Operation> {
             reading: "((+0 + m00) + m11) + m22",
             takes: 9,
             nalgebra: |x| vec![m(x).trace()],
-            plain: |x| vec![((0.0 + x[0]) + x[4]) + x[8]],
+            plain: |x| vec![sum(x[0], x[4], x[8])],
             wrong: vec![
-                ("no start from +0", |x| vec![(x[0] + x[4]) + x[8]], vec![-0.0; 9], 0),
+                ("no start from +0", |x| vec![sum_bare(x[0], x[4], x[8])], vec![-0.0; 9], 0),
                 (
                     "right to left",
-                    |x| vec![x[0] + (x[4] + x[8])],
+                    |x| vec![sum_right(x[0], x[4], x[8])],
                     [1.0, 0.0, 0.0, 0.0, BIG, 0.0, 0.0, 0.0, -BIG].to_vec(),
                     0,
                 ),

@@ -46,6 +46,18 @@ fn dot_fused(a: &[f64], b: &[f64]) -> f64 {
     a[2].mul_add(b[2], a[1].mul_add(b[1], a[0] * b[0]))
 }
 
+fn sum(a: f64, b: f64, c: f64) -> f64 {
+    ((0.0 + a) + b) + c
+}
+
+fn sum_bare(a: f64, b: f64, c: f64) -> f64 {
+    (a + b) + c
+}
+
+fn sum_right(a: f64, b: f64, c: f64) -> f64 {
+    a + (b + c)
+}
+
 /// Numbers for witnesses: BIG + 1 rounds back to BIG; H × H is T and a little more.
 const BIG: f64 = 9007199254740992.0; // 2^53
 const H: f64 = 1.0 + 1.0 / 134217728.0; // 1 + 2^-27
@@ -66,7 +78,7 @@ fn number(r: &mut Random) -> f64 {
 pub fn print(seed: u64) -> Result<(), String> {
     const RUNS: usize = 300_000;
     println!("seed {seed}; each operation equals its reading on {RUNS} random inputs, NaNs counted as one value\n");
-    println!("| operation | order | nearest wrong reading | input | nalgebra | wrong reading |");
+    println!("| operation | order of operations | nearest wrong reading | input | nalgebra | wrong reading |");
     println!("|---|---|---|---|---|---|");
     let mut r = Random::new(seed);
     let words = |list: Vec<f64>| -> Vec<u64> { list.into_iter().map(word).collect() };
@@ -78,17 +90,19 @@ pub fn print(seed: u64) -> Result<(), String> {
                 return Err(format!("{}: {x:?} gives {found:x?}, the reading {expected:x?}", op.name));
             }
         }
-        for (name, wrong, witness, entry) in &op.wrong {
+        for (place, (name, wrong, witness, entry)) in op.wrong.iter().enumerate() {
             let found = words((op.nalgebra)(witness))[*entry];
             let other = words(wrong(witness))[*entry];
             if found == other || found != words((op.plain)(witness))[*entry] {
                 return Err(format!("{}: the witness does not tell {name}", op.name));
             }
+            let (operation, reading) =
+                if place == 0 { (format!("`{}`", op.name), op.reading) } else { Default::default() };
             let shown: Vec<String> = witness.iter().map(|x| format!("{x:?}")).collect();
-            let name_of = op.name.replace('|', "\\|");
             println!(
-                "| `{name_of}` | {} | {name} | {} | {found:016x} | {other:016x} |",
-                op.reading.replace('|', "\\|"),
+                "| {} | {} | {name} | {} | {found:016x} | {other:016x} |",
+                operation.replace('|', "\\|"),
+                reading.replace('|', "\\|"),
                 shown.join(", ")
             );
         }

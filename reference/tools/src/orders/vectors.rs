@@ -1,6 +1,6 @@
 //! Operations on vectors.
 
-use super::{BIG, H, Operation, T, TOP, dot, dot_from_zero, dot_fused, dot_right, v};
+use super::{BIG, H, Operation, T, TOP, dot, dot_from_zero, dot_fused, dot_right, sum, sum_bare, sum_right, v};
 use crate::random::power;
 
 pub(super) fn operations() -> Vec<Operation> {
@@ -47,10 +47,10 @@ pub(super) fn operations() -> Vec<Operation> {
             reading: "((+0 + x) + y) + z",
             takes: 3,
             nalgebra: |x| vec![v(x).sum()],
-            plain: |x| vec![((0.0 + x[0]) + x[1]) + x[2]],
+            plain: |x| vec![sum(x[0], x[1], x[2])],
             wrong: vec![
-                ("no start from +0", |x| vec![(x[0] + x[1]) + x[2]], vec![-0.0; 3], 0),
-                ("right to left", |x| vec![x[0] + (x[1] + x[2])], vec![1.0, BIG, -BIG], 0),
+                ("no start from +0", |x| vec![sum_bare(x[0], x[1], x[2])], vec![-0.0; 3], 0),
+                ("right to left", |x| vec![sum_right(x[0], x[1], x[2])], vec![1.0, BIG, -BIG], 0),
             ],
         },
         Operation {
@@ -58,10 +58,10 @@ pub(super) fn operations() -> Vec<Operation> {
             reading: "((+0 + |x|) + |y|) + |z|",
             takes: 3,
             nalgebra: |x| vec![v(x).abs().sum()],
-            plain: |x| vec![((0.0 + x[0].abs()) + x[1].abs()) + x[2].abs()],
+            plain: |x| vec![sum(x[0].abs(), x[1].abs(), x[2].abs())],
             wrong: vec![(
                 "right to left",
-                |x| vec![x[0].abs() + (x[1].abs() + x[2].abs())],
+                |x| vec![sum_right(x[0].abs(), x[1].abs(), x[2].abs())],
                 vec![power(54), -1.25, -1.25],
                 0,
             )],

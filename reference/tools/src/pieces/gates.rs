@@ -48,9 +48,9 @@ pub(super) fn ray(r: &mut Random) -> Input {
     words(&[camera, bearing].concat())
 }
 
-const IDENTITY: [f64; 9] = [1.0, 0.0, 0.0, 0.0, 1.0, 0.0, 0.0, 0.0, 1.0];
+pub(super) const IDENTITY: [f64; 9] = [1.0, 0.0, 0.0, 0.0, 1.0, 0.0, 0.0, 0.0, 1.0];
 
-fn flat(m: &[Vector; 3]) -> [f64; 9] {
+pub(super) fn flat(m: &[Vector; 3]) -> [f64; 9] {
     std::array::from_fn(|index| m[index / 3][index % 3])
 }
 

@@ -3,6 +3,7 @@
 mod eigen;
 mod gates;
 mod poses;
+mod push;
 mod refine;
 mod roots;
 mod single;
@@ -48,6 +49,7 @@ fn kinds(name: &str) -> (Vec<Input>, usize, fn(&mut Random) -> Input) {
         "copysign" | "totalorder" => (single::every_two(), 100, single::two),
         "max" => (single::every_two(), 100, single::two),
         "clamp" => (vec![], 160, single::clamp),
+        "push" => (push::hand_push(), 930, push::push),
         _ => panic!("no function {name}"),
     }
 }
