@@ -1,13 +1,13 @@
--- `poses::frame::put_poses` is safe: at most four lines are put. Assumes nothing.
+-- `listing_run::frame::put_poses` is safe: at most four lines are put. Assumes nothing.
 use borrow.Author.Needs.{needs}
 use native.Mathlib.Omega.{arith}
 use Prim.Native.Nat.{_≤_, _-_}
 use mathlib.Core.Path.{_≡_}
 use lib.ListN.{length}
-use Rattle.poses.proofs.frame.put_poses.Statement.{statement}
-use Rattle.poses.proofs.frame.put_poses.Tie as tie
-use Rattle.poses.proofs.frame.put_poses.Reads as reads
-use Rattle.poses.proofs.frame.put_poses.Lts as lts
+use Rattle.listing_run.proofs.frame.put_poses.Statement.{statement}
+use Rattle.listing_run.proofs.frame.put_poses.Tie as tie
+use Rattle.listing_run.proofs.frame.put_poses.Reads as reads
+use Rattle.listing_run.proofs.frame.put_poses.Lts as lts
 use Rattle.listing.proofs.line.put_pose.Reads as put-pose-reads
 
 abbrev Inv-loop : tie.InvT-loop
