@@ -1,18 +1,17 @@
 // The run: records are listed one after another, and the input is read on where a record is not there whole.
 ghost use Prim.Native.Nat.{_≤_};
+use crate::frame::FRAME;
 use crate::frame::put_frame;
 use crate::stream::Filling;
 use crate::stream::fill;
 use crate::stream::flush;
+use listing::line::left;
 use listing::line::put_end;
 use listing::line::put_header;
 use listing::line::put_refused;
 use listing::line::put_stop;
 use records::record::Record;
 use records::record::read;
-
-// A frame has at most five lines, of at most 320 bytes.
-const FRAME: usize = 1600;
 
 pub struct State {
     // How many bytes of the input's buffer are filled, and where in it the next record begins.
@@ -35,11 +34,6 @@ fn least(a: usize, b: usize) -> usize
     ensures { λ r. ⌜ r ≤ b ⌝ }
 {
     if a < b { a } else { b }
-}
-
-// How many bytes are left from `at` on.
-fn room(size: usize, at: usize) -> usize {
-    if at < size { size - at } else { 0 }
 }
 
 // Closes the listing with its last line: `end`, or `stop` with a refusal's number.
@@ -140,7 +134,7 @@ fn take(fd: i32, input: &mut [u8], out: &mut [u8], state: State) -> Turn {
 // Writes what waits where there is no room for a frame's lines, and otherwise takes the next record.
 fn step(fd: i32, input: &mut [u8], out: &mut [u8], state: State) -> Turn {
     let at = state.at;
-    if room(out.len(), at) < FRAME {
+    if left(out.len(), at) < FRAME {
         if !flush(out, at) {
             return Turn::Over;
         }
