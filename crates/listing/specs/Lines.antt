@@ -1,5 +1,5 @@
 -- The lines of the listing, as bytes, and what putting one into a slice leaves. From document 01, "Frame records and their listing".
-use Prim.Native.Nat.{ℕ, _+_, _-_}
+use Prim.Native.Nat.{ℕ, _+_, _-_, _≤_}
 use mathlib.Core.Path.{_≡_}
 use mathlib.Core.Bool.{Bool, cond}
 use mathlib.Core.List.{List, _++_}
@@ -47,11 +47,13 @@ stopLine r n = ascii "stop " ++ decimal r ++ ascii " at " ++ decimal n ++ ascii 
 unfoldable pub endLine : ℕ → List ℕ
 endLine n = ascii "end " ++ decimal n ++ ascii "\n"
 
--- a line is put where 320 bytes are left of a slice; every line fits in them
-abbrev pub roomy : List ℕ → ℕ → Bool
-roomy s at = leb 320 (length s - at)
+-- whether so many bytes are left of a slice from a position on
+abbrev pub roomy : ℕ → List ℕ → ℕ → Bool
+roomy room s at = leb room (length s - at)
 
--- After a line has been put from a position on: the next position, and what the slice holds. Without room nothing is put.
-pub record Written (before : List ℕ) (at : ℕ) (line : List ℕ) (next : ℕ) (after : List ℕ) : Type 0 where
-  pub next-at : next ≡ cond (roomy before at) (at + length line) at
-  pub holds : after ≡ cond (roomy before at) (take at before ++ line ++ drop (at + length line) before) before
+-- After a text has been put from a position on, which is done where there is room: the next position, and what the slice holds. Without room
+-- nothing is put. The room is a number of bytes that every such text fits in: 320 for a line.
+pub record Written (room : ℕ) (before : List ℕ) (at : ℕ) (text : List ℕ) (next : ℕ) (after : List ℕ) : Type 0 where
+  pub next-at : next ≡ cond (roomy room before at) (at + length text) at
+  pub holds : after ≡ cond (roomy room before at) (take at before ++ text ++ drop (at + length text) before) before
+  pub fits : next ≤ at + room

@@ -12,7 +12,7 @@ ghost use Rattle.listing.specs.Lines.{Written, headerLine, refusedLine, 
 const LINE: usize = 320;
 
 // How many bytes of `size` are left from `at` on.
-fn left(size: usize, at: usize) -> usize
+pub fn left(size: usize, at: usize) -> usize
     ensures { λ r. ⌜ r ≡ size - at ⌝ }
 {
     if at < size { size - at } else { 0 }
@@ -20,7 +20,7 @@ fn left(size: usize, at: usize) -> usize
 
 // `poses v1`
 pub fn put_header(out: &mut [u8], at: usize) -> usize
-    ensures { λ r. ⌜ Written (now (out .entry)) at headerLine r (now (out .exit)) ⌝ }
+    ensures { λ r. ⌜ Written 320 (now (out .entry)) at headerLine r (now (out .exit)) ⌝ }
 {
     if left(out.len(), at) < LINE {
         return at;
@@ -30,7 +30,7 @@ pub fn put_header(out: &mut [u8], at: usize) -> usize
 
 // `N refused R`
 pub fn put_refused(out: &mut [u8], at: usize, number: u64, refusal: u32) -> usize
-    ensures { λ r. ⌜ Written (now (out .entry)) at (refusedLine number refusal) r (now (out .exit)) ⌝ }
+    ensures { λ r. ⌜ Written 320 (now (out .entry)) at (refusedLine number refusal) r (now (out .exit)) ⌝ }
 {
     if left(out.len(), at) < LINE {
         return at;
@@ -43,7 +43,7 @@ pub fn put_refused(out: &mut [u8], at: usize, number: u64, refusal: u32) -> usiz
 
 // `N poses K best J`
 pub fn put_accepted(out: &mut [u8], at: usize, number: u64, count: u32, best: u32) -> usize
-    ensures { λ r. ⌜ Written (now (out .entry)) at (acceptedLine number count best) r (now (out .exit)) ⌝ }
+    ensures { λ r. ⌜ Written 320 (now (out .entry)) at (acceptedLine number count best) r (now (out .exit)) ⌝ }
 {
     if left(out.len(), at) < LINE {
         return at;
@@ -65,7 +65,7 @@ pub fn put_pose(
     updates: u32,
     pose: Pose,
 ) -> usize
-    ensures { λ r. ⌜ Written (now (out .entry)) at (poseLine number place updates pose) r (now (out .exit)) ⌝ }
+    ensures { λ r. ⌜ Written 320 (now (out .entry)) at (poseLine number place updates pose) r (now (out .exit)) ⌝ }
 {
     if left(out.len(), at) < LINE {
         return at;
@@ -81,7 +81,7 @@ pub fn put_pose(
 
 // `stop R at N`
 pub fn put_stop(out: &mut [u8], at: usize, refusal: u32, number: u64) -> usize
-    ensures { λ r. ⌜ Written (now (out .entry)) at (stopLine refusal number) r (now (out .exit)) ⌝ }
+    ensures { λ r. ⌜ Written 320 (now (out .entry)) at (stopLine refusal number) r (now (out .exit)) ⌝ }
 {
     if left(out.len(), at) < LINE {
         return at;
@@ -95,7 +95,7 @@ pub fn put_stop(out: &mut [u8], at: usize, refusal: u32, number: u64) -> usize
 
 // `end N`
 pub fn put_end(out: &mut [u8], at: usize, records: u64) -> usize
-    ensures { λ r. ⌜ Written (now (out .entry)) at (endLine records) r (now (out .exit)) ⌝ }
+    ensures { λ r. ⌜ Written 320 (now (out .entry)) at (endLine records) r (now (out .exit)) ⌝ }
 {
     if left(out.len(), at) < LINE {
         return at;

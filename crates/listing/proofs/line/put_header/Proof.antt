@@ -10,7 +10,7 @@ left-requires : tie.Need-left-requires
 left-requires c κs = search needs
 
 returns : tie.Need-returns
-returns c = not-written _ _ _ (omega (arith, c .if1 .taken, c .before .left .ensures))
+returns c = not-written _ _ _ _ (omega (arith, c .if1 .taken, c .before .left .ensures))
 
 slice-aggregate-put-text : tie.Need-slice-aggregate-put-text
 slice-aggregate-put-text c = search needs
@@ -26,7 +26,7 @@ unfolding headerLine
 returns-2 c =
     let p1 = c .before .before in
     let start = p1 .before .before .before in
-    written (omega (arith, start .if1 .left, start .before .left .ensures)) (omega arith) (p1 .put-text .ensures)
+    written (omega (arith, start .if1 .left, start .before .left .ensures)) (omega arith) (omega arith) (p1 .put-text .ensures)
 
 pub put-header-spec : {M : Type 1} → statement M
 put-header-spec =

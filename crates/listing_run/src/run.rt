@@ -1,18 +1,17 @@
 // The run: records are listed one after another, and the input is read on where a record is not there whole.
 ghost use Prim.Native.Nat.{_≤_};
+use crate::frame::FRAME;
 use crate::frame::put_frame;
 use crate::stream::Filling;
 use crate::stream::fill;
 use crate::stream::flush;
+use listing::line::left;
 use listing::line::put_end;
 use listing::line::put_header;
 use listing::line::put_refused;
 use listing::line::put_stop;
 use records::record::Record;
 use records::record::read;
-
-// A frame has at most five lines, of at most 320 bytes.
-const FRAME: usize = 1600;
 
 pub struct State {
     // How many bytes of the input's buffer are filled, and where in it the next record begins.
@@ -37,11 +36,6 @@ fn least(a: usize, b: usize) -> usize
     if a < b { a } else { b }
 }
 
-// How many bytes are left from `at` on.
-fn room(size: usize, at: usize) -> usize {
-    if at < size { size - at } else { 0 }
-}
-
 // Closes the listing with its last line: `end`, or `stop` with a refusal's number.
 fn close(out: &mut [u8], at: usize, listed: u64, refusal: u32) -> Turn {
     if refusal == 0 {
@@ -55,7 +49,7 @@ fn close(out: &mut [u8], at: usize, listed: u64, refusal: u32) -> Turn {
 }
 
 // Reads on, from the buffer's begin where all of it has been listed.
-fn read_on(input: &mut [u8], filled: usize, next: usize, listed: u64) -> Turn {
+fn read_on(fd: i32, input: &mut [u8], filled: usize, next: usize, listed: u64) -> Turn {
     if input.len() <= next {
         return Turn::More(State {
             filled: 0,
@@ -65,7 +59,7 @@ fn read_on(input: &mut [u8], filled: usize, next: usize, listed: u64) -> Turn {
             ended: false,
         });
     }
-    let filling = fill(input, filled);
+    let filling = fill(fd, input, filled);
     match filling {
         Filling::Filled(n) => Turn::More(State {
             filled: n,
@@ -86,7 +80,7 @@ fn read_on(input: &mut [u8], filled: usize, next: usize, listed: u64) -> Turn {
 }
 
 // No whole record is there: what waits is written and more is read, or the listing is closed where the input has ended.
-fn wait(input: &mut [u8], out: &mut [u8], state: State, refusal: u32) -> Turn {
+fn wait(fd: i32, input: &mut [u8], out: &mut [u8], state: State, refusal: u32) -> Turn {
     let at = state.at;
     let listed = state.listed;
     if state.ended {
@@ -95,11 +89,11 @@ fn wait(input: &mut [u8], out: &mut [u8], state: State, refusal: u32) -> Turn {
     if !flush(out, at) {
         return Turn::Over;
     }
-    read_on(input, state.filled, state.next, listed)
+    read_on(fd, input, state.filled, state.next, listed)
 }
 
 // Takes the next record where there is room for a frame's lines.
-fn take(input: &mut [u8], out: &mut [u8], state: State) -> Turn {
+fn take(fd: i32, input: &mut [u8], out: &mut [u8], state: State) -> Turn {
     let filled = state.filled;
     let at = state.at;
     let ended = state.ended;
@@ -107,10 +101,10 @@ fn take(input: &mut [u8], out: &mut [u8], state: State) -> Turn {
     let ready = least(filled, input.len());
     let record = read(&input[..ready], state.next);
     match record {
-        Record::End => wait(input, out, state, 0),
+        Record::End => wait(fd, input, out, state, 0),
         Record::Stop { refusal } => {
             if refusal == 9 {
-                return wait(input, out, state, 9);
+                return wait(fd, input, out, state, 9);
             }
             close(out, at, state.listed, refusal)
         }
@@ -138,9 +132,9 @@ fn take(input: &mut [u8], out: &mut [u8], state: State) -> Turn {
 }
 
 // Writes what waits where there is no room for a frame's lines, and otherwise takes the next record.
-fn step(input: &mut [u8], out: &mut [u8], state: State) -> Turn {
+fn step(fd: i32, input: &mut [u8], out: &mut [u8], state: State) -> Turn {
     let at = state.at;
-    if room(out.len(), at) < FRAME {
+    if left(out.len(), at) < FRAME {
         if !flush(out, at) {
             return Turn::Over;
         }
@@ -152,11 +146,11 @@ fn step(input: &mut [u8], out: &mut [u8], state: State) -> Turn {
             ended: state.ended,
         });
     }
-    take(input, out, state)
+    take(fd, input, out, state)
 }
 
 // A proved loop has to end, and nothing says that the input does: turns are counted down from a number that no run uses up.
-pub fn run(input: &mut [u8], out: &mut [u8]) {
+pub(crate) fn run(fd: i32, input: &mut [u8], out: &mut [u8]) {
     let at = put_header(out, 0);
     let mut state = State {
         filled: 0,
@@ -168,7 +162,7 @@ pub fn run(input: &mut [u8], out: &mut [u8]) {
     let mut turns: u64 = 0x7fff_ffff_ffff_ffff;
     while 0 < turns {
         turns -= 1;
-        let Turn::More(s) = step(input, out, state) else {
+        let Turn::More(s) = step(fd, input, out, state) else {
             return;
         };
         state = s;

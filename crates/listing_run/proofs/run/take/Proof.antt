@@ -1,16 +1,16 @@
--- `poses::run::take` is safe: of the buffer no more is read than is filled. Assumes nothing.
+-- `listing_run::run::take` is safe: of the buffer no more is read than is filled. Assumes nothing.
 use native.Mathlib.Omega.{arith}
 use lib.ListN.{length-take}
 use borrow.Author.Needs.{needs}
-use Rattle.poses.proofs.run.take.Statement.{statement}
-use Rattle.poses.proofs.run.take.Tie as tie
-use Rattle.poses.proofs.run.take.Reads as reads
-use Rattle.poses.proofs.run.take.Lts as lts
+use Rattle.listing_run.proofs.run.take.Statement.{statement}
+use Rattle.listing_run.proofs.run.take.Tie as tie
+use Rattle.listing_run.proofs.run.take.Reads as reads
+use Rattle.listing_run.proofs.run.take.Lts as lts
 use Rattle.listing.proofs.line.put_refused.Reads as put-refused-reads
-use Rattle.poses.proofs.frame.put_frame.Reads as put-frame-reads
-use Rattle.poses.proofs.run.close.Reads as close-reads
-use Rattle.poses.proofs.run.least.Reads as least-reads
-use Rattle.poses.proofs.run.wait.Reads as wait-reads
+use Rattle.listing_run.proofs.frame.put_frame.Reads as put-frame-reads
+use Rattle.listing_run.proofs.run.close.Reads as close-reads
+use Rattle.listing_run.proofs.run.least.Reads as least-reads
+use Rattle.listing_run.proofs.run.wait.Reads as wait-reads
 use Rattle.records.proofs.record.read.Reads as read-reads
 use Rattle.std.proofs.num.wrapping_add_u64.Reads as wrapping-add-u64-reads
 

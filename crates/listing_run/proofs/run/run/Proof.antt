@@ -1,20 +1,20 @@
--- `poses::run::run` is safe and ends: its turns are counted down. Assumes nothing.
+-- `listing_run::run::run` is safe and ends: its turns are counted down. Assumes nothing.
 use borrow.Author.Needs.{needs}
 use native.Mathlib.Omega.{arith}
 use mathlib.Core.Path.{_≡_}
 use lib.ListN.{length}
-use Rattle.poses.proofs.run.run.Statement.{statement}
-use Rattle.poses.proofs.run.run.Tie as tie
-use Rattle.poses.proofs.run.run.Reads as reads
-use Rattle.poses.proofs.run.run.Lts as lts
+use Rattle.listing_run.proofs.run.run.Statement.{statement}
+use Rattle.listing_run.proofs.run.run.Tie as tie
+use Rattle.listing_run.proofs.run.run.Reads as reads
+use Rattle.listing_run.proofs.run.run.Lts as lts
 use Rattle.listing.proofs.line.put_header.Reads as put-header-reads
-use Rattle.poses.proofs.run.step.Reads as step-reads
+use Rattle.listing_run.proofs.run.step.Reads as step-reads
 
 abbrev Inv-loop : tie.InvT-loop
-Inv-loop input₀ out₀ at state₀ turns₀ input out state turns = (length input ≡ length input₀) × (length out ≡ length out₀)
+Inv-loop fd input₀ out₀ at state₀ turns₀ input out state turns = (length input ≡ length input₀) × (length out ≡ length out₀)
 
 abbrev μ-loop : tie.MeasureT-loop
-μ-loop input₀ out₀ at state₀ turns₀ input out state turns = turns
+μ-loop fd input₀ out₀ at state₀ turns₀ input out state turns = turns
 
 put-header-requires : tie.Need-put-header-requires Inv-loop μ-loop
 put-header-requires c κs = search needs

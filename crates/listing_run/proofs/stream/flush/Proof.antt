@@ -1,11 +1,11 @@
--- `poses::stream::flush` is safe: no more is written than there is. Assumes nothing.
+-- `listing_run::stream::flush` is safe: no more is written than there is. Assumes nothing.
 use native.Mathlib.Omega.{arith}
 use lib.ListN.{length-take}
 use borrow.Author.Needs.{needs}
-use Rattle.poses.proofs.stream.flush.Statement.{statement}
-use Rattle.poses.proofs.stream.flush.Tie as tie
-use Rattle.poses.proofs.stream.flush.Reads as reads
-use Rattle.poses.proofs.stream.flush.Lts as lts
+use Rattle.listing_run.proofs.stream.flush.Statement.{statement}
+use Rattle.listing_run.proofs.stream.flush.Tie as tie
+use Rattle.listing_run.proofs.stream.flush.Reads as reads
+use Rattle.listing_run.proofs.stream.flush.Lts as lts
 use Rattle.io.proofs.write_all.Reads as write-all-reads
 
 returns : tie.Need-returns

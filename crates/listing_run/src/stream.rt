@@ -1,6 +1,5 @@
-// Standard input and output, in parts.
+// The input, by its file descriptor, and standard output, in parts.
 use libc::EINTR;
-use libc::STDIN_FILENO;
 use libc::STDOUT_FILENO;
 
 // What reading once leads to.
@@ -13,12 +12,12 @@ pub enum Filling {
 }
 
 // Reads once into `input`, of which `filled` bytes are filled already.
-pub fn fill(input: &mut [u8], filled: usize) -> Filling {
+pub fn fill(fd: i32, input: &mut [u8], filled: usize) -> Filling {
     if input.len() <= filled {
         return Filling::Failed;
     }
     let part = &mut input[filled..];
-    let got = libc::read(STDIN_FILENO, part);
+    let got = libc::read(fd, part);
     if got == 0 {
         return Filling::End;
     }

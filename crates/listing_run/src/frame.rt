@@ -1,10 +1,18 @@
-// The lines of one record: a frame's solve, the choice of a pose and the poses.
+// The lines of a frame: its solve, the choice of a pose and the poses.
+ghost use mathlib.Core.Path.{_≡_};
+ghost use Prim.Native.Nat.{_+_, _≤_, min};
+ghost use lib.ListN.{length};
+ghost use Rattle.choice.specs.Answer.{place};
+ghost use Rattle.listing.specs.Bytes.{Stored};
+ghost use Rattle.listing.specs.Lines.{Written};
+ghost use Rattle.listing_run.specs.FrameLines.{poseLines, answerLines, frameLines};
 use choice::choose::Choice;
 use choice::choose::choose;
 use lambdatwist::solve::Answer;
 use lambdatwist::solve::solve;
 use linalg::pose::Pose;
 use linalg::vector3::Vector3;
+use listing::line::left;
 use listing::line::put_accepted;
 use listing::line::put_pose;
 use listing::line::put_refused;
@@ -12,12 +20,24 @@ use p3p_common::input::Bearings;
 use p3p_common::input::World;
 use records::frame::Frame;
 
+// A frame has at most five lines, of at most 320 bytes.
+pub(crate) const FRAME: usize = 1600;
+
 // The place of the chosen pose, from 1, or 0 where the choice refuses.
-fn place_of(choice: Choice) -> u32 {
+fn place_of(choice: Choice) -> u32
+    ensures { λ r. ⌜ r ≡ place choice ⌝ }
+{
     match choice {
         Choice::Best(place, _) => place,
         Choice::Refused(_) => 0,
     }
+}
+
+// How many lines of poses an answer has.
+fn listed(count: u32) -> u32
+    ensures { λ r. ⌜ r ≡ min count 4 ⌝ }
+{
+    if count < 4 { count } else { 4 }
 }
 
 // Puts a line for each of the first `count` poses.
@@ -28,13 +48,15 @@ fn put_poses(
     count: u32,
     poses: [Pose; 4],
     updates: [u32; 4],
-) -> usize {
+) -> usize
+    requires { ⌜ at + 1280 ≤ length (now out) ⌝ }
+    ensures { λ r. ⌜ Stored (now (out .entry)) at (poseLines number poses updates (min count 4)) r (now (out .exit)) ⌝ }
+    ensures { λ r. ⌜ r ≤ at + 1280 ⌝ }
+{
+    let n = listed(count);
     let mut next = at;
     let mut place: u32 = 0;
-    while place < 4 {
-        if count <= place {
-            return next;
-        }
+    while place < n {
         let pose = poses[place as usize];
         let made = updates[place as usize];
         place += 1;
@@ -51,7 +73,11 @@ fn put_answer(
     answer: Answer,
     target: Vector3,
     bearing: Vector3,
-) -> usize {
+) -> usize
+    requires { ⌜ at + 1600 ≤ length (now out) ⌝ }
+    ensures { λ r. ⌜ Stored (now (out .entry)) at (answerLines number answer target bearing) r (now (out .exit)) ⌝ }
+    ensures { λ r. ⌜ r ≤ at + 1600 ⌝ }
+{
     let refusal = answer.refusal;
     if refusal != 0 {
         return put_refused(out, at, number, refusal);
@@ -64,8 +90,14 @@ fn put_answer(
     put_poses(out, next, number, count, poses, updates)
 }
 
-// Puts the lines of a frame: its solve, and the answer.
-pub fn put_frame(out: &mut [u8], at: usize, number: u64, frame: Frame) -> usize {
+// Puts the lines of a frame: its solve, and the answer. Where fewer than 1,600 bytes are left, which every frame's lines fit in, it puts
+// nothing and returns `at`.
+pub fn put_frame(out: &mut [u8], at: usize, number: u64, frame: Frame) -> usize
+    ensures { λ r. ⌜ Written 1600 (now (out .entry)) at (frameLines number frame) r (now (out .exit)) ⌝ }
+{
+    if left(out.len(), at) < FRAME {
+        return at;
+    }
     let p0 = frame.world0;
     let p1 = frame.world1;
     let p2 = frame.world2;

@@ -1,0 +1,36 @@
+-- The poses' lines, put one after another: none, and one more. Assumes nothing.
+use Prim.Native.Nat.{ℕ, zero, suc, _+_, _≤_, _<_}
+use mathlib.Core.Path.{_≡_, refl}
+use mathlib.Core.List.{List, [], _∷_, _++_}
+use native.Mathlib.Nat.{le-of-suc-le-suc}
+use native.Mathlib.Numerals.{add-one}
+use native.Mathlib.Omega.{arith}
+use lib.ListN.{length, getD}
+use Rattle.linalg.specs.Matrices.{zeroPose}
+use Rattle.linalg.specs.declared.pose.Pose.{Pose}
+use Rattle.listing.specs.Bytes.{Stored}
+use Rattle.listing.specs.Lines.{Written, poseLine}
+use Rattle.listing.proofs.Storing.{then, stored-as}
+use Rattle.listing.proofs.Writing.{stored}
+use Rattle.listing_run.specs.FrameLines.{poseLines}
+
+-- inside a list what is read past its end does not matter
+inside-same : (l : List Pose) (i : ℕ) (d e : Pose) → i < length l → getD l i d ≡ getD l i e
+inside-same [] i d e h = absurd (omega arith)
+inside-same (a ∷ l) zero d e h = refl
+inside-same (a ∷ l) (suc i) d e h = inside-same l i d e (le-of-suc-le-suc h)
+
+module _ (n : ℕ) (poses : List Pose) (updates : List ℕ) where
+  pub none-stored : (l : List ℕ) (at : ℕ) → Stored l at (poseLines n poses updates 0) at l
+  unfolding poseLines
+  none-stored l at = record { next-at = omega arith; holds = refl }
+
+  one-more : (k : ℕ) (d : Pose) → k < length poses → poseLines n poses updates k ++ poseLine n (k + 1) (getD updates k 0) (getD poses k d) ≡ poseLines n poses updates (k + 1)
+  unfolding poseLines
+  one-more k d h = rw (add-one, inside-same poses k d zeroPose h)
+
+  -- after the first k lines the next one is put, for which there is room
+  pub next-stored : {l l′ l″ : List ℕ} {at next end : ℕ} (k : ℕ) (d : Pose) → k < length poses → next + 320 ≤ length l′
+      → Stored l at (poseLines n poses updates k) next l′ → Written 320 l′ next (poseLine n (k + 1) (getD updates k 0) (getD poses k d)) end l″
+      → Stored l at (poseLines n poses updates (k + 1)) end l″
+  next-stored k d h room s w = stored-as (one-more k d h) (then s (stored room w))
