@@ -1,5 +1,5 @@
--- What the proofs of several functions use.
+-- What the proofs of several functions use. `KeptPoses` is also for the theorems about the whole solve.
 mod NoRoot
 mod PoseTurns
-mod PoseCount
+pub mod KeptPoses
 mod Retries

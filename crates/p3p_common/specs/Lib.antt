@@ -1,4 +1,4 @@
--- The definitions that the contracts of this crate cite, in the order of a solve, and the relations of the scaling rule between two runs.
+-- The definitions that the contracts of this crate cite, in the order of a solve; what the slots hold; and the relations of the scaling rule between two runs.
 pub mod Literal
 pub mod Input
 pub mod RefineDepths
@@ -11,5 +11,6 @@ pub mod ProjectedPose
 pub mod Gate
 pub mod Slots
 pub mod PushPose
+pub mod PoseSlots
 pub mod PoseScaling
 pub mod Cases

@@ -1,4 +1,5 @@
--- The scaling laws of the stages, in the order of a solve, up to the scaling rule; what is stated of the choice of permutation; and the marked cases.
+-- The answer to eighteen doubles; the scaling laws of the stages, in the order of a solve, up to the scaling rule; what is stated of the choice of permutation; and the marked cases.
+pub mod OneAnswer
 mod Equal
 mod EdgeScaling
 mod CubicScaling

@@ -1,6 +1,6 @@
 -- `lambdatwist::solve::refused` meets its contract. Assumes nothing.
 use borrow.Author.Needs.{needs}
-use Rattle.lambdatwist.proofs.PoseCount.{empty-few}
+use Rattle.p3p_common.proofs.SlotLaws.{empty-kept}
 use Rattle.lambdatwist.specs.Solve.{refused}
 use Rattle.lambdatwist.proofs.solve.refused.Statement.{statement}
 use Rattle.lambdatwist.proofs.solve.refused.Tie as tie
@@ -9,7 +9,7 @@ empty-requires : tie.Need-empty-requires
 empty-requires c κs = search needs
 
 answered-requires : tie.Need-answered-requires
-answered-requires c κs = rw (c .empty .ensures) empty-few
+answered-requires c κs = rw (c .empty .ensures) (empty-kept .few)
 
 returns : tie.Need-returns
 unfolding refused

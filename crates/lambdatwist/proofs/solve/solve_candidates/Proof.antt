@@ -1,6 +1,6 @@
 -- `lambdatwist::solve::solve_candidates` meets its contract. Assumes nothing.
 use borrow.Author.Needs.{needs}
-use Rattle.lambdatwist.proofs.PoseCount.{poses-few}
+use Rattle.lambdatwist.proofs.KeptPoses.{poses-kept}
 use Rattle.lambdatwist.specs.Solve.{solveCandidates, orSingular}
 use Rattle.lambdatwist.proofs.solve.solve_candidates.Statement.{statement}
 use Rattle.lambdatwist.proofs.solve.solve_candidates.Tie as tie
@@ -25,7 +25,7 @@ poses-requires : tie.Need-poses-requires
 poses-requires c κs = search needs
 
 if-kept-requires : tie.Need-if-kept-requires
-if-kept-requires c κs = rw (c .poses .ensures) (poses-few _ _ _ _ _)
+if-kept-requires c κs = rw (c .poses .ensures) (poses-kept _ _ _ _ _ .few)
 
 returns-2 : tie.Need-returns-2
 unfolding solveCandidates orSingular

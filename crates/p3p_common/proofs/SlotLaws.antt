@@ -1,0 +1,109 @@
+-- The slots of a solve hold what specs/PoseSlots.antt says: at the start, and after a pose is pushed that took at most five updates. The refinement with five turns makes at most five. Assumes nothing.
+use mathlib.Core.Path.{_≡_, refl, ap, _∙_, subst⁻¹}
+use mathlib.Core.Logic.{_⊎_, inl, inr}
+use mathlib.Core.List.{List, [], _∷_}
+use Prim.Native.Nat.{ℕ, zero, suc, _+_, _≤_, _<_}
+use native.Mathlib.Nat.{not-suc-le-zero, le-of-suc-le-suc, eq-or-lt-of-le}
+use native.Mathlib.Omega.{arith}
+use lib.Dec.{T, ltb, ltb→lt}
+use lib.ListN.{length, getD, set, replicate, length-set}
+use lib.Ieee.{Float}
+use Rattle.linalg.specs.Vectors.{allFinite}
+use Rattle.linalg.specs.Matrices.{zeroPose, matFinite}
+use Rattle.linalg.specs.declared.vector3.Vector3.{Vector3}
+use Rattle.linalg.specs.declared.matrix3.Matrix3.{Matrix3}
+use Rattle.linalg.specs.declared.pose.Pose.{Pose}
+use Rattle.p3p_common.specs.declared.input.P3pInput.{P3pInput}
+use Rattle.p3p_common.specs.declared.gate.Gated.{Gated}
+use Rattle.p3p_common.specs.declared.gate.Gated.the-variants.{Passed, Projected, Dropped}
+use Rattle.p3p_common.specs.declared.solutions.Solutions.{Solutions}
+use Rattle.p3p_common.specs.declared.refine_depths.SquaredEdges.{SquaredEdges}
+use Rattle.p3p_common.specs.declared.refine_depths.Cosines.{Cosines}
+use Rattle.p3p_common.specs.declared.refine_depths.Step.{Step}
+use Rattle.p3p_common.specs.declared.refine_depths.Step.the-variants.{Next, Stop}
+use Rattle.p3p_common.specs.RefineDepths.{depthStep, afterStep, refineTurns, refineDepths}
+use Rattle.p3p_common.specs.Gate.{gate}
+use Rattle.p3p_common.specs.Slots.{empty, push}
+use Rattle.p3p_common.specs.PushPose.{pushGated, pushPose}
+use Rattle.p3p_common.specs.PoseSlots.{Filled, FinitePose, PoseSlots}
+use Rattle.p3p_common.proofs.FiniteGate.{either-way, FiniteGated, gate-finite}
+
+-- ---- a list of slots
+module _ {A : Type 0} where
+  set-there : (l : List A) (i : ℕ) (a d : A) → i < length l → getD (set l i a) i d ≡ a
+  set-there [] i a d h = absurd (not-suc-le-zero h)
+  set-there (x ∷ l) zero a d h = refl
+  set-there (x ∷ l) (suc i) a d h = set-there l i a d (le-of-suc-le-suc h)
+
+  set-elsewhere : (l : List A) (i j : ℕ) (a d : A) → (i ≡ j → ⊥) → getD (set l i a) j d ≡ getD l j d
+  set-elsewhere [] i j a d h = refl
+  set-elsewhere (x ∷ l) zero zero a d h = absurd (h refl)
+  set-elsewhere (x ∷ l) zero (suc j) a d h = refl
+  set-elsewhere (x ∷ l) (suc i) zero a d h = refl
+  set-elsewhere (x ∷ l) (suc i) (suc j) a d h = set-elsewhere l i j a d (λ e. h (ap suc e))
+
+  all-alike : (n i : ℕ) (d : A) → getD (replicate n d) i d ≡ d
+  all-alike zero i d = refl
+  all-alike (suc n) zero d = refl
+  all-alike (suc n) (suc i) d = all-alike n i d
+
+  pub none-filled : (Holds : A → Type 0) (d : A) → Filled Holds d 0 (d ∷ d ∷ d ∷ d ∷ [])
+  none-filled Holds d = record { four = refl; held = λ i h. absurd (not-suc-le-zero h); rest = λ i h. all-alike 4 i d }
+
+  -- the next slot is filled
+  module _ (Holds : A → Type 0) (d : A) (n : ℕ) (l : List A) (a : A) (room : n < 4) (s : Filled Holds d n l) where
+    held-at : Holds a → (i : ℕ) → (i ≡ n) ⊎ (i < n) → Holds (getD (set l n a) i d)
+    held-at h i (inl e) = subst⁻¹ (λ (j : ℕ). Holds (getD (set l n a) j d)) e (subst⁻¹ Holds (set-there l n a d (subst⁻¹ (λ (k : ℕ). n < k) (s .four) room)) h)
+    held-at h i (inr below) = subst⁻¹ Holds (set-elsewhere l n i a d (λ e. omega arith)) (s .held i below)
+
+    pub next-filled : Holds a → Filled Holds d (n + 1) (set l n a)
+    next-filled h = record {
+      four = length-set l n a ∙ s .four;
+      held = λ i below. let le : i ≤ n = omega arith in held-at h i (eq-or-lt-of-le le);
+      rest = λ i beyond. set-elsewhere l n i a d (λ e. omega arith) ∙ s .rest i (omega arith);
+    }
+
+-- ---- the solutions
+abbrev pub Kept : Solutions → Type 0
+Kept s = PoseSlots (s .count) (s .poses) (s .updates)
+
+pub empty-kept : Kept empty
+unfolding empty
+empty-kept = record { few = omega arith; poses = none-filled FinitePose zeroPose; updates = none-filled (λ (n : ℕ). n ≤ 5) 0 }
+
+push-kept : (s : Solutions) (p : Pose) (u : ℕ) → FinitePose p → u ≤ 5 → Kept s → Kept (push s p u)
+unfolding push
+push-kept s p u f h k =
+    either-way Kept (ltb (s .count) 4)
+    (λ t. let room : s .count < 4 = ltb→lt (s .count) 4 t in record {
+      few = omega arith;
+      poses = next-filled FinitePose zeroPose (s .count) (s .poses) p room (k .poses) f;
+      updates = next-filled (λ (n : ℕ). n ≤ 5) 0 (s .count) (s .updates) u room (k .updates) h;
+    })
+    (λ _. k)
+
+pushGated-kept : (s : Solutions) (g : Gated) (u : ℕ) → FiniteGated g → u ≤ 5 → Kept s → Kept (pushGated s g u)
+unfolding pushGated
+pushGated-kept s (Passed p) u f h k = push-kept s p u f h k
+pushGated-kept s (Projected p) u f h k = push-kept s p u f h k
+pushGated-kept s Dropped u f h k = k
+
+pub pushPose-kept : (input : P3pInput) (s : Solutions) (r : Matrix3) (t : Vector3) (u : ℕ) → (T (allFinite t) → T (matFinite r)) → u ≤ 5 → Kept s → Kept (pushPose input s r t u .value)
+unfolding pushPose
+pushPose-kept input s r t u whole h k = pushGated-kept s (gate input r t .value) u (gate-finite input r t whole) h k
+
+-- ---- the updates of a refinement
+module _ (edges : SquaredEdges) (cosines : Cosines) where
+  turns-few : (n : ℕ) (d : Vector3) (tolerance : Float) (u : ℕ) → refineTurns n d edges cosines tolerance u .value .updates ≤ u + n
+  unfolding refineTurns afterStep
+  turns-few zero d tolerance u = omega arith
+  turns-few (suc n) d tolerance u = go (depthStep d edges cosines tolerance .value) (λ v. turns-few n v tolerance (u + 1))
+    where
+      go : (step : Step) → ((v : Vector3) → refineTurns n v edges cosines tolerance (u + 1) .value .updates ≤ u + 1 + n)
+          → afterStep step (record { depths = d; updates = u }) (λ v. refineTurns n v edges cosines tolerance (u + 1)) .value .updates ≤ u + suc n
+      go Stop rest = omega arith
+      go (Next v) rest = let r = rest v in omega arith
+
+  pub updates-few : (d : Vector3) (n : ℕ) → refineDepths d edges cosines n .value .updates ≤ n
+  unfolding refineDepths
+  updates-few d n = let h : refineDepths d edges cosines n .value .updates ≤ 0 + n = turns-few n d _ 0 in omega arith

@@ -1,0 +1,133 @@
+-- Demand 1 of the mission, as specs/OneAnswer.antt states it: the answer to eighteen doubles is one to four finite poses or number 1, 2 or 3. Assumes nothing.
+use mathlib.Core.Path.{refl}
+use mathlib.Core.Bool.{Bool, true, false, not, _&&_, _||_}
+use Prim.Native.Nat.{ℕ, zero, suc, _≤_}
+use native.Mathlib.Omega.{arith}
+use lib.Dec.{T, eqb}
+use lib.Ieee.{Float, binary64, mul, le}
+use lib.Ieee.Fits.{and-i}
+use Rattle.ieee754.specs.Literal.{sixtyFour, epsilon}
+use Rattle.ieee754.specs.Traced.{Traced, pure}
+use Rattle.ieee754.proofs.Order.{or-left, or-right}
+use Rattle.linalg.specs.declared.vector3.Vector3.{Vector3}
+use Rattle.linalg.specs.declared.matrix3.Matrix3.{Matrix3}
+use Rattle.polynomial.specs.declared.Roots.{Roots}
+use Rattle.polynomial.specs.declared.Roots.the-variants as roots
+use Rattle.p3p_common.specs.declared.input.World.{World}
+use Rattle.p3p_common.specs.declared.input.Bearings.{Bearings}
+use Rattle.p3p_common.specs.declared.input.P3pInput.{P3pInput}
+use Rattle.p3p_common.specs.declared.refine_depths.SquaredEdges.{SquaredEdges}
+use Rattle.p3p_common.specs.declared.refine_depths.Cosines.{Cosines}
+use Rattle.p3p_common.specs.declared.world_basis_inverse.Basis.{Basis}
+use Rattle.p3p_common.specs.declared.world_basis_inverse.Basis.the-variants.{Inverse, Singular}
+use Rattle.p3p_common.specs.declared.solutions.Solutions.{Solutions}
+use Rattle.p3p_common.specs.Input.{inputFinite}
+use Rattle.p3p_common.specs.Slots.{empty}
+use Rattle.p3p_common.proofs.FiniteGate.{either-way}
+use Rattle.p3p_common.proofs.SlotLaws.{Kept}
+use Rattle.eigen.specs.declared.known_zero.Eigensystem.{Eigensystem}
+use Rattle.eigen.specs.declared.known_zero.Eigensystem.the-variants.{Found, NotFound}
+use Rattle.eigen.specs.declared.ratio.Ratio.{Ratio}
+use Rattle.eigen.specs.declared.ratio.Ratio.the-variants.{Real, NotReal}
+use Rattle.lambdatwist.specs.Permutation.{bestPermutation}
+use Rattle.lambdatwist.specs.Solve.{answered, refused, ifKept, orNoRoot, orNoSystem, orNoRatio, orSingular, solveCandidates, solveRoot, solveCubic, orderedOr, bestOr, solveOrdered, solve}
+use Rattle.theorems.specs.OneAnswer.{Accepted, Refused, orderingUnusable, noOrdering, OneAnswer, refused-1, refused-2, refused-3, accepted}
+use Rattle.depths.specs.declared.edges.EdgeVectors.{EdgeVectors}
+use Rattle.depths.specs.declared.angles.Factors.{Factors}
+use Rattle.depths.specs.declared.cubic.Coefficients.{Coefficients}
+use Rattle.depths.specs.declared.candidates.Candidates.{Candidates}
+use Rattle.lambdatwist.specs.declared.poses.View.{View}
+use Rattle.lambdatwist.specs.declared.solve.Answer.{Answer}
+use Rattle.lambdatwist.proofs.KeptPoses.{poses-kept}
+
+-- ---- the two kinds of answer
+refused-so : (n : ℕ) → Refused n (refused n)
+unfolding refused answered empty
+refused-so n = record { refusal = refl; count = refl; poses = refl; updates = refl }
+
+positive : (n : ℕ) → T (not (eqb n 0)) → 1 ≤ n
+positive zero h = absurd h
+positive (suc n) h = omega arith
+
+ifKept-so : (P : Answer → Type 0) → P (refused 3) → ((a : Answer) → Accepted a → P a) → (s : Solutions) → Kept s → P (ifKept s)
+unfolding ifKept answered
+ifKept-so P three found s k = either-way P (eqb (s .count) 0) (λ _. three) (λ some. found _ (record { refusal = refl; one-or-more = positive (s .count) some; slots = k }))
+
+-- ---- from a usable ordering on: what is true of number 3 and of every accepted answer is true of the answer
+module _ (P : Answer → Type 0) (three : P (refused 3)) (found : (a : Answer) → Accepted a → P a) where
+  abbrev Gives : Traced Answer → Type 0
+  Gives m = P (m .value)
+
+  orNoRoot-gives : (r : Roots) (f : Float → Traced Answer) → ((g : Float) → Gives (f g)) → Gives (orNoRoot r f)
+  unfolding orNoRoot
+  orNoRoot-gives (roots.One g) f h = h g
+  orNoRoot-gives (roots.Two x y) f h = three
+  orNoRoot-gives (roots.Refused n) f h = three
+
+  orNoSystem-gives : (s : Eigensystem) (f : Matrix3 → Vector3 → Traced Answer) → ((m : Matrix3) (v : Vector3) → Gives (f m v)) → Gives (orNoSystem s f)
+  unfolding orNoSystem
+  orNoSystem-gives (Found m v) f h = h m v
+  orNoSystem-gives NotFound f h = three
+
+  orNoRatio-gives : (r : Ratio) (f : Float → Traced Answer) → ((x : Float) → Gives (f x)) → Gives (orNoRatio r f)
+  unfolding orNoRatio
+  orNoRatio-gives (Real x) f h = h x
+  orNoRatio-gives NotReal f h = three
+
+  orSingular-gives : (b : Basis) (f : Matrix3 → Traced Answer) → ((m : Matrix3) → Gives (f m)) → Gives (orSingular b f)
+  unfolding orSingular
+  orSingular-gives (Inverse m) f h = h m
+  orSingular-gives Singular f h = three
+
+  module _ (view : View) (vectors : EdgeVectors) (edges : SquaredEdges) (angles : Cosines) where
+    solveCandidates-gives : (c : Candidates) → Gives (solveCandidates view vectors edges angles c)
+    unfolding solveCandidates
+    solveCandidates-gives c = orSingular-gives _ _ (λ m. ifKept-so P three found _ (poses-kept view edges angles m c))
+
+    solveRoot-gives : (b : Factors) (g : Float) → Gives (solveRoot view vectors edges angles b g)
+    unfolding solveRoot
+    solveRoot-gives b g = orNoSystem-gives _ _ (λ m v. orNoRatio-gives _ _ (λ x. solveCandidates-gives _))
+
+    solveCubic-gives : (b : Factors) (c : Coefficients) → Gives (solveCubic view vectors edges angles b c)
+    unfolding solveCubic
+    solveCubic-gives b c = orNoRoot-gives _ _ (λ g. solveRoot-gives b g)
+
+-- ---- question 2: the given ordering, or else the best of the others
+given-usable : (given low best : Bool) → T (not given) → T (not (given && (low || best)))
+given-usable true low best h = absurd h
+given-usable false low best h = tt
+
+best-usable : (given low best : Bool) → T (not low) → T (not best) → T (not (given && (low || best)))
+best-usable true true best h k = absurd h
+best-usable true false best h k = k
+best-usable false low best h k = tt
+
+module _ (input : P3pInput) (finite : T (inputFinite input)) where
+  -- one ordering: what it leads to where it is unusable, and where it is usable
+  ordering-one : (retry : P3pInput → Traced Answer) (view : View) → (T (orderingUnusable (view .world) (view .bearings)) → OneAnswer input (retry (view .input) .value))
+      → (T (not (orderingUnusable (view .world) (view .bearings))) → T (not (noOrdering input))) → OneAnswer input (orderedOr retry view .value)
+  unfolding orderedOr orderingUnusable
+  ordering-one retry view unusable usable =
+      either-way (λ (m : Traced Answer). OneAnswer input (m .value)) (orderingUnusable (view .world) (view .bearings)) unusable
+      (λ u. solveCubic-gives (OneAnswer input) (refused-3 finite (usable u) (refused-so 3)) (λ a. accepted finite (usable u)) view _ _ _ _ _)
+
+  orderings-one : OneAnswer input (solveOrdered 1 (record { input = input; world = input .world; bearings = input .bearings }) .value)
+  unfolding solveOrdered bestOr noOrdering
+  orderings-one =
+      let best = bestPermutation input .value in
+      let given : Bool = orderingUnusable (input .world) (input .bearings) in
+      let low : Bool = le (best .condition) (mul binary64 sixtyFour epsilon) in
+      let other : Bool = orderingUnusable (best .world) (best .bearings) in
+      ordering-one (bestOr (solveOrdered 0)) (record { input = input; world = input .world; bearings = input .bearings })
+      (λ g. either-way (λ (m : Traced Answer). OneAnswer input (m .value)) low
+      (λ l. refused-2 finite (and-i given (low || other) g (or-left low other l)) (refused-so 2))
+      (λ n. ordering-one (λ _. pure (refused 2)) (record { input = input; world = best .world; bearings = best .bearings })
+      (λ o. refused-2 finite (and-i given (low || other) g (or-right low other o)) (refused-so 2))
+      (best-usable given low other n)))
+      (given-usable given low other)
+
+pub one-answer : (world : World) (bearings : Bearings) → OneAnswer (record { world = world; bearings = bearings }) (solve world bearings .value)
+unfolding solve
+one-answer world bearings =
+    let input : P3pInput = record { world = world; bearings = bearings } in
+    either-way (λ (m : Traced Answer). OneAnswer input (m .value)) (inputFinite input) (λ finite. orderings-one input finite) (λ not-finite. refused-1 not-finite (refused-so 1))

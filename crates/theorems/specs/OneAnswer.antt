@@ -1,0 +1,52 @@
+-- Demand 1 of the mission, for the solve: the answer to eighteen doubles, finite or not, is one to four poses or number 1, 2 or 3; a refusal holds no pose and plus zero in every slot. That it holds of
+-- every input and the answer of `solve` to it is `one-answer` in the proofs.
+use mathlib.Core.Path.{_≡_}
+use mathlib.Core.Bool.{Bool, not, _&&_, _||_}
+use mathlib.Core.List.{[], _∷_}
+use Prim.Native.Nat.{ℕ, _≤_}
+use lib.Dec.{T}
+use lib.Ieee.{binary64, mul, le}
+use Rattle.ieee754.specs.Literal.{sixtyFour, epsilon}
+use Rattle.linalg.specs.Matrices.{zeroPose}
+use Rattle.p3p_common.specs.Input.{inputFinite}
+use Rattle.p3p_common.specs.PoseSlots.{PoseSlots}
+use Rattle.p3p_common.specs.declared.input.World.{World}
+use Rattle.p3p_common.specs.declared.input.Bearings.{Bearings}
+use Rattle.p3p_common.specs.declared.input.P3pInput.{P3pInput}
+use Rattle.depths.specs.Edges.{edgeVectors, squaredEdges}
+use Rattle.depths.specs.Angles.{cosines, squaredSines}
+use Rattle.depths.specs.Cubic.{cubicCoefficients, isUnusable}
+use Rattle.lambdatwist.specs.Permutation.{bestPermutation}
+use Rattle.lambdatwist.specs.declared.solve.Answer.{Answer}
+
+-- One to four poses and no refusal. `PoseSlots` says that there are at most four, that their twelve numbers are finite, that each took at most five updates, and that the slots beyond the count hold
+-- plus zeros and 0.
+pub record Accepted (answer : Answer) : Type 0 where
+  pub refusal : answer .refusal ≡ 0
+  pub one-or-more : 1 ≤ answer .count
+  pub slots : PoseSlots (answer .count) (answer .poses) (answer .updates)
+
+-- refused with a number: no pose, and plus zeros and 0 in all four slots
+pub record Refused (number : ℕ) (answer : Answer) : Type 0 where
+  pub refusal : answer .refusal ≡ number
+  pub count : answer .count ≡ 0
+  pub poses : answer .poses ≡ zeroPose ∷ zeroPose ∷ zeroPose ∷ zeroPose ∷ []
+  pub updates : answer .updates ≡ 0 ∷ 0 ∷ 0 ∷ 0 ∷ []
+
+-- ---- question 2 of document 01: is there a usable ordering?
+-- one ordering of the points and bearings is not
+unfoldable pub orderingUnusable : World → Bearings → Bool
+orderingUnusable world bearings = isUnusable (cubicCoefficients (squaredEdges (edgeVectors world .value) .value) (squaredSines (cosines bearings .value) .value) .value) .value
+
+-- there is none: the given one is unusable, and of the best conditioned of the five others the condition is at most 64 * 2 ^ -52 or it is unusable too
+unfoldable pub noOrdering : P3pInput → Bool
+noOrdering input =
+    let best = bestPermutation input .value in
+    orderingUnusable (input .world) (input .bearings) && (le (best .condition) (mul binary64 sixtyFour epsilon) || orderingUnusable (best .world) (best .bearings))
+
+-- ---- number 1 where one of the eighteen is not finite, and only there; of finite ones, number 2 where there is no usable ordering, and only there; otherwise poses, or number 3
+pub data OneAnswer (input : P3pInput) (answer : Answer) : Type 0 where
+  refused-1 : T (not (inputFinite input)) → Refused 1 answer → OneAnswer input answer
+  refused-2 : T (inputFinite input) → T (noOrdering input) → Refused 2 answer → OneAnswer input answer
+  refused-3 : T (inputFinite input) → T (not (noOrdering input)) → Refused 3 answer → OneAnswer input answer
+  accepted : T (inputFinite input) → T (not (noOrdering input)) → Accepted answer → OneAnswer input answer
