@@ -12,6 +12,7 @@ mod normal;
 mod pack;
 mod round;
 pub mod sqrt;
+mod start;
 mod sum;
 pub mod total_cmp;
 mod unpack;
