@@ -13,6 +13,7 @@ mod normal;
 mod pack;
 mod round;
 pub mod sqrt;
+mod start;
 mod sum;
 pub mod total_cmp;
 mod unpack;

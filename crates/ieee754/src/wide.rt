@@ -1,6 +1,7 @@
 // Numbers below 2^128 as two words of 64 bits: sums, differences, products, and what is left when digits are cut off.
 ghost use mathlib.Core.Path.{_≡_};
 ghost use Prim.Native.Nat.{_+_, _*_, _/_, _^_, _≤_, _<_};
+ghost use mathlib.Core.Bool.{false};
 ghost use lib.Dec.{ltb};
 ghost use Rattle.ieee754.specs.inner.Jam.{jam};
 ghost use Rattle.ieee754.specs.inner.Value.{value};
@@ -10,6 +11,12 @@ use std::num::wrapping_sub_u64;
 // hi * 2^64 + lo.
 pub struct Wide {
     pub hi: u64,
+    pub lo: u64,
+}
+
+// The low word of a difference, and whether it has digits above that are lost.
+pub struct Difference {
+    pub lost: bool,
     pub lo: u64,
 }
 
@@ -74,19 +81,23 @@ pub(crate) fn sub_wide(a: Wide, b: Wide) -> Wide
     }
 }
 
-// a - b, if that is not below 0 and fits a word, and 0 if not.
-pub(crate) fn word_difference(a: Wide, b: Wide) -> u64
+// The low word of a - b, and whether that is all of it: no where it is below 0 or does not fit a word.
+pub(crate) fn word_difference(a: Wide, b: Wide) -> Difference
     requires { ⌜ b .hi + 1 < 2 ^ 64 ⌝ }
-    ensures { λ r. ⌜ ((r ≡ 0 → ⊥) → r + value b ≡ value a) ⌝ }
+    ensures { λ r. ⌜ (r .lost ≡ false → r .lo + value b ≡ value a) ⌝ }
 {
     let lo = wrapping_sub_u64(a.lo, b.lo);
     if a.lo < b.lo {
         if a.hi == b.hi + 1 {
-            return lo;
+            return Difference { lost: false, lo };
         }
-        return 0;
+        return Difference { lost: true, lo };
     }
-    if a.hi == b.hi { lo } else { 0 }
+    if a.hi == b.hi {
+        Difference { lost: false, lo }
+    } else {
+        Difference { lost: true, lo }
+    }
 }
 
 // Whether a < b.

@@ -1,61 +1,94 @@
--- `sqrt_finite` meets its contract: the root of a double goes by its value. Assumes nothing.
-use Prim.Native.Nat.{ℕ, _*_, _^_, _<_}
+-- `sqrt_finite` meets its contract: what the pattern of a positive normal number stands for (Reading.antt). Assumes nothing.
+use Prim.Native.Nat.{ℕ, _+_, _-_, _*_, _/_, _%_, _^_, _≤_, _<_}
 use mathlib.Core.Path.{_≡_, refl, sym, ap, _∙_, subst}
-use mathlib.Core.Bool.{Bool, true, false}
-use native.Mathlib.Nat.{mul-pos, zero-mul}
+use mathlib.Core.Bool.{Bool, false}
+use native.Mathlib.Nat.{mul-assoc, mul-pos, mod-eq-of-lt}
 use native.Mathlib.Omega.{arith}
 use borrow.Author.Needs.{needs}
-use lib.Dec.{lit<}
-use lib.Pow.{pow-pos}
-use lib.Ieee.{nan, binary64, div, ofBits}
+use borrow.Author.Tests.{lt-leb}
+use lib.Dec.{T, leb, lit<}
+use lib.Pow.{pow-add, pow-pos}
+use lib.Ieee.{Float, binary64, fits, toBits}
 use lib.Ieee.Exact.{HasValue}
-use Rattle.ieee754.proofs.RootValues.{sqrt-zero, sqrt-of, sqrt-negative}
-use Rattle.ieee754.proofs.Exponent.{normal-value, normal-pos}
+use lib.Ieee.Scale.{finite}
+use Rattle.ieee754.specs.Root.{sqrt, roundRoot}
+use Rattle.ieee754.proofs.Reading.{read-higher, times, finite-not-nan}
+use Rattle.ieee754.proofs.RootValues.{sqrt-of}
 use Rattle.ieee754.proofs.sqrt.sqrt_finite.Statement.{statement}
 use Rattle.ieee754.proofs.sqrt.sqrt_finite.Tie as tie
 
-some : {n : ℕ} → (n ≡ 0 → ⊥) → 0 < n
-some h = omega arith
+-- what owning an `f64` tells: the format holds it
+held : (c : tie.Start) → T (fits binary64 (c .args .x))
+held c = subst T (sym (c .good .0 .1)) tt
 
-zero-over-zero : div binary64 (ofBits binary64 0) (ofBits binary64 0) ≡ nan
-unfolding div ofBits
-zero-over-zero = refl
+raised : (m e : ℕ) → 0 < e → m * 2 ^ (e + 51) ≡ m * 2 ^ (e - 1) * 2 ^ 52
+raised m e p =
+    let d : e + 51 ≡ e - 1 + 52 = omega arith in
+    ap (λ (y : ℕ). m * 2 ^ y) d ∙ ap (λ (y : ℕ). m * y) (pow-add 2 (e - 1) 52) ∙ sym (mul-assoc m (2 ^ (e - 1)) (2 ^ 52))
 
--- the value of the argument, with the sign that a test found
-signed : (c : tie.After-unpack) {s : Bool} → let a = c .unpack .result in a .negative ≡ s → HasValue (c .before .args .x) s (a .sig * 2 ^ a .exp) (2 ^ 1074)
-signed c e = let a = c .unpack .result in subst (λ (s : Bool). HasValue (c .before .args .x) s (a .sig * 2 ^ a .exp) (2 ^ 1074)) e (c .unpack .ensures .is)
+some : (b : ℕ) → 2 ^ 52 ≤ b → 0 < b / 2 ^ 52
+some b h = omega arith
 
-unpack-requires : tie.Need-unpack-requires
-unpack-requires c κs = search needs
+not-none : (b : ℕ) → 2 ^ 52 ≤ b → b / 2 ^ 52 ≡ 0 → ⊥
+not-none b h z = omega arith
+
+below : (b : ℕ) → b < 2 ^ 63 → (b / 2 ^ 52 ≡ 2047 → ⊥) → b / 2 ^ 52 + 51 < 2098
+below b h n = omega arith
+
+-- a positive normal number by its pattern b
+module _ (x : Float) (b : ℕ) (is : toBits binary64 x ≡ b) (h : T (fits binary64 x)) (g : T (finite x)) (low : 2 ^ 52 ≤ b) (high : b < 2 ^ 63) where
+  read : HasValue x false ((2 ^ 52 + b % 2 ^ 52) * 2 ^ (b / 2 ^ 52 - 1)) (2 ^ 1074) × (b / 2 ^ 52 ≡ 2047 → ⊥)
+  read =
+      let e : toBits binary64 x % 2 ^ 63 / 2 ^ 52 ≡ b / 2 ^ 52 = ap (λ (y : ℕ). y % 2 ^ 63 / 2 ^ 52) is ∙ ap (λ (y : ℕ). y / 2 ^ 52) (mod-eq-of-lt high) in
+      let v = read-higher binary64 x h (b / 2 ^ 52) e g (not-none b low) in
+      (subst (λ (s : Bool). HasValue x s ((2 ^ 52 + b % 2 ^ 52) * 2 ^ (b / 2 ^ 52 - 1)) (2 ^ 1074)) (lt-leb (2 ^ 63) b high) (subst (λ (y : ℕ). HasValue x (leb (2 ^ 63) y) ((2 ^ 52 + y % 2 ^ 52) * 2 ^ (b / 2 ^ 52 - 1)) (2 ^ 1074)) is (v .0)), v .1)
+
+  root : sqrt x ≡ roundRoot 2 binary64 false ((2 ^ 52 + b % 2 ^ 52) * 2 ^ (b / 2 ^ 52 + 51)) (2 ^ 1126)
+  root =
+      let m = 2 ^ 52 + b % 2 ^ 52 in
+      let e = b / 2 ^ 52 in
+      let pos : 0 < m = omega arith in
+      sqrt-of x (m * 2 ^ (e + 51)) (2 ^ 1126) (mul-pos pos (pow-pos (e + 51))) (lit< tt) (subst (λ (a : ℕ). HasValue x false a (2 ^ 1126)) (sym (raised m e (some b low))) (times x false (m * 2 ^ (e - 1)) (2 ^ 1074) (2 ^ 52) (read .0)))
+
+float-to-bits-bits : tie.Need-float-to-bits-bits
+float-to-bits-bits c = finite-not-nan (c .args .x) (c .pre)
+
+sqrt-other-requires : tie.Need-sqrt-other-requires
+sqrt-other-requires c κs = search needs
 
 returns : tie.Need-returns
-returns c =
-    let u = c .before .before in
-    let a = u .unpack .result in
-    sqrt-zero (u .before .args .x) (a .negative) (a .sig * 2 ^ a .exp) (2 ^ 1074) (ap (λ (m : ℕ). m * 2 ^ a .exp) (c .if1 .taken) ∙ zero-mul (2 ^ a .exp)) (lit< tt) (u .unpack .ensures .is)
+returns c = search needs
+
+sqrt-other-requires-2 : tie.Need-sqrt-other-requires-2
+sqrt-other-requires-2 c κs = search needs
 
 returns-2 : tie.Need-returns-2
-returns-2 c =
-    let u = c .before .before .before in
-    let a = u .unpack .result in
-    zero-over-zero ∙ sym (sqrt-negative (u .before .args .x) (a .sig * 2 ^ a .exp) (2 ^ 1074) (mul-pos (some (c .before .if1 .left)) (pow-pos (a .exp))) (signed u (c .if2 .taken)))
+returns-2 c = search needs
 
-normalise-requires : tie.Need-normalise-requires
-normalise-requires c κs = (c .before .before .before .unpack .ensures .digits, some (c .before .if1 .left))
+add-sig : tie.Need-add-sig
+add-sig c = search needs
+
+add-exp : tie.Need-add-exp
+add-exp c = search needs
 
 scaled-requires : tie.Need-scaled-requires
-scaled-requires c κs = search needs
+scaled-requires c κs =
+    let s = c .before .before in
+    let x = s .args .x in
+    let b = toBits binary64 x in
+    (at-least b, less b, below b (c .if2 .left) (read x b refl (held s) (s .pre) (c .before .if1 .left) (c .if2 .left) .1))
+  where
+    at-least : (b : ℕ) → 2 ^ 52 ≤ 2 ^ 52 + b % 2 ^ 52
+    at-least b = omega arith
+
+    less : (b : ℕ) → 2 ^ 52 + b % 2 ^ 52 < 2 ^ 53
+    less b = omega arith
 
 returns-3 : tie.Need-returns-3
 returns-3 c =
-    let n = c .before .normalise in
-    let e = c .before .before in
-    let u = e .before .before .before in
-    let x = u .before .args .x in
-    let a = u .unpack .result in
-    let is = signed u (e .if2 .left) in
-    c .scaled .ensures
-    ∙ sym (sqrt-of x (n .result .sig * 2 ^ n .result .exp) (2 ^ 1126) (normal-pos x false (a .sig) (a .exp) (n .result) is (n .ensures)) (lit< tt) (normal-value x false (a .sig) (a .exp) (n .result) is (n .ensures)))
+    let f = c .before in
+    let s = f .before .before in
+    c .scaled .ensures ∙ sym (root (s .args .x) (toBits binary64 (s .args .x)) refl (held s) (s .pre) (f .before .if1 .left) (f .if2 .left))
 
 pub sqrt-finite-spec : {M : Type 1} → statement M
-sqrt-finite-spec = tie.close (tie.spec unpack-requires returns returns-2 normalise-requires scaled-requires returns-3)
+sqrt-finite-spec = tie.close (tie.spec float-to-bits-bits sqrt-other-requires returns sqrt-other-requires-2 returns-2 add-sig add-exp scaled-requires returns-3)
