@@ -1,9 +1,9 @@
 -- Laws of `roundRoot`, `sqrt` and `cbrt` as functions of a value: at the degree 1 `roundRoot` is `round` (`roundRoot-one`), only the value of its fraction counts
 -- (`roundRoot-same`), and so the root of a double goes by the double's value (`sqrt-zero`, `sqrt-of`, `sqrt-negative`, `cbrt-zero`, `cbrt-of`, `cbrt-neg`). Assumes nothing.
-use Prim.Native.Nat.{ℕ, zero, suc, _+_, _-_, _*_, _/_, _%_, _^_, _<_, compare, compare·suc-suc, Ordering, Ordering·lt, Ordering·eq, Ordering·gt}
+use Prim.Native.Nat.{ℕ, zero, suc, _+_, _-_, _*_, _/_, _%_, _^_, _<_, compare, compare·suc-suc, Ordering}
 use mathlib.Core.Path.{_≡_, refl, sym, ap, _∙_}
 use mathlib.Core.Bool.{Bool, true, false, not, cond, true≢false, false≢true}
-use native.Mathlib.Nat.{add-zero, add-suc, mul-assoc, mul-right-comm, one-mul, zero-lt-suc, pow-zero, pow-suc, mul-pos, mul-lt-mul-of-pos-right, div-add-mod', div-one}
+use native.Mathlib.Nat.{add-zero, add-suc, mul-assoc, mul-right-comm, one-mul, zero-lt-suc, pow-zero, pow-suc, mul-pos, div-add-mod', div-one}
 use native.Mathlib.Omega.{arith}
 use lib.Dec.{ltb}
 use lib.Pow.{pow-pos}

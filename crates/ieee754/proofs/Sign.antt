@@ -1,6 +1,6 @@
 -- The sign of a value and of its bit pattern: a pattern with the sign's bit cleared is the magnitude (`abs-bits`), and that bit is the value's sign (`negative-bits`).
 -- A test against itself finds the NaN (`ne-self`). Assumes nothing.
-use Prim.Native.Nat.{ℕ, zero, suc, _+_, _-_, _*_, _/_, _%_, _<_}
+use Prim.Native.Nat.{ℕ, zero, suc, _+_, _-_, _/_, _%_, _<_}
 use mathlib.Core.Path.{_≡_, refl, sym, ap, ap₂, _∙_, subst}
 use mathlib.Core.Bool.{Bool, true, false, not, cond, false≢true}
 use native.Mathlib.Nat.{mod-lt, mul-pos, zero-lt-suc, mod-mod, mod-mod-of-dvd, dvd-mul-right}
@@ -8,7 +8,7 @@ use lib.Dec.{T, leb, eqb}
 use lib.Arith.{lt→nleb}
 use lib.Pow.{pow-pos}
 use lib.Ieee.{Float, nan, inf, fin, Format, prec, low, hid, ones, top, odd, ofFields, ofBits, toBits, isNan, fits, ne}
-use lib.Ieee.Bits.{is-true, is-false, ofBits-toBits}
+use lib.Ieee.Bits.{is-false, ofBits-toBits}
 use lib.Ieee.Compare.{differs-from-itself, nan-differs}
 use Rattle.ieee754.specs.Magnitude.{abs}
 use Rattle.ieee754.specs.CopySign.{negative}

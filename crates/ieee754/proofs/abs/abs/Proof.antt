@@ -1,8 +1,7 @@
 -- `ieee754::abs::abs` meets its contract: the sign's bit is cleared. Assumes nothing.
 use mathlib.Core.Path.{_≡_, refl, sym, ap, _∙_, subst}
-use mathlib.Core.Bool.{false, not}
 use lib.Dec.{T}
-use lib.Ieee.{Float, nan, binary64, fits}
+use lib.Ieee.{nan, binary64, fits}
 use Rattle.ieee754.specs.Magnitude.{abs}
 use Rattle.ieee754.proofs.Reading.{nan-of, not-nan, in-range, no-nan}
 use Rattle.ieee754.proofs.Sign.{abs-bits}

@@ -1,8 +1,6 @@
 -- `ieee754::max::max` meets its contract: its tests are the definition's. Assumes nothing.
 use borrow.Author.Needs.{needs}
-use mathlib.Core.Path.{_≡_, sym, _∙_}
-use mathlib.Core.Bool.{true, false}
-use lib.Ieee.{isNan}
+use mathlib.Core.Path.{sym, _∙_}
 use Rattle.ieee754.specs.CopySign.{negative}
 use Rattle.ieee754.specs.Maximum.{max}
 use Rattle.ieee754.proofs.Sign.{ne-self}

@@ -1,5 +1,5 @@
 -- `sqrt` meets its contract: what is left beside `sqrt_finite` are the definition's clauses for infinities and the NaN. Assumes nothing.
-use mathlib.Core.Path.{_≡_, refl, sym, _∙_}
+use mathlib.Core.Path.{_≡_, refl}
 use mathlib.Core.Bool.{true, false, not, true≢false, false≢true}
 use borrow.Author.Needs.{needs}
 use lib.Dec.{T}

@@ -1,7 +1,6 @@
 -- `ieee754::total_cmp::total_order` meets its contract: its tests are the definition's. Assumes nothing.
 use borrow.Author.Needs.{needs}
-use mathlib.Core.Path.{_≡_, refl, sym, _∙_}
-use mathlib.Core.Bool.{Bool, true, false, not, _&&_, _||_}
+use mathlib.Core.Path.{sym, _∙_}
 use Rattle.ieee754.specs.TotalOrder.{totalOrder}
 use Rattle.ieee754.proofs.Sign.{ne-self}
 use Rattle.ieee754.proofs.total_cmp.total_order.Statement.{statement}
