@@ -2,6 +2,7 @@
 // Document 01, "Frame records and their listing". The input is read in parts and the listing is written in parts, so that neither's length
 // is bounded.
 pub mod frame;
+pub mod record;
 mod run;
 mod stream;
 

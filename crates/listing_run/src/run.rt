@@ -1,17 +1,17 @@
-// The run: records are listed one after another, and the input is read on where a record is not there whole.
-ghost use Prim.Native.Nat.{_≤_};
-use crate::frame::FRAME;
-use crate::frame::put_frame;
+// The run: records are listed one after another, what waits is written, and the input is read on, as each turn asks for.
+ghost use mathlib.Core.Path.{_≡_};
+ghost use Prim.Native.Nat.{min};
+ghost use lib.ListN.{length, take};
+ghost use Rattle.records.specs.Record.{recordAt};
+ghost use Rattle.listing.specs.Lines.{roomy};
+ghost use Rattle.listing_run.specs.RecordLines.{courseOf};
+ghost use Rattle.listing_run.specs.Goes.{Goes};
+use crate::record::Course;
+use crate::record::put_record;
 use crate::stream::Filling;
 use crate::stream::fill;
 use crate::stream::flush;
-use listing::line::left;
-use listing::line::put_end;
 use listing::line::put_header;
-use listing::line::put_refused;
-use listing::line::put_stop;
-use records::record::Record;
-use records::record::read;
 
 pub struct State {
     // How many bytes of the input's buffer are filled, and where in it the next record begins.
@@ -31,24 +31,26 @@ pub enum Turn {
 }
 
 fn least(a: usize, b: usize) -> usize
-    ensures { λ r. ⌜ r ≤ b ⌝ }
+    ensures { λ r. ⌜ r ≡ min a b ⌝ }
 {
     if a < b { a } else { b }
 }
 
-// Closes the listing with its last line: `end`, or `stop` with a refusal's number.
-fn close(out: &mut [u8], at: usize, listed: u64, refusal: u32) -> Turn {
-    if refusal == 0 {
-        let n = put_end(out, at, listed);
-        flush(out, n);
+// Writes what waits.
+fn write_on(out: &[u8], state: State) -> Turn {
+    if !flush(out, state.at) {
         return Turn::Over;
     }
-    let n = put_stop(out, at, refusal, std::num::wrapping_add_u64(listed, 1));
-    flush(out, n);
-    Turn::Over
+    Turn::More(State {
+        filled: state.filled,
+        next: state.next,
+        at: 0,
+        listed: state.listed,
+        ended: state.ended,
+    })
 }
 
-// Reads on, from the buffer's begin where all of it has been listed.
+// Reads on, from the buffer's begin where all of it has been listed. Nothing waits to be written.
 fn read_on(fd: i32, input: &mut [u8], filled: usize, next: usize, listed: u64) -> Turn {
     if input.len() <= next {
         return Turn::More(State {
@@ -79,74 +81,46 @@ fn read_on(fd: i32, input: &mut [u8], filled: usize, next: usize, listed: u64) -
     }
 }
 
-// No whole record is there: what waits is written and more is read, or the listing is closed where the input has ended.
-fn wait(fd: i32, input: &mut [u8], out: &mut [u8], state: State, refusal: u32) -> Turn {
-    let at = state.at;
-    let listed = state.listed;
-    if state.ended {
-        return close(out, at, listed, refusal);
-    }
-    if !flush(out, at) {
-        return Turn::Over;
-    }
-    read_on(fd, input, state.filled, state.next, listed)
-}
-
-// Takes the next record where there is room for a frame's lines.
-fn take(fd: i32, input: &mut [u8], out: &mut [u8], state: State) -> Turn {
+// One turn: what stands next in the input is listed, and the run goes on as that asks for.
+fn step(fd: i32, input: &mut [u8], out: &mut [u8], state: State) -> Turn
+    ensures { λ r. ⌜ Goes (courseOf (roomy 1600 (now (out .entry)) (state .at)) (state .ended) (recordAt (take (min (state .filled) (length (now (input .entry)))) (now (input .entry))) (state .next))) state r ⌝ }
+{
     let filled = state.filled;
-    let at = state.at;
     let ended = state.ended;
-    let number = std::num::wrapping_add_u64(state.listed, 1);
+    let listed = state.listed;
+    let number = std::num::wrapping_add_u64(listed, 1);
     let ready = least(filled, input.len());
-    let record = read(&input[..ready], state.next);
-    match record {
-        Record::End => wait(fd, input, out, state, 0),
-        Record::Stop { refusal } => {
-            if refusal == 9 {
-                return wait(fd, input, out, state, 9);
+    let turn = put_record(
+        &input[..ready],
+        state.next,
+        ended,
+        out,
+        state.at,
+        listed,
+        number,
+    );
+    let at = turn.0;
+    let course = turn.1;
+    match course {
+        Course::Write => write_on(out, state),
+        Course::Read => {
+            if !flush(out, at) {
+                return Turn::Over;
             }
-            close(out, at, state.listed, refusal)
+            read_on(fd, input, filled, state.next, listed)
         }
-        Record::Skip { refusal, next } => {
-            let end = put_refused(out, at, number, refusal);
-            Turn::More(State {
-                filled,
-                next,
-                at: end,
-                listed: number,
-                ended,
-            })
-        }
-        Record::Accepted { frame, next } => {
-            let end = put_frame(out, at, number, frame);
-            Turn::More(State {
-                filled,
-                next,
-                at: end,
-                listed: number,
-                ended,
-            })
+        Course::Next(next) => Turn::More(State {
+            filled,
+            next,
+            at,
+            listed: number,
+            ended,
+        }),
+        Course::Closed => {
+            flush(out, at);
+            Turn::Over
         }
     }
-}
-
-// Writes what waits where there is no room for a frame's lines, and otherwise takes the next record.
-fn step(fd: i32, input: &mut [u8], out: &mut [u8], state: State) -> Turn {
-    let at = state.at;
-    if left(out.len(), at) < FRAME {
-        if !flush(out, at) {
-            return Turn::Over;
-        }
-        return Turn::More(State {
-            filled: state.filled,
-            next: state.next,
-            at: 0,
-            listed: state.listed,
-            ended: state.ended,
-        });
-    }
-    take(fd, input, out, state)
 }
 
 // A proved loop has to end, and nothing says that the input does: turns are counted down from a number that no run uses up.

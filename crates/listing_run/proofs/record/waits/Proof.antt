@@ -1,0 +1,18 @@
+-- `listing_run::record::waits` meets its contract. Assumes nothing.
+use borrow.Author.Needs.{needs}
+use Rattle.listing_run.specs.RecordLines.{stopWaits}
+use Rattle.listing_run.proofs.record.waits.Statement.{statement}
+use Rattle.listing_run.proofs.record.waits.Tie as tie
+use Rattle.listing_run.proofs.record.waits.Reads as reads
+use Rattle.listing_run.proofs.record.waits.Lts as lts
+
+returns : tie.Need-returns
+unfolding stopWaits
+returns c = rw (c .if1 .taken)
+
+returns-2 : tie.Need-returns-2
+unfolding stopWaits
+returns-2 c = rw (c .if1 .left)
+
+pub waits-spec : {M : Type 1} → statement M
+waits-spec = tie.close (tie.spec returns returns-2)

@@ -1,0 +1,151 @@
+-- `listing_run::run::step` meets its contract: the course is that of the record which stands next in what has been read. Assumes nothing.
+use borrow.Author.Needs.{needs}
+use native.Mathlib.Omega.{arith}
+use native.Mathlib.Nat.{min-le-right}
+use Prim.Native.Nat.{ℕ, _≤_, min}
+use mathlib.Core.Path.{_≡_, refl}
+use lib.ListN.{length, take, length-take}
+use denote.Ref.{now}
+use Rattle.records.specs.Record.{recordAt}
+use Rattle.listing.specs.Lines.{roomy}
+use Rattle.listing_run.specs.RecordLines.{courseOf}
+use Rattle.listing_run.proofs.run.step.Statement.{statement}
+use Rattle.listing_run.proofs.run.step.Tie as tie
+use Rattle.listing_run.proofs.run.step.Reads as reads
+use Rattle.listing_run.proofs.run.step.Lts as lts
+
+abbrev start : tie.After-put-record → tie.Start
+start p = p .before .before .before .before .before .before .before
+
+course-is : (p : tie.After-put-record)
+    → p .put-record .result .1 ≡ courseOf (roomy 1600 (now (start p .args .out)) (start p .args .state .at)) (start p .args .state .ended)
+    (recordAt (take (min (start p .args .state .filled) (length (now (start p .args .input)))) (now (start p .args .input))) (start p .args .state .next))
+course-is p = rw (← p .before .before .before .least .ensures) (p .put-record .ensures .1)
+
+wrapping-add-u64-requires : tie.Need-wrapping-add-u64-requires
+wrapping-add-u64-requires c κs = search needs
+
+least-requires : tie.Need-least-requires
+least-requires c κs = search needs
+
+slice-reshare-prefix-put-record : tie.Need-slice-reshare-prefix-put-record
+slice-reshare-prefix-put-record c = omega (arith, c .least .ensures, min-le-right (c .before .before .before .before .args .state .filled) (length (c .before .before .before .before .args .input .now)))
+
+slice-aggregate-put-record : tie.Need-slice-aggregate-put-record
+slice-aggregate-put-record c = simp length-take (omega (arith, c .before .least .ensures, min-le-right (c .before .before .before .before .before .args .state .filled) (length (c .before .before .before .before .before .args .input .now))))
+
+put-record-requires : tie.Need-put-record-requires
+put-record-requires c κs = search needs
+
+enum-told : tie.Need-enum-told
+enum-told c = search needs
+
+write-on-requires : tie.Need-write-on-requires
+write-on-requires c κs = search needs
+
+enum-told-2 : tie.Need-enum-told-2
+enum-told-2 c = search needs
+
+flush-requires : tie.Need-flush-requires
+flush-requires c κs = search needs
+
+same-length : tie.Need-same-length
+same-length c = search needs
+
+same-length-2 : tie.Need-same-length-2
+same-length-2 c = search needs
+
+returns : tie.Need-returns
+returns c =
+    let t = c .before .before .before in
+    rw (← course-is (t .before .before .before .before), t .enum-told2 .given .1) tt
+
+read-on-requires : tie.Need-read-on-requires
+read-on-requires c κs = search needs
+
+enum-known-course : tie.Need-enum-known-course
+enum-known-course c = search needs
+
+enum-told-3 : tie.Need-enum-told-3
+enum-told-3 c = search needs
+
+flush-requires-2 : tie.Need-flush-requires-2
+flush-requires-2 c κs = search needs
+
+same-length-3 : tie.Need-same-length-3
+same-length-3 c = search needs
+
+same-length-4 : tie.Need-same-length-4
+same-length-4 c = search needs
+
+returns-2 : tie.Need-returns-2
+returns-2 c =
+    let t = c .before .before in
+    rw (← course-is (t .before .before .before .before), t .enum-told .given .1) tt
+
+same-length-5 : tie.Need-same-length-5
+same-length-5 c = search needs
+
+same-length-6 : tie.Need-same-length-6
+same-length-6 c = search needs
+
+returns-3 : tie.Need-returns-3
+returns-3 c =
+    let t = c .before .before .before .before .before .before .before in
+    rw (← course-is (t .before .before .before .before), t .enum-told2 .given .1) tt
+
+same-length-7 : tie.Need-same-length-7
+same-length-7 c = search needs
+
+same-length-8 : tie.Need-same-length-8
+same-length-8 c = search needs
+
+returns-4 : tie.Need-returns-4
+returns-4 c =
+    let f = c .before in
+    let p = f .before .before .before .before in
+    rw (← course-is p, f .course .given .1) (record { filled = refl; begins = refl; listed = p .before .before .before .before .wrapping-add-u64 .ensures; ended = refl })
+
+same-length-9 : tie.Need-same-length-9
+same-length-9 c = search needs
+
+same-length-10 : tie.Need-same-length-10
+same-length-10 c = search needs
+
+returns-5 : tie.Need-returns-5
+returns-5 c =
+    let t = c .before .before in
+    rw (← course-is (t .before .before .before .before), t .enum-told3 .given .1) tt
+
+pub step-spec : {M : Type 1} → statement M
+step-spec =
+    tie.close
+    (tie.spec
+    wrapping-add-u64-requires
+    least-requires
+    slice-reshare-prefix-put-record
+    slice-aggregate-put-record
+    put-record-requires
+    enum-told
+    write-on-requires
+    enum-told-2
+    flush-requires
+    same-length
+    same-length-2
+    returns
+    read-on-requires
+    enum-known-course
+    enum-told-3
+    flush-requires-2
+    same-length-3
+    same-length-4
+    returns-2
+    same-length-5
+    same-length-6
+    returns-3
+    same-length-7
+    same-length-8
+    returns-4
+    same-length-9
+    same-length-10
+    returns-5)
