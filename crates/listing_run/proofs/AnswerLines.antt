@@ -1,6 +1,6 @@
 -- The lines of an answer, refused and accepted. Assumes nothing.
 use Prim.Native.Nat.{ℕ, min}
-use mathlib.Core.Path.{_≡_, refl}
+use mathlib.Core.Path.{_≡_}
 use mathlib.Core.List.{_++_}
 use borrow.Author.Tests.{eq-eqb, ne-eqb}
 use Rattle.linalg.specs.declared.vector3.Vector3.{Vector3}

@@ -1,6 +1,5 @@
 -- `listing_run::frame::place_of` meets its contract. Assumes nothing.
 use borrow.Author.Needs.{needs}
-use mathlib.Core.Path.{refl}
 use Rattle.listing_run.proofs.frame.place_of.Statement.{statement}
 use Rattle.listing_run.proofs.frame.place_of.Tie as tie
 use Rattle.listing_run.proofs.frame.place_of.Reads as reads

@@ -3,10 +3,10 @@ use borrow.Author.Needs.{needs}
 use native.Mathlib.Omega.{arith}
 use Prim.Native.Nat.{_+_, _-_, _*_, _≤_, _<_, min}
 use native.Mathlib.Nat.{min-le-right}
-use mathlib.Core.Path.{_≡_, refl, sym, ap, _∙_}
+use mathlib.Core.Path.{_≡_, refl, ap, _∙_}
 use lib.ListN.{length}
 use Rattle.listing.specs.Bytes.{Stored}
-use Rattle.listing.proofs.Storing.{then, stored-as}
+use Rattle.listing.proofs.Storing.{stored-as}
 use Rattle.listing.proofs.Writing.{stored, stored-length}
 use Rattle.listing_run.specs.FrameLines.{poseLines}
 use Rattle.listing_run.proofs.PoseLines.{none-stored, next-stored}

@@ -1,5 +1,4 @@
 -- `listing_run::record::waits` meets its contract. Assumes nothing.
-use borrow.Author.Needs.{needs}
 use Rattle.listing_run.specs.RecordLines.{stopWaits}
 use Rattle.listing_run.proofs.record.waits.Statement.{statement}
 use Rattle.listing_run.proofs.record.waits.Tie as tie

@@ -2,7 +2,7 @@
 use borrow.Author.Needs.{needs}
 use native.Mathlib.Omega.{arith}
 use native.Mathlib.Nat.{min-le-right}
-use Prim.Native.Nat.{ℕ, _≤_, min}
+use Prim.Native.Nat.{min}
 use mathlib.Core.Path.{_≡_, refl}
 use lib.ListN.{length, take, length-take}
 use denote.Ref.{now}
