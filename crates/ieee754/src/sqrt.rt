@@ -50,9 +50,9 @@ fn by_digits(n: u64) -> u64
     if root < rest { root + 1 } else { root }
 }
 
-// A guess at the root of x = m * 2^odd / 2^52: half its reciprocal from a line, mended by Newton's method, then 2x times
-// that, mended once more and lowered by half a last digit, so that the guess is the nearest double or the one below.
-// Nothing is claimed of it.
+// A guess at the root of x = m * 2^odd / 2^52: half the root's reciprocal from a line, mended by Newton's method, then 2x
+// times that, mended once more and lowered by half a last digit, so that the guess is the nearest double or the one
+// below. Nothing is claimed of it.
 fn guess(m: u64, odd: u64) -> f64
     requires { ⌜ (2 ^ 52 ≤ m) × (m < 2 ^ 53) × (odd < 2) ⌝ }
 {

@@ -81,7 +81,7 @@ pub(crate) fn sub_wide(a: Wide, b: Wide) -> Wide
     }
 }
 
-// The low word of a - b, and whether that is all of it: no where it is below 0 or does not fit a word.
+// The low word of a - b, and whether more is lost: where that is below 0 or does not fit a word.
 pub(crate) fn word_difference(a: Wide, b: Wide) -> Difference
     requires { ⌜ b .hi + 1 < 2 ^ 64 ⌝ }
     ensures { λ r. ⌜ (r .lost ≡ false → r .lo + value b ≡ value a) ⌝ }
