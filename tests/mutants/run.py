@@ -10,9 +10,10 @@ Run it at the repository's root, after `rt check`. `RT` in the environment is th
 
 Each function is proved against the contracts of those that it calls, so one check tries a mutant in every function of a crate at once.
 A function that calls a refused one is not proved either; what counts is whether its own proof has an error. A mutant that seems
-to be proved though a callee is refused is tried again alone. Ten mutants a function, or all that there are. A mutant counts for the ten
+to be proved though a callee is refused is tried again alone. Ten mutants a public function, or all that there are. A mutant counts for the ten
 only if it is refused for a fact (a goal that is not proved, two values that are not equal) or survives; one that changes which facts the proof
-file is asked for counts apart, under shape, and is replaced by another while there are others (up to TRIES).
+file is asked for counts apart, under shape, and is replaced by another while there are others (up to TRIES). A private function is given
+three: what a public one returns rests on its contract too.
 
 Programs and test programs (poses, words, *_vectors, *_test) have no contracts that say what they write, and are left out.
 reasons.txt says why a survivor is equivalent."""
@@ -28,13 +29,19 @@ import places
 
 CRATES = "choice records listing polynomial linalg p3p_common eigen lambdatwist exports ieee754 refine_in_place".split()
 SEED = 1
-WANTED, TRIES = 10, 16
+# The mutants that a function is given: refused for a fact or proved, and at most tried.
+WANTED = {"public": 10, "private": 3}
+TRIES = {"public": 16, "private": 6}
 HERE = os.path.dirname(os.path.abspath(__file__))
 RESULTS = os.path.join(HERE, "results")
 RT = os.environ.get("RT", "rt").split()
 # What antt says where a proof file names a fact or a step that the changed code does not have, or the other way round.
 SHAPE = re.compile(r"that can be named from here|has no field|no such field|not a field|is not in scope|expected type `tie\.Need|has type `tie\.Need"
-                   r"|unknown name|not a projection|arguments? (?:is|are) too many|too many arguments|takes? \d+ arguments?|does not cover")
+                   r"|unknown name|not a projection|too many arguments|takes? \d+ arguments?|does not cover|this pattern needs a function")
+# What antt's words come to, for the table.
+WORDS = [("two values differ", r"the two types .*differ|expected type|the two sides"),
+         ("a goal is not proved", r"no proof of|does not follow|it is not proved|`cc`|what it leaves must be a path"),
+         ("an equation of the proof is not in the goal", r"no occurrence of the path")]
 WAITS = "was not admitted (it has holes or undetermined implicits, or was rejected)"
 TIME_LIMIT = 900
 
@@ -137,9 +144,15 @@ class Bench:
             f.write(text)
 
 
-def own_file(function):
+def own_file(root, function):
+    """The function's proof file: its own, or that of the cycle of calls that it is in."""
     parts = function.path.split("::")[1:]
-    return {"/".join(["proofs"] + parts + ["Proof.antt"]), "/".join(["proofs"] + parts[:-1] + ["+" + parts[-1], "Proof.antt"])}
+    folder = os.path.join("proofs", *parts[:-1])
+    top = os.path.join(root, "crates", function.path.split("::")[0], folder)
+    for name in sorted(os.listdir(top)) if os.path.isdir(top) else []:
+        if name.startswith("+") and parts[-1] in name.split("+"):
+            return os.path.join(folder, name, "Proof.antt")
+    return os.path.join(folder, parts[-1], "Proof.antt")
 
 
 def read(said, mutants, crate):
@@ -157,7 +170,7 @@ def read(said, mutants, crate):
     status = dict(re.findall(r"^fn (\S+): (.*)$", said, re.M))
     for m in mutants:
         f, state = m.function, status.get(m.function.path, "")
-        own = [e for name in own_file(f) for e in errors.get(name, []) if WAITS not in e[2]]
+        own = [e for e in errors.get(f.proof, []) if WAITS not in e[2]]
         first = f.file.text.count("\n", 0, f.start) + 1
         last = f.file.text.count("\n", 0, f.end) + 1
         notes = [t for name, line, t in re.findall(r"^note: \S*/crates/" + crate + r"/(\S+?):(\d+):\d+: (it is not proved.*)$", said, re.M)
@@ -166,8 +179,9 @@ def read(said, mutants, crate):
             m.verdict = "survived"
         elif own:
             shape = [e for e in own if SHAPE.search(e[2])]
-            m.verdict = "shape" if shape else "fact"
-            m.said = (shape or own)[0][2]
+            facts = [e for e in own if any(re.search(words, e[2]) for _, words in WORDS)]
+            m.verdict = "shape" if shape or not facts else "fact"
+            m.said = (shape or facts or own)[0][2]
         elif state.startswith("no proof") and notes:
             m.verdict, m.said = "fact", notes[0]
         elif state.startswith("no proof"):
@@ -213,6 +227,8 @@ def settle(bench, mutants, deep=0):
 
 def try_crate(root, crate, world):
     functions = [f for file in world.files if file.crate == crate for f in file.find()]
+    for f in functions:
+        f.proof = own_file(root, f)
     queues = {f.path: mutants_of(f) for f in functions}
     tried = {f.path: [] for f in functions}
     bench = Bench(root, crate)
@@ -222,7 +238,10 @@ def try_crate(root, crate, world):
         for f in functions:
             done = tried[f.path]
             counted = sum(m.verdict in ("fact", "survived") for m in done)
-            if counted < WANTED and sum(m.verdict != "not compiled" for m in done) < TRIES and queues[f.path]:
+            kind = "public" if f.public else "private"
+            if any(m.function.proof == f.proof for m in turn):
+                continue  # one proof of a cycle of calls: one mutant at a time
+            if counted < WANTED[kind] and sum(m.verdict != "not compiled" for m in done) < TRIES[kind] and queues[f.path]:
                 m = queues[f.path].pop(0)
                 turn.append(m)
                 done.append(m)
@@ -254,12 +273,22 @@ def write_results(root, crate, functions, tried):
     commit = subprocess.run(["git", "log", "-1", "--format=%cs"], cwd=root, capture_output=True, text=True).stdout.strip()
     with open(os.path.join(RESULTS, crate + ".tsv"), "w", encoding="utf-8") as f:
         f.write(f"# toolchain {version}; seed {SEED}; commit of {commit}; sum of the crate's files {source_sum(root, crate)}\n")
-        f.write("# function\tplaces\tverdict\tkind\tfile:line\tbefore\tafter\n")
+        f.write("# function\tplaces\tverdict\tkind\tfile:line\tbefore\tafter\twhy\n")
         for g in functions:
             f.write(f"{'pub ' if g.public else ''}{g.path}\t{len(g.places)}\n")
             for m in tried[g.path]:
                 if m.verdict != "not compiled":
-                    f.write("\t".join(["", "", m.verdict, m.place.kind, f"{g.file.short}:{m.line}", m.old_line, m.new_line]) + "\n")
+                    f.write("\t".join(["", "", m.verdict, m.place.kind, f"{g.file.short}:{m.line}", m.old_line, m.new_line, why(m)]) + "\n")
+
+
+def why(m):
+    if m.verdict == "fact":
+        for name, words in WORDS:
+            if re.search(words, m.said):
+                return name
+    if m.verdict == "survived":
+        return ""
+    return " ".join(re.sub(r"`[^`]*`", "_", m.said).split())[:80]
 
 
 def reasons():
@@ -275,7 +304,7 @@ def reasons():
 
 def table(root):
     why, rows, heads, survivors, odd = reasons(), [], [], [], []
-    total = {}
+    total, said = {}, {}
     for crate in CRATES:
         path = os.path.join(RESULTS, crate + ".tsv")
         if not os.path.exists(path):
@@ -295,6 +324,8 @@ def table(root):
                 current[2][parts[2]] = current[2].get(parts[2], 0) + 1
                 kind = "public" if current[0].startswith("pub ") else "private"
                 total[(kind, parts[2])] = total.get((kind, parts[2]), 0) + 1
+                if parts[2] == "fact":
+                    said[parts[7]] = said.get(parts[7], 0) + 1
                 if parts[2] in ("survived", "no verdict"):
                     name = current[0].removeprefix("pub ")
                     (survivors if parts[2] == "survived" else odd).append((name, parts[4], parts[5], parts[6], why.get((name, parts[5], parts[6]), "NO REASON GIVEN")))
@@ -308,7 +339,9 @@ def table(root):
     for kind in ("public", "private"):
         text.append(f"| {kind} | " + " | ".join(str(total.get((kind, v), 0)) for v in ("fact", "shape", "survived", "no verdict")) + " |")
     holes = sum(not s[4].startswith("equivalent") for s in survivors)
-    text += ["", f"Of the {len(survivors)} survivors {holes} are not shown to be equivalent changes.", "", "## Runs", ""] + heads
+    text += ["", f"Of the {len(survivors)} survivors {holes} are not shown to be equivalent changes.", "",
+             "What the refusals for a fact say: " + ", ".join(f"{k} ({n})" for k, n in sorted(said.items(), key=lambda e: -e[1])) + ".", "",
+             "## Runs", ""] + heads
     text += ["", "## Survivors", ""]
     for name, where, old, new, reason in survivors:
         text += [f"`{name}`, {where}: {reason}", "", "```diff", f"- {old}", f"+ {new}", "```", ""]
