@@ -312,6 +312,7 @@ class File:
                 self.next()
             if self.sees("mut"):
                 self.next()
+                return ("ref", self.type(owner), "mut")
             return ("ref", self.type(owner))
         if self.sees("["):
             self.next()
@@ -582,7 +583,7 @@ class File:
                 kept, self.raw = self.raw, []
                 kind = self.unary()
                 self.raw = kept
-                return ("ref", kind)
+                return ("ref", kind, "mut")
             return ("ref", self.unary())
         return self.postfix()
 

@@ -328,7 +328,7 @@ def table(root):
                     said[parts[7]] = said.get(parts[7], 0) + 1
                 if parts[2] in ("survived", "no verdict"):
                     name = current[0].removeprefix("pub ")
-                    (survivors if parts[2] == "survived" else odd).append((name, parts[4], parts[5], parts[6], why.get((name, parts[5], parts[6]), "NO REASON GIVEN")))
+                    (survivors if parts[2] == "survived" else odd).append((name, parts[4], parts[5], parts[6], why.get((name, parts[5], parts[6]), why.get((name, "*", "*"), "NO REASON GIVEN"))))
     text = ["# The strength of the contracts", "",
             "Written by tests/mutants/run.py, which says how the mutants are made and tried. Each is one change of an operator, an operand or a constant in the body of a",
             "function; contracts, definitions and proofs stay.", "",
