@@ -250,7 +250,8 @@ def try_crate(root, crate, world):
         settle(bench, turn)
         count = lambda v: sum(m.verdict == v for ms in tried.values() for m in ms)
         print(f"{crate}: round of {len(turn)}: " + ", ".join(f"{count(v)} {v}" for v in ("fact", "shape", "survived", "not compiled", "no verdict")), flush=True)
-    write_results(root, crate, functions, tried)
+        write_results(root, crate, functions, tried, "; NOT FINISHED")
+    write_results(root, crate, functions, tried, "")
     shutil.rmtree(bench.clean, ignore_errors=True)
 
 
@@ -267,12 +268,13 @@ def source_sum(root, crate):
     return sums.hexdigest()[:16]
 
 
-def write_results(root, crate, functions, tried):
+def write_results(root, crate, functions, tried, state):
     os.makedirs(RESULTS, exist_ok=True)
+    bench_sum = source_sum(os.path.join(root, "target", "mutants", crate), crate)
     version = subprocess.run(RT + ["version"], capture_output=True, text=True).stdout.strip()
     commit = subprocess.run(["git", "log", "-1", "--format=%cs"], cwd=root, capture_output=True, text=True).stdout.strip()
     with open(os.path.join(RESULTS, crate + ".tsv"), "w", encoding="utf-8") as f:
-        f.write(f"# toolchain {version}; seed {SEED}; commit of {commit}; sum of the crate's files {source_sum(root, crate)}\n")
+        f.write(f"# toolchain {version}; seed {SEED}; commit of {commit}; sum of the crate's files {bench_sum}{state}\n")
         f.write("# function\tplaces\tverdict\tkind\tfile:line\tbefore\tafter\twhy\n")
         for g in functions:
             f.write(f"{'pub ' if g.public else ''}{g.path}\t{len(g.places)}\n")
