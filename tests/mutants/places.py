@@ -65,7 +65,7 @@ class Place:
 class Function:
     def __init__(self, path, public, file, start, end):
         self.path, self.public, self.file, self.start, self.end = path, public, file, start, end
-        self.params, self.result, self.places = [], None, []
+        self.params, self.result, self.places, self.requires = [], None, [], False
 
 
 def tokens(text):
@@ -269,6 +269,7 @@ class File:
             result = self.at
             self.pass_type()
         while self.word() in ("requires", "ensures", "ghost"):
+            f.requires = f.requires or self.word() == "requires"
             self.next()
             self.skip("{", "}")
         body = self.at
@@ -316,12 +317,12 @@ class File:
             return ("ref", self.type(owner))
         if self.sees("["):
             self.next()
-            inner = self.type(owner)
+            inner, length = self.type(owner), None
             if self.sees(";"):
-                while not self.sees("]"):
-                    self.next()
+                self.next()
+                length = self.take()
             self.expect("]")
-            return ("array", inner)
+            return ("array", inner, length)
         path = [self.take()]
         while self.sees("::"):
             self.next()
@@ -616,7 +617,7 @@ class File:
                 return kind
 
     def method(self, owner, name, start, at):
-        f = self.world.functions.get(owner[:2] + (owner[2] + "::" + name,)) if isinstance(owner, tuple) and len(owner) == 3 else None
+        f = self.world.functions.get(owner[:2] + (owner[2] + "::" + name,)) if owner in self.world.structs else None
         spans, kinds = self.arguments(f.params[1:] if f else [])
         if name == "len" and f is None:
             return "usize"
@@ -662,7 +663,7 @@ class File:
         if kind == "bytes":
             self.next()
             self.mark("constant", start, end, changed_bytes(word))
-            return ("ref", ("array", "u8"))
+            return ("ref", ("array", "u8", None))
         if kind == "byte":
             self.next()
             self.mark("constant", start, end, ["b' '"] if word != "b' '" else ["b','"])
@@ -686,7 +687,7 @@ class File:
                 elif self.sees(","):
                     self.next()
             self.next()
-            return ("array", inner)
+            return ("array", inner, None)
         if self.sees("{"):
             return self.block()
         if self.sees("if"):

@@ -2,8 +2,11 @@
 """The strength of the contracts: changes an operator, an operand or a constant in the body of each function of the library crates, and
 sees the prover refuse each change. Contracts, specs/ and proofs/ stay as they are.
 
-  tests/mutants/run.py CRATE...     try the mutants of these crates (default: all), write results/CRATE.tsv for each, and RESULT.md
+  tests/mutants/run.py CRATE...     try the mutants of these crates (default: all), write results/CRATE.tsv for each, and RESULT.md. A result of
+                                    the same files is gone on with, and one of other files is begun anew
+  .. --rounds=N                     stop after N checks of each crate
   tests/mutants/run.py --table      write RESULT.md from the results that are there
+  tests/mutants/run.py --witness CRATE  look again for inputs at which the mutants of its result differ (witness.py)
   tests/mutants/run.py --list CRATE print the mutants and try none
 
 Run it at the repository's root, after `rt check`. `RT` in the environment is the command for rt.
@@ -26,6 +29,7 @@ import subprocess
 import sys
 
 import places
+import witness
 
 CRATES = "choice records listing polynomial linalg p3p_common eigen lambdatwist exports ieee754 refine_in_place".split()
 SEED = 1
@@ -56,6 +60,7 @@ class Mutant:
         self.old_line = squeeze(text[first:last])
         self.new_line = squeeze(text[first:start] + new + text[end:last])
         self.verdict, self.said = None, ""
+        self.key = (function.path, place.kind, f"{function.file.short}:{self.line}", self.old_line, self.new_line)
 
 
 def mutants_of(function):
@@ -225,15 +230,38 @@ def settle(bench, mutants, deep=0):
         settle(bench, left[1::2], deep + 1)
 
 
-def try_crate(root, crate, world):
+def earlier(root, crate):
+    """The verdicts of a result of the crate's files as they are."""
+    path, out = os.path.join(RESULTS, crate + ".tsv"), {}
+    if os.path.exists(path):
+        with open(path, encoding="utf-8") as f:
+            lines = f.read().splitlines()
+        if source_sum(root, crate) in lines[0] and f"seed {SEED};" in lines[0]:
+            for line in lines[2:]:
+                parts = line.split("\t")
+                if parts[0]:
+                    name = parts[0].removeprefix("pub ")
+                else:
+                    out.setdefault((name, *parts[3:7]), []).append((parts[2], parts[7]))
+    return out
+
+
+def try_crate(root, crate, world, rounds):
     functions = [f for file in world.files if file.crate == crate for f in file.find()]
     for f in functions:
         f.proof = own_file(root, f)
     queues = {f.path: mutants_of(f) for f in functions}
-    tried = {f.path: [] for f in functions}
+    tried, before = {f.path: [] for f in functions}, earlier(root, crate)
+    for f in functions:
+        for m in list(queues[f.path]):
+            if before.get(m.key):
+                m.verdict, m.said = before[m.key].pop(0)
+                tried[f.path].append(m)
+                queues[f.path].remove(m)
     bench = Bench(root, crate)
     bench.begin()
-    while True:
+    while rounds:
+        rounds -= 1
         turn = []
         for f in functions:
             done = tried[f.path]
@@ -246,12 +274,13 @@ def try_crate(root, crate, world):
                 turn.append(m)
                 done.append(m)
         if not turn:
+            write_results(root, crate, functions, tried, "")
             break
         settle(bench, turn)
         count = lambda v: sum(m.verdict == v for ms in tried.values() for m in ms)
         print(f"{crate}: round of {len(turn)}: " + ", ".join(f"{count(v)} {v}" for v in ("fact", "shape", "survived", "not compiled", "no verdict")), flush=True)
         write_results(root, crate, functions, tried, "; NOT FINISHED")
-    write_results(root, crate, functions, tried, "")
+    add_witness(root, crate, places.World(root, CRATES))
     shutil.rmtree(bench.clean, ignore_errors=True)
 
 
@@ -275,15 +304,40 @@ def write_results(root, crate, functions, tried, state):
     commit = subprocess.run(["git", "log", "-1", "--format=%cs"], cwd=root, capture_output=True, text=True).stdout.strip()
     with open(os.path.join(RESULTS, crate + ".tsv"), "w", encoding="utf-8") as f:
         f.write(f"# toolchain {version}; seed {SEED}; commit of {commit}; sum of the crate's files {bench_sum}{state}\n")
-        f.write("# function\tplaces\tverdict\tkind\tfile:line\tbefore\tafter\twhy\n")
+        f.write("# function\tplaces\tverdict\tkind\tfile:line\tbefore\tafter\twhy\tinput\n")
         for g in functions:
             f.write(f"{'pub ' if g.public else ''}{g.path}\t{len(g.places)}\n")
             for m in tried[g.path]:
-                if m.verdict != "not compiled":
-                    f.write("\t".join(["", "", m.verdict, m.place.kind, f"{g.file.short}:{m.line}", m.old_line, m.new_line, why(m)]) + "\n")
+                f.write("\t".join(["", "", m.verdict, *m.key[1:], why(m)]) + "\n")
+
+
+def add_witness(root, crate, world):
+    """To each mutant of a crate's results, whether an input was found at which it answers otherwise."""
+    path = os.path.join(RESULTS, crate + ".tsv")
+    with open(path, encoding="utf-8") as f:
+        lines = f.read().splitlines()
+    machine, known, out = witness.Machine(world), {}, []
+    for g in (g for file in world.files if file.crate == crate for g in file.find()):
+        for m in mutants_of(g):
+            known[m.key] = m
+    for line in lines:
+        parts = line.split("\t")
+        if parts[0]:
+            name = parts[0].removeprefix("pub ")
+        else:
+            m = known.get((name, *parts[3:7]))
+            if m and parts[2] != "not compiled":
+                text = m.function.file.text
+                found = witness.differs(machine, m.function, text[: m.place.start] + m.new + text[m.place.end:])
+                line = "\t".join(parts[:8] + [{True: "differs", False: "no input found", None: "not tried"}[found]])
+        out.append(line)
+    with open(path, "w", encoding="utf-8") as f:
+        f.write("\n".join(out) + "\n")
 
 
 def why(m):
+    if m.said in [name for name, _ in WORDS]:
+        return m.said
     if m.verdict == "fact":
         for name, words in WORDS:
             if re.search(words, m.said):
@@ -322,12 +376,14 @@ def table(root):
             if parts[0]:
                 current = [parts[0], int(parts[1]), {}]
                 rows.append(current)
-            else:
+            elif parts[2] != "not compiled":
                 current[2][parts[2]] = current[2].get(parts[2], 0) + 1
                 kind = "public" if current[0].startswith("pub ") else "private"
                 total[(kind, parts[2])] = total.get((kind, parts[2]), 0) + 1
-                if parts[2] == "fact":
-                    said[parts[7]] = said.get(parts[7], 0) + 1
+                words = {"fact": parts[7], "shape": "shape: the proof file does not fit", "survived": "survived"}.get(parts[2], parts[2])
+                said.setdefault(words, {})
+                found = parts[8] if len(parts) > 8 else "not tried"
+                said[words][found] = said[words].get(found, 0) + 1
                 if parts[2] in ("survived", "no verdict"):
                     name = current[0].removeprefix("pub ")
                     (survivors if parts[2] == "survived" else odd).append((name, parts[4], parts[5], parts[6], why.get((name, parts[5], parts[6]), why.get((name, "*", "*"), "NO REASON GIVEN"))))
@@ -342,8 +398,12 @@ def table(root):
         text.append(f"| {kind} | " + " | ".join(str(total.get((kind, v), 0)) for v in ("fact", "shape", "survived", "no verdict")) + " |")
     holes = sum(not s[4].startswith("equivalent") for s in survivors)
     text += ["", f"Of the {len(survivors)} survivors {holes} are not shown to be equivalent changes.", "",
-             "What the refusals for a fact say: " + ", ".join(f"{k} ({n})" for k, n in sorted(said.items(), key=lambda e: -e[1])) + ".", "",
-             "## Runs", ""] + heads
+             "By the prover's words, and by whether an input was found at which the changed function answers otherwise (witness.py: random inputs, an interpreter",
+             "that is not the prover's; not tried where the function has a `requires`). Where one was found, the refused fact is false, whatever the words.", "",
+             "| words | mutants | an input differs | no such input found | not tried |", "|---|---|---|---|---|"]
+    for words, found in sorted(said.items(), key=lambda e: -sum(e[1].values())):
+        text.append(f"| {words} | {sum(found.values())} | " + " | ".join(str(found.get(v, 0)) for v in ("differs", "no input found", "not tried")) + " |")
+    text += ["", "## Runs", ""] + heads
     text += ["", "## Survivors", ""]
     for name, where, old, new, reason in survivors:
         text += [f"`{name}`, {where}: {reason}", "", "```diff", f"- {old}", f"+ {new}", "```", ""]
@@ -366,9 +426,14 @@ def table(root):
 
 def main():
     root, words = os.getcwd(), [w for w in sys.argv[1:] if not w.startswith("--")]
+    rounds = next((int(w[9:]) for w in sys.argv if w.startswith("--rounds=")), -1)
     if not os.path.exists("crates.txt") or any(w not in CRATES for w in words):
         sys.exit(__doc__)
-    if "--table" not in sys.argv:
+    if "--witness" in sys.argv:
+        for crate in words:
+            add_witness(root, crate, places.World(root, CRATES))
+        table(root)
+    elif "--table" not in sys.argv:
         world = places.World(root, [c for c in CRATES])
         for crate in words or CRATES:
             if "--list" in sys.argv:
@@ -378,7 +443,7 @@ def main():
                             for m in mutants_of(f):
                                 print(f"{f.path}: {m.place.kind}{' (late)' if m.place.late else ''}: {m.old_line}  =>  {m.new_line}")
             else:
-                try_crate(root, crate, world)
+                try_crate(root, crate, world, rounds)
                 table(root)
     else:
         table(root)
