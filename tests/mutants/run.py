@@ -176,10 +176,6 @@ def read(said, mutants, crate):
     for m in mutants:
         f, state = m.function, status.get(m.function.path, "")
         own = [e for e in errors.get(f.proof, []) if WAITS not in e[2]]
-        first = f.file.text.count("\n", 0, f.start) + 1
-        last = f.file.text.count("\n", 0, f.end) + 1
-        notes = [t for name, line, t in re.findall(r"^note: \S*/crates/" + crate + r"/(\S+?):(\d+):\d+: (it is not proved.*)$", said, re.M)
-                 if name == f.file.short and first <= int(line) <= last]
         if state == "proved":
             m.verdict = "survived"
         elif own:
@@ -187,10 +183,10 @@ def read(said, mutants, crate):
             facts = [e for e in own if any(re.search(words, e[2]) for _, words in WORDS)]
             m.verdict = "shape" if shape or not facts else "fact"
             m.said = (shape or facts or own)[0][2]
-        elif state.startswith("no proof") and notes:
-            m.verdict, m.said = "fact", notes[0]
+        elif state.startswith("no proof") and "`search` does not close" in state:
+            m.verdict, m.said = "fact", "a goal is not proved"
         elif state.startswith("no proof"):
-            m.verdict, m.said = "shape", state
+            m.verdict, m.said = "shape", "no proof is made by itself"
         elif state.startswith("could not tell"):
             m.verdict, m.said = "no verdict", state
 

@@ -554,15 +554,24 @@ class Inputs:
         self.near = sorted({max(0, n + d) for n in whole if n < 1000 for d in (-1, 0, 1)}) or [0]
 
     def begin(self):
-        self.mode = self.rng.choice(["special", "special", "zeros", "round", "normal", "normal", "frame"])
+        self.mode = self.rng.choice(["special", "special", "zeros", "round", "normal", "normal", "frame", "frame", "frame"])
         self.frame = self.camera_frame()
 
     def camera_frame(self):
-        """Three points before a camera, and their unit bearings; the camera's axes are the world's but for a shift."""
+        """Three points before a camera, and their unit bearings; the camera's axes are the world's but for a shift. With them the vectors and
+        numbers that belong to them, so that a function of these meets a pose that holds, or nearly."""
         shift = [self.rng.uniform(-2, 2) for _ in range(3)]
         points = [[self.rng.uniform(-2, 2), self.rng.uniform(-2, 2), self.rng.uniform(2, 6)] for _ in range(3)]
         norms = [math.sqrt(sum(x * x for x in p)) for p in points]
-        return [[x - s for x, s in zip(p, shift)] for p in points], [[x / n for x in p] for p, n in zip(points, norms)]
+        world, bearings = [[x - s for x, s in zip(p, shift)] for p in points], [[x / n for x in p] for p, n in zip(points, norms)]
+        near = 1.0 + self.rng.choice([0.0, 1e-12, 1e-6, 1e-2])
+        self.vectors = points + world + bearings + [shift] * 3 + [[n * near for n in norms]] * 3
+        pairs = [(0, 1), (0, 2), (1, 2)]
+        self.edges = [sum((x - y) ** 2 for x, y in zip(points[i], points[j])) for i, j in pairs]
+        self.cosines = [sum(x * y for x, y in zip(bearings[i], bearings[j])) for i, j in pairs]
+        scale = 1.0 + self.rng.choice([0.0, 0.0, 1e-11, 1e-10, 1e-7, 0.1])
+        self.rotation = [scale * (i % 4 == 0) for i in range(9)]
+        return world, bearings
 
     def double(self):
         r = self.rng
@@ -605,6 +614,10 @@ class Inputs:
             if self.mode == "frame" and kind[2] in ("World", "Bearings"):
                 part = self.frame[kind[2] == "Bearings"]
                 return Struct(kind, {f: Struct(t, dict(zip("xyz", v))) for (f, t), v in zip(fields.items(), part)})
+            if self.mode == "frame":
+                of_frame = {"Vector3": r.choice(self.vectors), "Matrix3": self.rotation, "SquaredEdges": self.edges, "Cosines": self.cosines}
+                if kind[2] in of_frame:
+                    return Struct(kind, dict(zip(fields, of_frame[kind[2]])))
             return Struct(kind, {f: self.make(t, f) for f, t in fields.items()})
         variants = self.world.enums[kind]
         chosen = r.choice(sorted(variants))
