@@ -60,7 +60,8 @@ class Mutant:
         self.old_line = squeeze(text[first:last])
         self.new_line = squeeze(text[first:start] + new + text[end:last])
         self.verdict, self.said = None, ""
-        self.key = (function.path, place.kind, f"{function.file.short}:{self.line}", self.old_line, self.new_line)
+        self.where = f"{function.file.short}:{self.line}"
+        self.key = (function.path, place.kind, self.old_line, self.new_line)
 
 
 def mutants_of(function):
@@ -238,7 +239,7 @@ def earlier(root, crate):
                 if parts[0]:
                     name = parts[0].removeprefix("pub ")
                 else:
-                    out.setdefault((name, *parts[3:7]), []).append((parts[2], parts[7]))
+                    out.setdefault((name, parts[3], *parts[5:7]), []).append((parts[2], parts[7]))
     return out
 
 
@@ -281,15 +282,16 @@ def try_crate(root, crate, world, rounds):
 
 
 def source_sum(root, crate):
-    """What the result rests on: the crate's sources, definitions and proofs."""
+    """What the result rests on: the crate's sources, definitions and proofs; lines of comments do not count."""
     sums = hashlib.sha256()
     top = os.path.join(root, "crates", crate)
     for part in ("src", "specs", "proofs"):
         for folder, _, names in sorted(os.walk(os.path.join(top, part))):
             for name in sorted(names):
                 path = os.path.join(folder, name)
-                with open(path, "rb") as f:
-                    sums.update(os.path.relpath(path, top).encode() + b"\0" + f.read() + b"\0")
+                with open(path, encoding="utf-8") as f:
+                    lines = [l.strip() for l in f if l.strip() and not l.strip().startswith(("//", "-- "))]
+                sums.update("\0".join([os.path.relpath(path, top)] + lines).encode())
     return sums.hexdigest()[:16]
 
 
@@ -304,7 +306,7 @@ def write_results(root, crate, functions, tried, state):
         for g in functions:
             f.write(f"{'pub ' if g.public else ''}{g.path}\t{len(g.places)}\n")
             for m in tried[g.path]:
-                f.write("\t".join(["", "", m.verdict, *m.key[1:], why(m)]) + "\n")
+                f.write("\t".join(["", "", m.verdict, m.place.kind, m.where, m.old_line, m.new_line, why(m)]) + "\n")
 
 
 def add_witness(root, crate, world):
@@ -315,14 +317,15 @@ def add_witness(root, crate, world):
     machine, known, out = witness.Machine(world), {}, []
     for g in (g for file in world.files if file.crate == crate for g in file.find()):
         for m in mutants_of(g):
-            known[m.key] = m
+            known.setdefault(m.key, []).append(m)
     for line in lines:
         parts = line.split("\t")
         if parts[0]:
             name = parts[0].removeprefix("pub ")
         else:
-            m = known.get((name, *parts[3:7]))
-            if m and parts[2] != "not compiled":
+            same = [m for m in known.get((name, parts[3], *parts[5:7]), []) if m.where == parts[4]]
+            if same and parts[2] != "not compiled":
+                m = same[0]
                 text = m.function.file.text
                 found = witness.differs(machine, m.function, text[: m.place.start] + m.new + text[m.place.end:])
                 line = "\t".join(parts[:8] + [{True: "differs", False: "no input found", None: "not tried"}[found]])
