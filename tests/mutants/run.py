@@ -41,7 +41,8 @@ RESULTS = os.path.join(HERE, "results")
 RT = os.environ.get("RT", "rt").split()
 # What antt says where a proof file names a fact or a step that the changed code does not have, or the other way round.
 SHAPE = re.compile(r"that can be named from here|has no field|no such field|not a field|is not in scope|expected type `tie\.Need|has type `tie\.Need"
-                   r"|unknown name|not a projection|too many arguments|takes? \d+ arguments?|does not cover|this pattern needs a function")
+                   r"|unknown name|not a projection|too many arguments|takes? \d+ arguments?|does not cover|this pattern needs a function"
+                   r"|^`walk`:")  # a proof by hand, which repeats the statements
 # What antt's words come to, for the table.
 WORDS = [("two values differ", r"the two types .*differ|expected type|the two sides"),
          ("a goal is not proved", r"no proof of|does not follow|it is not proved|`cc`|what it leaves must be a path"),
