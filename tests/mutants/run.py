@@ -11,6 +11,10 @@ sees the prover refuse each change. Contracts, specs/ and proofs/ stay as they a
 
 Run it at the repository's root, after `rt check`. `RT` in the environment is the command for rt.
 
+A change is of an operator (+ to -, < to <=, a `!` left out), of an operand (another local or field of its type, two arguments or a receiver and an
+argument exchanged; a literal where there is no other of the type), of a constant (the next number or double, another variant of the same parts), and, when
+those are used up, of a called function (another of the same type). What is chosen follows from SEED.
+
 Each function is proved against the contracts of those that it calls, so one check tries a mutant in every function of a crate at once.
 A function that calls a refused one is not proved either; what counts is whether its own proof has an error. A mutant that seems
 to be proved though a callee is refused is tried again alone. Ten mutants a public function, or all that there are. A mutant counts for the ten
@@ -31,7 +35,16 @@ import sys
 import places
 import witness
 
-CRATES = "choice records listing polynomial linalg p3p_common eigen lambdatwist exports ieee754 refine_in_place".split()
+def libraries():
+    """The library crates, in the order of crates.txt; `words` is a part of the test programs."""
+    if not os.path.exists("crates.txt"):
+        sys.exit(__doc__)
+    with open("crates.txt", encoding="utf-8") as f:
+        names = re.findall(r"^(\w+):", f.read(), re.M)
+    return [n for n in names if n != "words" and os.path.exists(os.path.join("crates", n, "src", "lib.rt"))]
+
+
+CRATES = libraries()
 SEED = 1
 # The mutants that a function is given: refused for a fact or proved, and at most tried.
 WANTED = {"public": 10, "private": 3}
@@ -427,7 +440,7 @@ def table(root):
 def main():
     root, words = os.getcwd(), [w for w in sys.argv[1:] if not w.startswith("--")]
     rounds = next((int(w[9:]) for w in sys.argv if w.startswith("--rounds=")), -1)
-    if not os.path.exists("crates.txt") or any(w not in CRATES for w in words):
+    if any(w not in CRATES for w in words):
         sys.exit(__doc__)
     if "--witness" in sys.argv:
         for crate in words:
