@@ -3,19 +3,19 @@
 use mathlib.Core.Path.{_≡_, sym, ap, _∙_, subst}
 use mathlib.Core.Logic.{_↔_, _⊎_, inl, inr, ⊎-elim}
 use Prim.Native.Nat.{ℕ, suc, _+_, _-_, _*_, _/_, _%_, _^_, _≤_, _<_, min, compare}
-use native.Mathlib.Nat.{le-trans, le-of-eq, zero-lt-suc, mul-assoc, mul-comm, mul-pos, mul-le-mul-right, le-div-iff-mul-le, div-add-mod', mod-lt, add-mul, zero-mul, pow-succ', suc-add}
+use native.Mathlib.Nat.{le-trans, le-antisymm, le-of-eq, lt-of-le-of-lt, zero-lt-suc, mul-assoc, mul-comm, mul-pos, mul-le-mul-right, le-div-iff-mul-le, div-add-mod', mod-lt, add-mul, zero-mul, pow-succ', suc-add}
 use native.Mathlib.Omega.{arith}
 use mathlib.Core.Bool.{Bool}
 use lib.Arith.{lt-one}
 use lib.Pow.{pow-add, pow-pos, shr-lt, shl-lt, high}
 use lib.Ieee.{Format, binary64, prec, low, size, units, round}
 use lib.Ieee.Fits.{round-is, nearest-le}
-use lib.Ieee.Nearest.{closest, closest-same, div-same, nearest-ge}
+use lib.Ieee.Nearest.{closest, closest-mono, closest-same, div-same, nearest-ge}
 use Rattle.ieee754.specs.inner.Jam.{jam}
 use Rattle.ieee754.proofs.Jam.{jam-is, jam-exact}
-use Rattle.ieee754.proofs.Nearest.{closest-sees}
+use Rattle.ieee754.proofs.Nearest.{closest-sees, nearest-below, nearest-above}
 use Rattle.ieee754.proofs.Order.{lt-or-ge}
-use Rattle.ieee754.proofs.Sizes.{size-gt, size-shr, size-drop}
+use Rattle.ieee754.proofs.Sizes.{shl-shl, size-gt, size-shr, size-drop}
 
 -- ---- `round` in n's own scale
 
@@ -113,10 +113,34 @@ module _ (s : Bool) (w k : ℕ) (short : w < 2 ^ 64) (full : 0 < k → 2 ^ 63 �
   pub round-word : round binary64 s (w * 2 ^ (k + 1081)) (2 ^ 2166) ≡ units binary64 s (closest w (2 ^ 11)) k
   round-word =
       let n = w * 2 ^ (k + 1081) in
-      let e : n * 2 ^ 11 ≡ w * 2 ^ (1092 + k) = mul-assoc w (2 ^ (k + 1081)) (2 ^ 11) ∙ ap (λ (x : ℕ). w * x) (sym (pow-add 2 (k + 1081) 11) ∙ ap (λ (x : ℕ). 2 ^ x) (omega arith)) in
+      let e : n * 2 ^ 11 ≡ w * 2 ^ (1092 + k) = shl-shl w (k + 1081) 11 (1092 + k) (omega arith) in
       round-at binary64 s 1092 n
       ∙ ap (λ (d : ℕ). units binary64 s (closest n (2 ^ (1092 + d))) d) drop-word
       ∙ ap (λ (q : ℕ). units binary64 s q k) (closest-same n (2 ^ (1092 + k)) w (2 ^ 11) (pow-pos (1092 + k)) (pow-pos 11) e)
+
+-- ---- a number v whose leading 63 digits lie from w to w + m, where q is nearest to both ends
+
+near : (w q : ℕ) → q * 2 ^ 10 < w + 2 ^ 9 → w < q * 2 ^ 10 + 2 ^ 9 → closest w (2 ^ 10) ≡ q
+near w q a b =
+    ⊎-elim (λ (l : w % 2 ^ 10 < 2 ^ 9). nearest-below (w / 2 ^ 10) (w % 2 ^ 10 * 2) (2 ^ 10) (omega arith) ∙ omega arith)
+    (λ (g : 2 ^ 9 ≤ w % 2 ^ 10). nearest-above (w / 2 ^ 10) (w % 2 ^ 10 * 2) (2 ^ 10) (omega arith) ∙ omega arith) (lt-or-ge (w % 2 ^ 10) (2 ^ 9))
+
+module _ (s : Bool) (w m q k v : ℕ) (full : 2 ^ 62 ≤ w) (short : q < 2 ^ 53) (above : q * 2 ^ 10 < w + 2 ^ 9) (below : w + m < q * 2 ^ 10 + 2 ^ 9) (from : w * 2 ^ (k + 1082) ≤ v) (to : v ≤ (w + m) * 2 ^ (k + 1082)) where
+  drop-between : drop binary64 1092 v ≡ k
+  drop-between =
+      let lo : 2 ^ (52 + k) * 2 ^ 1092 ≤ v = le-trans (le-of-eq (sym (pow-add 2 (52 + k) 1092) ∙ ap (λ (x : ℕ). 2 ^ x) (omega arith) ∙ pow-add 2 62 (k + 1082))) (le-trans (mul-le-mul-right (2 ^ (k + 1082)) full) from) in
+      let hi : v < 2 ^ (53 + k + 1092) = subst (λ (x : ℕ). v < 2 ^ x) (omega arith) (lt-of-le-of-lt to (shl-lt 63 (k + 1082) (omega arith))) in
+      size-drop 53 (v / 2 ^ 1092) k (zero-lt-suc 52) (shr-lt (53 + k) 1092 hi) (λ z. le-div-iff-mul-le (pow-pos 1092) .1 lo)
+
+  closest-between : closest v (2 ^ (1092 + k)) ≡ q
+  closest-between =
+      let at : (x : ℕ) → x * 2 ^ (k + 1082) * 2 ^ 10 ≡ x * 2 ^ (1092 + k) = λ x. shl-shl x (k + 1082) 10 (1092 + k) (omega arith) in
+      let least : closest w (2 ^ 10) ≤ closest v (2 ^ (1092 + k)) = closest-mono w (2 ^ 10) v (2 ^ (1092 + k)) (pow-pos 10) (pow-pos (1092 + k)) (le-trans (le-of-eq (sym (at w))) (mul-le-mul-right (2 ^ 10) from)) in
+      let most : closest v (2 ^ (1092 + k)) ≤ closest (w + m) (2 ^ 10) = closest-mono v (2 ^ (1092 + k)) (w + m) (2 ^ 10) (pow-pos (1092 + k)) (pow-pos 10) (le-trans (mul-le-mul-right (2 ^ 10) to) (le-of-eq (at (w + m)))) in
+      le-antisymm (le-trans most (le-of-eq (near (w + m) q (omega arith) below))) (le-trans (le-of-eq (sym (near w q above (omega arith)))) least)
+
+  pub round-between : round binary64 s v (2 ^ 2166) ≡ units binary64 s q k
+  round-between = round-at binary64 s 1092 v ∙ ap (λ (d : ℕ). units binary64 s (closest v (2 ^ (1092 + d))) d) drop-between ∙ ap (λ (x : ℕ). units binary64 s x k) closest-between
 
 -- what is left of it has 53 digits, or is 2 ^ 53
 pub closest-le : (w : ℕ) → w < 2 ^ 64 → closest w (2 ^ 11) ≤ 2 ^ 53

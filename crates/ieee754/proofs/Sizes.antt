@@ -1,14 +1,18 @@
 -- How many binary digits a number has, and a number moved up to the top of a word. Assumes nothing.
-use mathlib.Core.Path.{_≡_, sym, ap, subst}
+use mathlib.Core.Path.{_≡_, sym, ap, _∙_, subst}
 use mathlib.Core.Logic.{⊎-elim}
 use Prim.Native.Nat.{ℕ, suc, _+_, _-_, _*_, _/_, _^_, _≤_, _<_}
-use native.Mathlib.Nat.{le-trans, le-of-eq, lt-of-lt-of-le, lt-of-not-le, not-le-of-lt, mul-le-mul-right, div-lt-iff-lt-mul}
+use native.Mathlib.Nat.{le-trans, le-of-eq, lt-of-lt-of-le, lt-of-not-le, not-le-of-lt, mul-assoc, mul-le-mul-right, div-lt-iff-lt-mul}
 use native.Mathlib.Omega.{arith}
 use lib.Pow.{pow-add, pow-pos, pow-mono, shr-lt, shl-lt}
 use lib.Count.{leadingZeros, leading-top}
 use lib.Ieee.{size}
 use lib.Ieee.Digits.{size-lt, size-le}
 use Rattle.ieee754.proofs.Order.{lt-or-ge}
+
+-- moved up by i digits, and then by j
+pub shl-shl : (a i j k : ℕ) → i + j ≡ k → a * 2 ^ i * 2 ^ j ≡ a * 2 ^ k
+shl-shl a i j k h = mul-assoc a (2 ^ i) (2 ^ j) ∙ ap (λ (x : ℕ). a * x) (sym (pow-add 2 i j) ∙ ap (λ (x : ℕ). 2 ^ x) h)
 
 -- a number of no less than 2 ^ j has more than j digits
 pub size-gt : (n j : ℕ) → 2 ^ j ≤ n → j < size n
@@ -41,6 +45,9 @@ module _ (w d n : ℕ) (some : 0 < n) (short : n < 2 ^ d) (room : d ≤ w) where
 
   pub zeros-ge : w - d ≤ leadingZeros w n
   zeros-ge = omega (arith, top .1, top-lt)
+
+  pub zeros-le : (i : ℕ) → 2 ^ i ≤ n → leadingZeros w n + i < w
+  zeros-le i h = omega (arith, top .1, lt-of-not-le (λ (g : suc (top .0) ≤ i). not-le-of-lt (lt-of-lt-of-le (top .3) (pow-mono g)) h))
 
   -- by s digits
   module _ (s : ℕ) (shift : s + (w - d) ≡ leadingZeros w n) where

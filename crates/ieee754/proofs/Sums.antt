@@ -3,7 +3,7 @@
 use mathlib.Core.Path.{_≡_, refl, sym, ap, ap₂, _∙_, subst}
 use mathlib.Core.Logic.{⊎-elim}
 use Prim.Native.Nat.{ℕ, suc, _+_, _-_, _*_, _/_, _%_, _^_, _≤_, _<_}
-use native.Mathlib.Nat.{le-of-lt, add-comm, add-mul, mul-assoc, mul-comm, mul-sub, mul-mod-left, mul-add-mod-self-right, zero-mod, pow-succ', div-add-mod'}
+use native.Mathlib.Nat.{le-of-lt, add-comm, add-mul, suc-mul, mul-assoc, mul-le-mul-right, mul-comm, mul-sub, mul-mod-left, mul-add-mod-self-right, zero-mod, pow-succ', div-add-mod'}
 use native.Mathlib.Omega.{arith}
 use mathlib.Core.Bool.{Bool, true, false, _&&_, Bool·beq, cond}
 use lib.Dec.{ltb}
@@ -105,3 +105,32 @@ sum-jam f u e k p a h s t =
     ∙ (λ i. cond (Bool·beq s t) (plus i) (cond (less i) (from i) (off i)))
     ∙ sym (sum-scaled f s p t A (2 ^ e) D (pow-pos e))
     ∙ ap (λ (x : ℕ). sum f s (p * 2 ^ e) t x D) whole
+
+and-true : (b : Bool) → b && true ≡ b
+and-true true = refl
+and-true false = refl
+
+-- ---- two terms of which a whole number of units E is known, a of L and b of M, and n, the sum or the difference of these: the terms' own is less than a unit below it and less than two above it
+module _ (f : Format) (s t : Bool) (c L M E a b n : ℕ) (aL : a * E ≤ L) (La : L < suc a * E) (bM : b * E ≤ M) (Mb : M < suc b * E) where
+  like-bounds : n ≡ a + b → ((n - 1) * E ≤ L + M) × (L + M ≤ (n + 2) * E)
+  like-bounds h =
+      let e : n * E ≡ a * E + b * E = ap (λ (x : ℕ). x * E) h ∙ add-mul a b E in
+      (omega (arith, e, sub-mul n 1 E, suc-mul a E, suc-mul b E), omega (arith, e, add-mul n 2 E, suc-mul a E, suc-mul b E))
+
+  unlike-bounds : n + b ≡ a → 0 < n → (M < L) × ((n - 1) * E ≤ L - M) × (L - M ≤ (n + 2) * E)
+  unlike-bounds h p =
+      let e : n * E + b * E ≡ a * E = sym (add-mul n b E) ∙ ap (λ (x : ℕ). x * E) h in
+      let g : 1 * E ≤ n * E = mul-le-mul-right E p in
+      (omega (arith, e, g, suc-mul b E), omega (arith, e, g, sub-mul n 1 E, suc-mul a E, suc-mul b E), omega (arith, e, g, add-mul n 2 E, suc-mul a E, suc-mul b E))
+
+  abbrev pub Between : ℕ → Type 0
+  Between v = (sum f s L t M c ≡ round f s v c) × ((n - 1) * E ≤ v) × (v ≤ (n + 2) * E)
+
+  pub sum-between : n + cond (Bool·beq s t) 0 b ≡ a + cond (Bool·beq s t) b 0 → 0 < n → (v : ℕ) × Between v
+  sum-between = by (Bool·beq s t) refl
+    where
+      by : (e : Bool) → Bool·beq s t ≡ e → n + cond e 0 b ≡ a + cond e b 0 → 0 < n → (v : ℕ) × Between v
+      by true e h p = let u = like-bounds (omega arith) in (L + M, (sum-is f s L t M c ∙ rw e, u .0, u .1))
+      by false e h p =
+          let u = unlike-bounds (omega arith) p in
+          (L - M, (sum-is f s L t M c ∙ rw (e, le-ltb L M (le-of-lt (u .0)), lt-ltb M L (u .0)) (ap (λ (x : Bool). round f x (L - M) c) (and-true s)), u .1, u .2))

@@ -5,3 +5,4 @@ pub mod Nearest
 pub mod Jam
 pub mod Rounded
 pub mod Normal
+pub mod Leading

@@ -1,9 +1,10 @@
 // Rust's f64::mul_add, IEEE 754's fusedMultiplyAdd: x * y + z, rounded once. From document 01, module 1.
 //
 // A finite number is ±sig * 2^exp / 2^1074, sig and exp natural numbers (`unpack`). The exact product and the addend are
-// two-word numbers (`wide`), each times a power of two, over the one denominator 2^2166. The one with the lower exponent
-// is brought to the other's, and the digits that this drops leave their mark in the last digit kept, the sticky bit
-// (`jam`). They are added as two-word numbers (`sum`), and the sum is rounded once (`round`).
+// two-word numbers (`wide`), each times a power of two, over the one denominator 2^2166. Mostly their leading words decide
+// the rounded sum (`leading`). Elsewhere the one with the lower exponent is brought to the other's, and the digits that
+// this drops leave their mark in the last digit kept, the sticky bit (`jam`). They are added as two-word numbers (`sum`),
+// and the sum is rounded once (`round`).
 ghost use mathlib.Core.Path.{_≡_};
 ghost use Prim.Native.Nat.{_+_, _*_, _^_, _≤_, _<_};
 ghost use lib.Dec.{T};
@@ -11,7 +12,7 @@ ghost use lib.Ieee.Scale.{finite};
 ghost use Rattle.ieee754.specs.Fma.{fma};
 ghost use Rattle.ieee754.specs.inner.Value.{value};
 use crate::is_finite::is_finite;
-use crate::sum::add_scaled;
+use crate::leading::add_leading;
 use crate::unpack::unpack;
 use crate::wide::Wide;
 use crate::wide::product;
@@ -34,7 +35,7 @@ fn fma_finite(x: f64, y: f64, z: f64) -> f64
     let b = unpack(y);
     let p = product(a.sig * 512, b.sig * 512);
     let exp = product_exp(p, a.exp + b.exp);
-    add_scaled(a.negative != b.negative, p, exp, unpack(z))
+    add_leading(a.negative != b.negative, p, exp, unpack(z))
 }
 
 // x * y + z, rounded once. Where a factor is an infinity or a NaN, the product is one, and the machine's operators round

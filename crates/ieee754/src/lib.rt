@@ -8,6 +8,7 @@ pub mod copysign;
 pub mod fma;
 mod format;
 pub mod is_finite;
+mod leading;
 pub mod max;
 mod normal;
 mod pack;

@@ -86,7 +86,7 @@ product-is m n x y p e f g h a b =
     ⊎-elim (λ (l : p < 2 ^ 64). ap₂ (λ (u v : ℕ). u * 2 ^ v) h (a l) ∙ small m n x y f g (subst (λ (u : ℕ). u < 2 ^ 64) h l) ∙ at-exponent m n x y)
     (λ (l : 2 ^ 64 ≤ p). ap₂ (λ (u v : ℕ). u * 2 ^ v) h (b l) ∙ at-exponent m n x y) (lt-or-ge p (2 ^ 64))
 
--- and what `add_scaled` asks of it holds
+-- and what `add_leading` asks of it holds
 module _ (m n x y p e : ℕ) (h : p ≡ moved m n) (a : p < 2 ^ 64 → e ≡ 0) (b : 2 ^ 64 ≤ p → e ≡ x + y) where
   short : m < 2 ^ 53 → n < 2 ^ 53 → p < 2 ^ 124
   short k l = subst (λ (u : ℕ). u < 2 ^ 124) (sym h) (product-lt 62 62 (omega arith) (omega arith))
@@ -124,8 +124,8 @@ product-exp-requires c κs = search needs
 unpack-requires-3 : tie.Need-unpack-requires-3
 unpack-requires-3 c κs = search needs
 
-add-scaled-requires : tie.Need-add-scaled-requires
-add-scaled-requires c κs =
+add-leading-requires : tie.Need-add-leading-requires
+add-leading-requires c κs =
     let k = c .before .before .before in
     let g = k .before .before .before in
     let w = g .before .before .before in
@@ -147,7 +147,7 @@ add-scaled-requires c κs =
       c .unpack3 .ensures .digits,
     )
 
--- r is what `add_scaled` gives for the product q
+-- r is what `add_leading` gives for the product q
 whole : (r : Float) (x y z : Float) (s t u : Bool) (q a b c : ℕ) → HasValue x s a (2 ^ 1074) → HasValue y t b (2 ^ 1074) → HasValue z u c (2 ^ 1074) → q ≡ a * b * 2 ^ 18 → r ≡ summed (unlike s t) q u (c * 2 ^ 1092) → r ≡ fma x y z
 whole r x y z s t u q a b c i j k h is = is ∙ ap (λ (n : ℕ). summed (unlike s t) n u (c * 2 ^ 1092)) h ∙ same x y z s t u a b c i j k
 
@@ -166,7 +166,7 @@ returns c =
     let y = b .result .sig * 2 ^ b .result .exp in
     let z = d .result .sig * 2 ^ d .result .exp in
     let is = product-is (a .result .sig) (b .result .sig) (a .result .exp) (b .result .exp) p (e .result) (a .ensures .digits .full) (b .ensures .digits .full) (g .product .ensures) (e .ensures .0) (e .ensures .1) in
-    whole (c .add-scaled .result) (s .x) (s .y) (s .z) (a .result .negative) (b .result .negative) (d .result .negative) (p * 2 ^ e .result) x y z (a .ensures .is) (b .ensures .is) (d .ensures .is) is (c .add-scaled .ensures)
+    whole (c .add-leading .result) (s .x) (s .y) (s .z) (a .result .negative) (b .result .negative) (d .result .negative) (p * 2 ^ e .result) x y z (a .ensures .is) (b .ensures .is) (d .ensures .is) is (c .add-leading .ensures)
 
 pub fma-finite-spec : {M : Type 1} → statement M
-fma-finite-spec = tie.close (tie.spec unpack-requires unpack-requires-2 mul-product mul-product-2 product-requires add-product-exp product-exp-requires unpack-requires-3 add-scaled-requires returns)
+fma-finite-spec = tie.close (tie.spec unpack-requires unpack-requires-2 mul-product mul-product-2 product-requires add-product-exp product-exp-requires unpack-requires-3 add-leading-requires returns)

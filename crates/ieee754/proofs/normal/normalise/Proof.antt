@@ -1,22 +1,20 @@
 -- `normalise` meets its contract: a significand of 53 digits stays, and a subnormal number's is moved up by its leading zeros (Sizes.antt). Assumes nothing.
 use Prim.Native.Nat.{ℕ, _+_, _-_, _*_, _%_, _^_, _≤_, _<_}
-use mathlib.Core.Path.{_≡_, sym, ap, _∙_, subst}
+use mathlib.Core.Path.{_≡_, refl, sym, ap, _∙_, subst}
 use mathlib.Core.Logic.{⊎-elim}
-use native.Mathlib.Nat.{lt-trans, mul-assoc, mod-eq-of-lt, not-le-of-lt}
+use native.Mathlib.Nat.{lt-trans, mod-eq-of-lt, not-le-of-lt}
 use native.Mathlib.Omega.{arith}
 use borrow.Author.Needs.{needs}
 use lib.Arith.{lt-one}
 use lib.Dec.{lit<, lit≤}
-use lib.Pow.{pow-add}
 use lib.Count.{leadingZeros}
 use Rattle.ieee754.proofs.Order.{lt-or-ge}
-use Rattle.ieee754.proofs.Sizes.{zeros-lt, zeros-ge, shifted-ge, shifted-lt}
+use Rattle.ieee754.proofs.Sizes.{shl-shl, zeros-lt, zeros-ge, shifted-ge, shifted-lt}
 use Rattle.ieee754.proofs.normal.normalise.Statement.{statement}
 use Rattle.ieee754.proofs.normal.normalise.Tie as tie
 
 raised : (m e i j : ℕ) → i + j ≡ e + 52 → m * 2 ^ i * 2 ^ j ≡ m * 2 ^ e * 2 ^ 52
-raised m e i j h =
-    mul-assoc m (2 ^ i) (2 ^ j) ∙ ap (λ (x : ℕ). m * x) (sym (pow-add 2 i j) ∙ ap (λ (x : ℕ). 2 ^ x) h ∙ pow-add 2 e 52) ∙ sym (mul-assoc m (2 ^ e) (2 ^ 52))
+raised m e i j h = shl-shl m i j (e + 52) h ∙ sym (shl-shl m e 52 (e + 52) refl)
 
 -- ---- a subnormal number n
 module _ (n : ℕ) (some : 0 < n) (small : n < 2 ^ 52) where
@@ -69,7 +67,7 @@ returns c =
       low = c .if1 .taken;
       high = s .pre .0 .short;
       within = search needs;
-      same = ap (λ (x : ℕ). m * x) (pow-add 2 e 52) ∙ sym (mul-assoc m (2 ^ e) (2 ^ 52));
+      same = sym (shl-shl m e 52 (e + 52) refl);
     }
 
 returns-2 : tie.Need-returns-2
