@@ -607,14 +607,27 @@ class File:
                     if not same:
                         self.scalar(kind, None, start, end)
             elif self.sees("["):
-                self.next()
-                owner = bare(kind)
-                index = self.expression()
-                join(index, "usize")
-                self.expect("]")
-                kind = owner[1] if isinstance(owner, tuple) and owner[0] == "array" else None
+                kind = self.index(bare(kind))
             else:
                 return kind
+
+    def index(self, owner):
+        """An entry of an array, or, by a range, a part of it."""
+        self.expect("[")
+        kept, self.structs = self.structs, True
+        part = False
+        if not self.sees(".."):
+            join(self.binary(0), "usize")
+        if self.sees(".."):
+            part = True
+            self.next()
+            if not self.sees("]"):
+                join(self.binary(0), "usize")
+        self.structs = kept
+        self.expect("]")
+        if part:
+            return owner
+        return owner[1] if isinstance(owner, tuple) and owner[0] == "array" else None
 
     def method(self, owner, name, start, at):
         f = self.world.functions.get(owner[:2] + (owner[2] + "::" + name,)) if owner in self.world.structs else None

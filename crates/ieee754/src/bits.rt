@@ -1,13 +1,9 @@
-// Doubles and their bit patterns: Rust's from_bits and to_bits, but that there is one NaN. Every NaN's pattern is read as it, and it is written as
-// 7ff8000000000000.
+// Doubles and their bit patterns: Rust's from_bits and to_bits, but that there is one NaN. Every NaN's pattern is read as
+// it, and it is written as 7ff8000000000000.
 ghost use mathlib.Core.Path.{_≡_};
 ghost use lib.Ieee.{binary64, ofBits, toBits};
-
-// The weight of the sign in a bit pattern.
-const SIGN: u64 = 0x8000_0000_0000_0000;
-
-// The pattern of plus infinity. Those above it are NaNs', until the sign is set.
-const INFINITY: u64 = 0x7ff0_0000_0000_0000;
+use crate::format::INFINITY;
+use crate::format::SIGN;
 
 const NAN: u64 = 0x7ff8_0000_0000_0000;
 

@@ -1,4 +1,4 @@
--- The cases of document 01, "Checked by hand", that are marked P and speak of the refinement and of the rays, as rows of a table: numbers by their bit patterns. The whole table, and the theorem over its rows, are in the crate lambdatwist.
+-- The cases of document 01, "Checked by hand", that are marked P and speak of the refinement and of the rays, as rows of a table: numbers by their bit patterns. That they hold is `marked-cases` of the crate theorems.
 use Prim.Native.Nat.{ℕ}
 use mathlib.Core.Bool.{Bool, true, false, _&&_, Bool·beq}
 use mathlib.Core.List.{List, [], _∷_}

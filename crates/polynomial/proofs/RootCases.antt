@@ -1,5 +1,4 @@
 -- The cases of document 01 that speak of the quadratic and the cubic hold of the definitions (`root-cases`): they compute. Assumes nothing.
-use mathlib.Core.Bool.{Bool}
 use lib.Dec.{T}
 use lib.Ieee.{ofBits, toBits, size, add, sub, mul, div, sum, round, neg, lt, le, eq, isNan}
 use Rattle.ieee754.specs.Magnitude.{abs}
