@@ -2,7 +2,7 @@
 use mathlib.Core.Bool.{Bool, not, _||_}
 use lib.Ieee.{Float, lt, le, eq}
 use lib.Ieee.Scale.{finite}
-use Rattle.ieee754.specs.Literal.{zero, one, two}
+use Rattle.ieee754.specs.Literal.{plusZero, one, two}
 use Rattle.ieee754.specs.Magnitude.{abs}
 use Rattle.ieee754.specs.Traced.{Traced, pure, _>>=_, if_then_else_, _⊗_, _⊕_, _⊖_, _⊘_, !_, ⊝_, √_}
 use Rattle.linalg.specs.Vectors.{vector}
@@ -25,7 +25,7 @@ forRoots (Refused number) turn found = pure found
 
 -- denominator == 0.0 || !denominator.is_finite()
 unfoldable pub noDivisor : Float → Bool
-noDivisor denominator = eq denominator zero || not (finite denominator)
+noDivisor denominator = eq denominator plusZero || not (finite denominator)
 
 -- ---- the chart for u0.abs() < u1.abs(): the depths of a root, then the chart
 unfoldable pub firstChartDepths : SquaredEdges → Factors → Vector3 → Candidates → Float → Traced Candidates
@@ -34,7 +34,7 @@ firstChartDepths edges b nullVector found tau =
     do
       -- let depth_denominator = tau * (tau + b02) + 1.0;
       depthDenominator ← ! tau ⊗ (! tau ⊕ ! (b .b02)) ⊕ ! one
-      if le tau zero || le depthDenominator zero then pure found
+      if le tau plusZero || le depthDenominator plusZero then pure found
           else do
             -- let depth0 = (a02 / depth_denominator).sqrt();
             depth0 ← √ (! (edges .a02) ⊘ ! depthDenominator)
@@ -66,7 +66,7 @@ unfoldable pub secondChartDepths : SquaredEdges → Factors → Float → Float 
 secondChartDepths edges b w0 w1 found tau = do
   -- let depth_denominator = tau * (b12 + tau) + 1.0;
   depthDenominator ← ! tau ⊗ (! (b .b12) ⊕ ! tau) ⊕ ! one
-  if le tau zero || le depthDenominator zero then pure found
+  if le tau plusZero || le depthDenominator plusZero then pure found
       else do
         -- let depth1 = (a12 / depth_denominator).sqrt();
         depth1 ← √ (! (edges .a12) ⊘ ! depthDenominator)

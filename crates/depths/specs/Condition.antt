@@ -1,7 +1,7 @@
 -- `leading_cubic_condition`: how large the leading coefficient of the cubic is beside the largest.
 use lib.Ieee.{Float, eq}
 use lib.Ieee.Scale.{finite}
-use Rattle.ieee754.specs.Literal.{zero}
+use Rattle.ieee754.specs.Literal.{plusZero}
 use Rattle.ieee754.specs.Magnitude.{abs}
 use Rattle.ieee754.specs.Maximum.{max}
 use Rattle.ieee754.specs.Traced.{Traced, pure, _>>=_, if_then_else_, _⊘_, !_}
@@ -14,13 +14,13 @@ use Rattle.depths.specs.declared.cubic.Coefficients.{Coefficients}
 
 -- coefficients.iter().copied().map(f64::abs).fold(0.0, f64::max): it starts from plus zero, so where all are NaN the scale is zero
 unfoldable pub foldedScale : Coefficients → Float
-foldedScale c = max (max (max (max zero (abs (c .cubic3))) (abs (c .cubic2))) (abs (c .cubic1))) (abs (c .cubic0))
+foldedScale c = max (max (max (max plusZero (abs (c .cubic3))) (abs (c .cubic2))) (abs (c .cubic1))) (abs (c .cubic0))
 
 unfoldable pub leadingShare : Coefficients → Traced Float
 leadingShare c =
-    if eq (foldedScale c) zero then pure zero
+    if eq (foldedScale c) plusZero then pure plusZero
     else if finite (foldedScale c) then ! abs (c .cubic3) ⊘ ! foldedScale c
-    else pure zero
+    else pure plusZero
 
 unfoldable pub leadingCubicCondition : World → Bearings → Traced Float
 leadingCubicCondition world bearings = do

@@ -4,7 +4,7 @@ use mathlib.Core.List.{[], _∷_}
 use lib.Dec.{ltb}
 use lib.ListN.{set}
 use lib.Ieee.{Float, lt}
-use Rattle.ieee754.specs.Literal.{zero}
+use Rattle.ieee754.specs.Literal.{plusZero}
 use Rattle.ieee754.specs.Traced.{if_then_else_}
 use Rattle.linalg.specs.Vectors.{zeros}
 use Rattle.linalg.specs.declared.vector3.Vector3.{Vector3}
@@ -18,7 +18,7 @@ noCandidates = record { count = 0; depths = zeros ∷ zeros ∷ zeros ∷ zeros 
 -- if depth1 > 0.0 && depth_count < depths.len() { depths[depth_count] = ..; depth_count += 1; }, in the other chart of depth0
 unfoldable pub pushIfPositive : Candidates → Float → Vector3 → Candidates
 pushIfPositive found depth depths =
-    if lt zero depth then (
+    if lt plusZero depth then (
     if ltb (found .count) 4 then record { count = found .count + 1; depths = set (found .depths) (found .count) depths }
     else found)
     else found

@@ -1,6 +1,6 @@
 -- The two eigenvalues that are not known: the second part of `eig_with_known_zero`. They are the roots of a quadratic, the greater in magnitude first.
 use lib.Ieee.{Float, lt, eq}
-use Rattle.ieee754.specs.Literal.{zero}
+use Rattle.ieee754.specs.Literal.{plusZero}
 use Rattle.ieee754.specs.Magnitude.{abs}
 use Rattle.ieee754.specs.Traced.{Traced, pure, _>>=_, if_then_else_, _⊗_, _⊕_, _⊖_, !_, ⊝_}
 use Rattle.linalg.specs.Matrices.{trace}
@@ -21,8 +21,8 @@ pairCoefficient m offDiagonalSquared =
 -- if first_value == 0.0 || second_value == 0.0 { return None; }
 unfoldable pub nonzeroPair : Float → Float → Eigenvalues
 nonzeroPair first second =
-    if eq first zero then NoPair
-    else if eq second zero then NoPair
+    if eq first plusZero then NoPair
+    else if eq second plusZero then NoPair
     else Pair first second
 
 -- if first_value.abs() < second_value.abs() { std::mem::swap(&mut first_value, &mut second_value); }

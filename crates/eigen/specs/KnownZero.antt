@@ -1,6 +1,6 @@
 -- `eig_with_known_zero`: the eigenvectors, by columns, and the eigenvalues of a symmetric matrix of which zero is an eigenvalue. Each step that stops ends it.
 use lib.Ieee.{Float}
-use Rattle.ieee754.specs.Literal.{zero}
+use Rattle.ieee754.specs.Literal.{plusZero}
 use Rattle.ieee754.specs.Traced.{Traced, pure, _>>=_, if_then_else_, _⊗_, !_}
 use Rattle.linalg.specs.Vectors.{vector}
 use Rattle.linalg.specs.Matrices.{fromColumns, matFinite}
@@ -32,7 +32,7 @@ systemOfPair m zeroUnit offDiagonalSquared firstValue secondValue = do
   first ← eigenvectorOf m p firstValue
   orNotFound first (λ column0. do
     second ← eigenvectorOf m p secondValue
-    orNotFound second (λ column1. pure (Found (fromColumns column0 column1 zeroUnit) (vector firstValue secondValue zero))))
+    orNotFound second (λ column1. pure (Found (fromColumns column0 column1 zeroUnit) (vector firstValue secondValue plusZero))))
 
 unfoldable pub eigWithKnownZero : Matrix3 → Traced Eigensystem
 eigWithKnownZero m =

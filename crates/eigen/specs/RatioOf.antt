@@ -1,7 +1,7 @@
 -- The square root of minus the second eigenvalue over the first, with either sign of which a null vector is made: `solve_ordered`, from `let ratio_squared` on.
 use lib.Ieee.{Float, lt}
 use lib.Ieee.Scale.{finite}
-use Rattle.ieee754.specs.Literal.{zero, sixtyFour, epsilon}
+use Rattle.ieee754.specs.Literal.{plusZero, sixtyFour, epsilon}
 use Rattle.ieee754.specs.Maximum.{max}
 use Rattle.ieee754.specs.Traced.{Traced, pure, _>>=_, if_then_else_, _⊗_, _⊘_, !_, ⊝_, √_}
 use Rattle.eigen.specs.declared.ratio.Ratio.{Ratio}
@@ -17,6 +17,6 @@ ratioOf first second = do
     if lt ratioSquared limit then pure NotReal
         else do
           -- let ratio = ratio_squared.max(0.0).sqrt();
-          ratio ← √ ! max ratioSquared zero
+          ratio ← √ ! max ratioSquared plusZero
           pure (Real ratio))
       else pure NotReal

@@ -1,6 +1,6 @@
 -- The eigenvector of the known eigenvalue zero: the first part of `eig_with_known_zero`. It becomes the third column of the eigenvectors, which the solve never reads; but where it is missing the solve ends.
 use lib.Ieee.{le}
-use Rattle.ieee754.specs.Literal.{zero, sixtyFour, epsilon}
+use Rattle.ieee754.specs.Literal.{plusZero, sixtyFour, epsilon}
 use Rattle.ieee754.specs.Traced.{Traced, pure, _>>=_, if_then_else_, _⊗_, _⊖_, !_, √_}
 use Rattle.linalg.specs.Vectors.{vector, normSquared, vecDiv}
 use Rattle.linalg.specs.Matrices.{matNormSquared}
@@ -28,7 +28,7 @@ zeroVector m = do
   matrixScale ← matNormSquared m
   -- if zero_norm_squared <= 64.0 * f64::EPSILON * matrix_scale * matrix_scale
   limit ← ! sixtyFour ⊗ ! epsilon ⊗ ! matrixScale ⊗ ! matrixScale
-  if le zeroNormSquared limit then eigenvectorFromRowCrosses m zero
+  if le zeroNormSquared limit then eigenvectorFromRowCrosses m plusZero
       else do
         -- zero_vector /= zero_norm_squared.sqrt();
         length ← √ ! zeroNormSquared

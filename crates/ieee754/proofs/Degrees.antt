@@ -8,7 +8,7 @@ use lib.Dec.{T}
 use lib.Ieee.{Float, binary64, neg, add, sub, mul, div, lt, eq, le, ne, isNan, ofBits}
 use lib.Ieee.Fits.{and-l, and-r}
 use lib.Ieee.Scale.{finite}
-use Rattle.ieee754.specs.Literal.{num}
+use Rattle.ieee754.specs.Literal.{double}
 use Rattle.ieee754.specs.Magnitude.{abs}
 use Rattle.ieee754.specs.CopySign.{negative, copysign}
 use Rattle.ieee754.specs.Maximum.{max}
@@ -68,7 +68,7 @@ module _ {k : ℤ} where
   at-zero {x} h = sym (h .scaled ∙ ap (λ (t : ℤ). scale t x) (zero-*ℤ k) ∙ scale-zero x)
 
   -- 0.0 has every degree
-  pub null : {n : ℤ} → At k n (num 0) (num 0)
+  pub null : {n : ℤ} → At k n (double 0) (double 0)
   unfolding scale ofBits
   null = record { scaled = refl }
 

@@ -4,7 +4,7 @@ use mathlib.Core.List.{List, [], _∷_}
 use Prim.Native.Nat.{ℕ}
 use lib.Dec.{T, eqb}
 use lib.Ieee.{Float, binary64, toBits, ofBits, sum, add, mul}
-use Rattle.ieee754.specs.Literal.{num}
+use Rattle.ieee754.specs.Literal.{double}
 use Rattle.ieee754.specs.Root.{sqrt, cbrt}
 use Rattle.ieee754.specs.Fma.{fma}
 use Rattle.ieee754.specs.Traced.{inRange, addRegular, mulRegular, divRegular}
@@ -12,7 +12,7 @@ use Rattle.ieee754.specs.Traced.{inRange, addRegular, mulRegular, divReg
 -- f gives at each row's first pattern its second
 unfoldable pub gives : (Float → Float) → List (ℕ × ℕ) → Bool
 gives f [] = true
-gives f (p ∷ ps) = eqb (toBits binary64 (f (num (p .0)))) (p .1) && gives f ps
+gives f (p ∷ ps) = eqb (toBits binary64 (f (double (p .0)))) (p .1) && gives f ps
 
 -- 2, 3, 4, 1/4, 0.1; the neighbours of 1 below and above; the largest double, the smallest normal one, the smallest and the largest subnormal one; zeros, infinities, a negative number, NaN
 pub sqrt-examples : T (gives sqrt (
@@ -40,7 +40,7 @@ cbrt-examples = tt
 
 unfoldable pub fmaGives : List (ℕ × ℕ × ℕ × ℕ) → Bool
 fmaGives [] = true
-fmaGives (p ∷ ps) = eqb (toBits binary64 (fma (num (p .0)) (num (p .1)) (num (p .2)))) (p .3) && fmaGives ps
+fmaGives (p ∷ ps) = eqb (toBits binary64 (fma (double (p .0)) (double (p .1)) (double (p .2)))) (p .3) && fmaGives ps
 
 -- In rows: 2 * 3 + 4; (1 + 2^-52)^2 - (1 + 2^-51), which a rounding of the product would lose, and 10 * 0.1 - 1; a tie, and just past it; half of the smallest double, alone and with the smallest added;
 -- the largest double times 2, alone and with the largest taken off; 1 * 1 - 1, and -0 * 5 with -0 and with 0; products too small to be seen, with 0 and with -0;
@@ -63,7 +63,7 @@ fma-examples = tt
 -- ---- the scaling rule's premise at its ends: whether the test says of each row's operands what stands beside them
 unfoldable pub says : (Float → Float → Bool) → List (ℕ × ℕ × Bool) → Bool
 says f [] = true
-says f (p ∷ ps) = Bool·beq (f (num (p .0)) (num (p .1))) (p .2) && says f ps
+says f (p ∷ ps) = Bool·beq (f (double (p .0)) (double (p .1))) (p .2) && says f ps
 
 -- The largest double is 2^1024 - 2^971. With 2^970 added it reaches 2^1024 - 2^970, with the double below that it does not. 2^-1022 + 2^-1074 - 2^-1022 is too small, 1 - 1 is zero.
 -- An infinity or a NaN leaves no exact result.

@@ -10,7 +10,7 @@ use lib.Dec.{ltb, eqb}
 use lib.Ieee.{Float, nan, inf, fin, binary64, up, down, unlike, round, sum, level, add, mul, eq, ofBits}
 use lib.Ieee.Fits.{up-pos, down-pos}
 use borrow.Author.Tests.{lt-ltb, le-ltb}
-use Rattle.ieee754.specs.Literal.{num}
+use Rattle.ieee754.specs.Literal.{double}
 use Rattle.ieee754.specs.Fma.{fma}
 
 like : (s : Bool) → unlike s false ≡ s
@@ -18,7 +18,7 @@ like true = refl
 like false = refl
 
 -- 1.0
-pub fma-one : (x z : Float) → fma x (num 0x3ff0_0000_0000_0000) z ≡ add binary64 x z
+pub fma-one : (x z : Float) → fma x (double 0x3ff0_0000_0000_0000) z ≡ add binary64 x z
 unfolding fma add mul ofBits
 fma-one nan z = refl
 fma-one (inf true) z = refl
@@ -53,7 +53,7 @@ special-zero true s u = refl
 special-zero false s u = refl
 
 -- -0.0
-pub fma-minus-zero : (x y : Float) → fma x y (num 0x8000_0000_0000_0000) ≡ mul binary64 x y
+pub fma-minus-zero : (x y : Float) → fma x y (double 0x8000_0000_0000_0000) ≡ mul binary64 x y
 unfolding fma add mul ofBits
 fma-minus-zero nan y = refl
 fma-minus-zero (inf s) nan = refl
@@ -64,7 +64,7 @@ fma-minus-zero (fin s m e) (inf t) = special-zero (eqb m 0) (unlike s t) true
 fma-minus-zero (fin s m e) (fin t n d) = product-zero (unlike s t) (m * up e * (n * up d)) true (down e * down d) (mul-pos (down-pos e) (down-pos d)) (inl refl)
 
 -- a zero of either sign equals 0.0
-zero-equal : (s : Bool) (e : ℤ) → eq (fin s zero e) (num 0) ≡ true
+zero-equal : (s : Bool) (e : ℤ) → eq (fin s zero e) (double 0) ≡ true
 unfolding eq ofBits
 zero-equal s e = ap₂ (λ (a b : ℕ). level s a false b) (ap (λ (a : ℕ). a * 1) (zero-mul (up e))) (zero-mul (down e)) ∙ go s
   where
@@ -73,7 +73,7 @@ zero-equal s e = ap₂ (λ (a b : ℕ). level s a false b) (ap (λ (a : ℕ). a 
     go false = refl
 
 -- 0.0
-pub fma-plus-zero : (x y : Float) → eq x (num 0) ≡ false → eq y (num 0) ≡ false → fma x y (num 0) ≡ mul binary64 x y
+pub fma-plus-zero : (x y : Float) → eq x (double 0) ≡ false → eq y (double 0) ≡ false → fma x y (double 0) ≡ mul binary64 x y
 unfolding fma add mul ofBits
 fma-plus-zero nan y p q = refl
 fma-plus-zero (inf s) nan p q = refl

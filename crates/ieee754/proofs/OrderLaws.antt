@@ -14,7 +14,7 @@ use lib.Ieee.Fits.{down-pos}
 use lib.Ieee.Bits.{is-true, is-false}
 use lib.Ieee.Positive.{through}
 use borrow.Author.Tests.{lt-ltb, le-ltb}
-use Rattle.ieee754.specs.Literal.{num}
+use Rattle.ieee754.specs.Literal.{double}
 use Rattle.ieee754.specs.TotalOrder.{totalOrder, totalCmp}
 use Rattle.ieee754.specs.declared.total_cmp.Order.the-variants.{Less, Equal, Greater}
 use Rattle.ieee754.proofs.Order.{lt-or-ge, or-left, or-right}
@@ -185,7 +185,7 @@ lt-order-not (fin s m e) (inf false) h = tt
 lt-order-not (fin s m e) (fin t n d) h = subst (λ (b : Bool). T (not b)) (sym (order-fin t n d s m e)) (signed-lt s (m * up e * down d) t (n * up d * down e) h)
 
 -- ---- zeros and NaN: -0.0 and 0.0
-pub order-zeros : T (totalOrder (num 0x8000_0000_0000_0000) (num 0)) × T (not (totalOrder (num 0) (num 0x8000_0000_0000_0000)))
+pub order-zeros : T (totalOrder (double 0x8000_0000_0000_0000) (double 0)) × T (not (totalOrder (double 0) (double 0x8000_0000_0000_0000)))
 unfolding totalOrder lt eq isNan ofBits
 order-zeros = (tt, tt)
 

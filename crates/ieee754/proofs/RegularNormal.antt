@@ -14,7 +14,7 @@ use lib.Ieee.Exact.{HasValue, odd-sign}
 use lib.Ieee.Nearest.{nearest-ge}
 use lib.Ieee.Bits.{is-true}
 use borrow.Author.Tests.{le-ltb}
-use Rattle.ieee754.specs.Literal.{num, minPositive}
+use Rattle.ieee754.specs.Literal.{double, minPositive}
 use Rattle.ieee754.specs.Root.{root, roundRoot, sqrt, cbrt}
 use Rattle.ieee754.specs.Fma.{fma}
 use Rattle.ieee754.specs.Traced.{Traced, _⊕_, _⊖_, _⊗_, _⊘_, mulAdd, inRange, magnitude, addRegular, mulRegular, divRegular, fmaRegular, sqrtRegular, cbrtRegular}
@@ -201,7 +201,7 @@ some : (d a : ℕ) → 0 < a → 0 * d < a * 1
 some d a h = omega arith
 
 -- so the test `norm > f64::MIN_POSITIVE` on the root of such a value asks only whether the value is above zero
-pub sqrt-above : (x : Float) → T (zeroOrNormal x) → lt minPositive (sqrt x) ≡ lt (num 0) x
+pub sqrt-above : (x : Float) → T (zeroOrNormal x) → lt minPositive (sqrt x) ≡ lt (double 0) x
 unfolding lt sqrt ofBits
 sqrt-above nan r = refl
 sqrt-above (inf false) r = refl

@@ -13,7 +13,7 @@ use lib.Pow.{pow-add, pow-pos, pow-mono}
 use lib.Ieee.{Float, Format, prec, low, up, size, nearest, units}
 use lib.Ieee.Digits.{size-lt, size-le, size-reaches}
 use lib.Ieee.Fits.{two}
-use Rattle.ieee754.specs.Root.{digits, root, roundRoot}
+use Rattle.ieee754.specs.Root.{rootDigits, root, roundRoot}
 use Rattle.ieee754.specs.inner.Nearest.{IsNearest}
 pub use Rattle.ieee754.proofs.Nearest.{Compared, compared}
 use Rattle.ieee754.proofs.Sizes.{size-gt}
@@ -44,8 +44,8 @@ pow-back p u x y h = base-lt p x y (lt-of-mul-lt-mul-right u h)
 abbrev pub IsRoot : ℕ → ℕ → ℕ → Type 0
 IsRoot p n q = (q ^ p ≤ n) × (n < suc q ^ p)
 
-digits-root : (p k n a : ℕ) → a ^ p ≤ n → n < (a + 2 ^ k) ^ p → IsRoot p n (digits p k n a)
-unfolding digits
+digits-root : (p k n a : ℕ) → a ^ p ≤ n → n < (a + 2 ^ k) ^ p → IsRoot p n (rootDigits p k n a)
+unfolding rootDigits
 digits-root p zero n a l h = (l, rw add-one at h)
 digits-root p (suc k) n a l h = go (leb ((a + 2 ^ k) ^ p) n) (leb→le ((a + 2 ^ k) ^ p) n) (nleb→lt ((a + 2 ^ k) ^ p) n) (digits-root p k n)
   where
@@ -53,8 +53,8 @@ digits-root p (suc k) n a l h = go (leb ((a + 2 ^ k) ^ p) n) (leb→le ((a + 2 ^
     halves = omega arith
 
     go : (b : Bool) → (T b → (a + 2 ^ k) ^ p ≤ n) → (T (not b) → n < (a + 2 ^ k) ^ p)
-        → ((a : ℕ) → a ^ p ≤ n → n < (a + 2 ^ k) ^ p → IsRoot p n (digits p k n a))
-        → IsRoot p n (digits p k n (cond b (a + 2 ^ k) a))
+        → ((a : ℕ) → a ^ p ≤ n → n < (a + 2 ^ k) ^ p → IsRoot p n (rootDigits p k n a))
+        → IsRoot p n (rootDigits p k n (cond b (a + 2 ^ k) a))
     go true y z ih = ih (a + 2 ^ k) (y tt) (rw halves at h)
     go false y z ih = ih a l (z tt)
 

@@ -4,7 +4,7 @@ use mathlib.Core.Bool.{Bool, _&&_, not}
 use mathlib.Core.List.{List, [], _∷_}
 use lib.ListN.{take}
 use lib.Ieee.{Float, neg, le}
-use Rattle.ieee754.specs.Literal.{zero}
+use Rattle.ieee754.specs.Literal.{plusZero}
 use Rattle.ieee754.specs.Traced.{Traced, pure, _>>=_, if_then_else_}
 use Rattle.linalg.specs.Vectors.{vecSub, vecMul, allFinite}
 use Rattle.linalg.specs.Matrices.{column0, column1, matVec}
@@ -39,7 +39,7 @@ candidates edges b eigenvectors ratio = do
 
 -- !depth.iter().any(|value| !value.is_finite() || *value <= 0.0)
 unfoldable pub allPositive : Vector3 → Bool
-allPositive d = allFinite d && (not (le (d .x) zero) && (not (le (d .y) zero) && not (le (d .z) zero)))
+allPositive d = allFinite d && (not (le (d .x) plusZero) && (not (le (d .y) plusZero) && not (le (d .z) plusZero)))
 
 -- from `let camera0 = depth[0] * f0;` to the push
 unfoldable pub pushDepths : View → Matrix3 → Solutions → Refined → Traced Solutions

@@ -2,7 +2,7 @@
 -- matrix does so for each column, and `trace` starts from plus zero.
 use mathlib.Core.Bool.{Bool, _&&_}
 use lib.Ieee.{Float}
-use Rattle.ieee754.specs.Literal.{zero}
+use Rattle.ieee754.specs.Literal.{plusZero}
 use Rattle.ieee754.specs.Traced.{Traced, pure, _>>=_, _⊗_, _⊕_, !_}
 use Rattle.linalg.specs.declared.vector3.Vector3.{Vector3}
 use Rattle.linalg.specs.declared.matrix3.Matrix3.{Matrix3}
@@ -68,7 +68,7 @@ matNormSquared m = normSquared (column0 m) ⊕ normSquared (column1 m) ⊕ normS
 
 -- m.trace()
 unfoldable pub trace : Matrix3 → Traced Float
-trace m = ! zero ⊕ ! (m .m00) ⊕ ! (m .m11) ⊕ ! (m .m22)
+trace m = ! plusZero ⊕ ! (m .m00) ⊕ ! (m .m11) ⊕ ! (m .m22)
 
 -- m.iter().all(|value| value.is_finite())
 unfoldable pub matFinite : Matrix3 → Bool

@@ -2,7 +2,7 @@
 use mathlib.Core.Bool.{Bool, _&&_}
 use lib.Ieee.{Float}
 use lib.Ieee.Scale.{finite}
-use Rattle.ieee754.specs.Literal.{zero}
+use Rattle.ieee754.specs.Literal.{plusZero}
 use Rattle.ieee754.specs.Magnitude.{abs}
 use Rattle.ieee754.specs.Traced.{Traced, pure, _>>=_, _⊗_, _⊕_, _⊖_, _⊘_, !_, √_}
 use Rattle.linalg.specs.declared.vector3.Vector3.{Vector3}
@@ -12,7 +12,7 @@ abbrev pub vector : Float → Float → Float → Vector3
 vector x y z = record { x = x; y = y; z = z }
 
 abbrev pub zeros : Vector3
-zeros = vector zero zero zero
+zeros = vector plusZero plusZero plusZero
 
 -- a - b
 unfoldable pub vecSub : Vector3 → Vector3 → Traced Vector3
@@ -68,7 +68,7 @@ cross a b = do
 
 -- v.abs().sum()
 unfoldable pub absSum : Vector3 → Traced Float
-absSum v = ! zero ⊕ ! abs (v .x) ⊕ ! abs (v .y) ⊕ ! abs (v .z)
+absSum v = ! plusZero ⊕ ! abs (v .x) ⊕ ! abs (v .y) ⊕ ! abs (v .z)
 
 -- v.iter().all(|value| value.is_finite())
 unfoldable pub allFinite : Vector3 → Bool

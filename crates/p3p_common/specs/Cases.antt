@@ -4,7 +4,7 @@ use mathlib.Core.Bool.{Bool, true, false, _&&_, Bool·beq}
 use mathlib.Core.List.{List, [], _∷_}
 use lib.Dec.{eqb}
 use lib.Ieee.{Float, binary64, toBits}
-use Rattle.ieee754.specs.Literal.{num}
+use Rattle.ieee754.specs.Literal.{double}
 use Rattle.linalg.specs.Vectors.{vector}
 use Rattle.linalg.specs.declared.vector3.Vector3.{Vector3}
 use Rattle.p3p_common.specs.declared.refine_depths.Refined.{Refined}
@@ -18,7 +18,7 @@ pub data PoseCase : Type 0 where
 
 -- three equal entries
 abbrev pub alike : ℕ → Vector3
-alike w = vector (num w) (num w) (num w)
+alike w = vector (double w) (double w) (double w)
 
 unfoldable pub hasBits : Float → ℕ → Bool
 hasBits x w = eqb (toBits binary64 x) w
@@ -29,10 +29,10 @@ refinedTo r w n = hasBits (r .depths .x) w && hasBits (r .depths .y) w && hasBit
 unfoldable pub poseCaseHolds : PoseCase → Bool
 poseCaseHolds (refinement depth edge cosine iterations after updates) =
     refinedTo
-    (refineDepths (alike depth) (record { a01 = num edge; a02 = num edge; a12 = num edge }) (record { m01 = num cosine; m02 = num cosine; m12 = num cosine }) iterations .value)
+    (refineDepths (alike depth) (record { a01 = double edge; a02 = double edge; a12 = double edge }) (record { m01 = double cosine; m02 = double cosine; m12 = double cosine }) iterations .value)
     after
     updates
-poseCaseHolds (ray x y z f g h fits) = Bool·beq (rayFits (vector (num x) (num y) (num z)) (vector (num f) (num g) (num h)) .value) fits
+poseCaseHolds (ray x y z f g h fits) = Bool·beq (rayFits (vector (double x) (double y) (double z)) (vector (double f) (double g) (double h)) .value) fits
 
 unfoldable pub poseCases : List PoseCase
 poseCases =

@@ -1,10 +1,10 @@
 -- The literals and constants of pose/p3p/common.rs, each by its bit pattern.
 use lib.Ieee.{Float}
-use Rattle.ieee754.specs.Literal.{num}
+use Rattle.ieee754.specs.Literal.{double}
 
 -- 1e-10, the nearest double
 abbrev pub ten⁻¹⁰ : Float
-ten⁻¹⁰ = num 0x3ddb_7cdf_d9d7_bdbb
+ten⁻¹⁰ = double 0x3ddb_7cdf_d9d7_bdbb
 
 -- NEAR_ROTATION_TOLERANCE
 abbrev pub nearRotationTolerance : Float
@@ -12,4 +12,4 @@ nearRotationTolerance = ten⁻¹⁰
 
 -- PROJECTED_RAY_TOLERANCE, 2 ^ -20
 abbrev pub projectedRayTolerance : Float
-projectedRayTolerance = num 0x3eb0_0000_0000_0000
+projectedRayTolerance = double 0x3eb0_0000_0000_0000

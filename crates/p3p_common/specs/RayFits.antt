@@ -2,7 +2,7 @@
 use mathlib.Core.Bool.{Bool, false, _&&_}
 use lib.Ieee.{lt, le}
 use lib.Ieee.Scale.{finite}
-use Rattle.ieee754.specs.Literal.{zero}
+use Rattle.ieee754.specs.Literal.{plusZero}
 use Rattle.ieee754.specs.Traced.{Traced, pure, _>>=_, if_then_else_, _⊗_, !_}
 use Rattle.linalg.specs.Vectors.{dot, normSquared, cross}
 use Rattle.linalg.specs.declared.vector3.Vector3.{Vector3}
@@ -14,7 +14,7 @@ use Rattle.p3p_common.specs.Literal.{projectedRayTolerance}
 unfoldable pub rayFits : Vector3 → Vector3 → Traced Bool
 rayFits camera bearing = do
   rayDepth ← dot camera bearing
-  if finite rayDepth && lt zero rayDepth then (do
+  if finite rayDepth && lt plusZero rayDepth then (do
     normal ← cross camera bearing
     offRay ← normSquared normal
     limit ← ! projectedRayTolerance ⊗ ! projectedRayTolerance ⊗ ! rayDepth ⊗ ! rayDepth

@@ -3,7 +3,7 @@ use Prim.Native.Nat.{ℕ, zero, suc, _+_}
 use mathlib.Core.Bool.{not, _||_}
 use lib.Ieee.{Float, lt, eq}
 use lib.Ieee.Scale.{finite}
-use Rattle.ieee754.specs.Literal.{num, half, two}
+use Rattle.ieee754.specs.Literal.{plusZero, half, two}
 use Rattle.ieee754.specs.Maximum.{max}
 use Rattle.ieee754.specs.Traced.{Traced, pure, _>>=_, if_then_else_, _⊗_, _⊕_, _⊖_, _⊘_, !_, ⊝_}
 use Rattle.linalg.specs.Vectors.{vector, absSum, allFinite}
@@ -47,7 +47,7 @@ depthUpdate depths bearingCosines residual =
       x32 ← ! d1 ⊖ ! d2 ⊗ ! m12
       x33 ← ! d2 ⊖ ! d1 ⊗ ! m12
       denominator ← ! x11 ⊗ ! x23 ⊗ ! x32 ⊕ ! x12 ⊗ ! x21 ⊗ ! x33
-      if not (finite denominator) || eq denominator (num 0) then pure Stop
+      if not (finite denominator) || eq denominator plusZero then pure Stop
           else do
             inverse ← ! half ⊘ ! denominator
             c0 ← ! d0 ⊕ (⊝ ! x23 ⊗ ! x32 ⊗ ! r0 ⊖ ! x12 ⊗ ! x33 ⊗ ! r1 ⊕ ! x12 ⊗ ! x23 ⊗ ! r2) ⊗ ! inverse

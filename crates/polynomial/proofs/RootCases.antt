@@ -4,7 +4,7 @@ use lib.Ieee.{ofBits, toBits, size, add, sub, mul, div, sum, round, neg, lt, le,
 use Rattle.ieee754.specs.Magnitude.{abs}
 use Rattle.ieee754.specs.CopySign.{copysign}
 use Rattle.ieee754.specs.Maximum.{max}
-use Rattle.ieee754.specs.Root.{sqrt, cbrt, roundRoot, root, digits}
+use Rattle.ieee754.specs.Root.{sqrt, cbrt}
 use Rattle.ieee754.specs.Fma.{fma}
 use Rattle.polynomial.specs.Quadratic.{quadraticPair, quadraticRealMonicComputed, quadraticRealMonic}
 use Rattle.polynomial.specs.FastCbrt.{cbrtStart, cbrtStep, cbrtSteps, fastCbrt}

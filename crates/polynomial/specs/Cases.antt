@@ -4,7 +4,7 @@ use mathlib.Core.Bool.{Bool, true, false, _&&_}
 use mathlib.Core.List.{List, [], _∷_}
 use lib.Dec.{eqb}
 use lib.Ieee.{Float, binary64, toBits}
-use Rattle.ieee754.specs.Literal.{num}
+use Rattle.ieee754.specs.Literal.{double}
 use Rattle.polynomial.specs.Answer.{number, values}
 use Rattle.polynomial.specs.Quadratic.{quadraticRealMonic}
 use Rattle.polynomial.specs.PolishedRoot.{polishedCubicRoot}
@@ -27,8 +27,8 @@ pub data RootCase : Type 0 where
   cubic : (b c d n : ℕ) → List ℕ → RootCase
 
 unfoldable pub rootCaseHolds : RootCase → Bool
-rootCaseHolds (quadratic b c n ws) = answers (quadraticRealMonic (num b) (num c) .value) n ws
-rootCaseHolds (cubic b c d n ws) = answers (polishedCubicRoot (num b) (num c) (num d) .value) n ws
+rootCaseHolds (quadratic b c n ws) = answers (quadraticRealMonic (double b) (double c) .value) n ws
+rootCaseHolds (cubic b c d n ws) = answers (polishedCubicRoot (double b) (double c) (double d) .value) n ws
 
 -- every row of a table holds
 unfoldable pub every : {A : Type 0} → (A → Bool) → List A → Bool

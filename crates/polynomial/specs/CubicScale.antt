@@ -1,7 +1,7 @@
 -- `cubic_variable_scale` of polynomial.rs, and the coefficients over that scale, with which `polished_cubic_root` goes on. Document 01, module 3.
 use mathlib.Core.Bool.{Bool, _&&_, _||_}
 use lib.Ieee.{Float, lt, eq}
-use Rattle.ieee754.specs.Literal.{zero, one}
+use Rattle.ieee754.specs.Literal.{plusZero, one}
 use Rattle.ieee754.specs.Magnitude.{abs}
 use Rattle.ieee754.specs.Maximum.{max}
 use Rattle.ieee754.specs.Traced.{Traced, pure, _>>=_, if_then_else_, !_, √_, ∛_, _⊗_, _⊘_}
@@ -10,7 +10,7 @@ use Rattle.polynomial.specs.declared.Monic.{Monic}
 
 -- b == 0.0 && c == 0.0 && d == 0.0
 unfoldable pub allZero : Float → Float → Float → Bool
-allZero b c d = eq b zero && (eq c zero && eq d zero)
+allZero b c d = eq b plusZero && (eq c plusZero && eq d plusZero)
 
 -- b.abs() > 1e50 || c.abs() > 1e100 || d.abs() > 1e150
 unfoldable pub large : Float → Float → Float → Bool

@@ -1,7 +1,7 @@
 -- The root from which `polished_cubic_root` of polynomial.rs starts its Newton steps, of x^3 + b*x^2 + c*x + d: Cardano's where it is the only real one; else a point outside a turning point, or
 -- -b / 3 where there are no turning points. The Rust returns None only at a turning point, where the parabola there has no leading term or a negative radicand. Document 01, module 3.
 use lib.Ieee.{Float, neg, lt, le, eq}
-use Rattle.ieee754.specs.Literal.{zero, half, two}
+use Rattle.ieee754.specs.Literal.{plusZero, half, two}
 use Rattle.ieee754.specs.Traced.{Traced, pure, _>>=_, if_then_else_, !_, ⊝_, √_, _⊗_, _⊘_, _⊕_, _⊖_}
 use Rattle.polynomial.specs.Literal.{three, twentySeven}
 use Rattle.polynomial.specs.Answer.{after}
@@ -21,8 +21,8 @@ turningOffset p turning value = do
   denominator ← ! three ⊗ ! turning ⊕ ! (p .b)
   -- let radicand = -left_value / denominator;
   radicand ← ⊝ ! value ⊘ ! denominator
-  if eq denominator zero then pure Stop
-      else if lt radicand zero then pure Stop
+  if eq denominator plusZero then pure Stop
+      else if lt radicand plusZero then pure Stop
       else do
         offset ← √ ! radicand
         pure (Next offset)
@@ -53,7 +53,7 @@ turningStart p = do
   -- let left = (-b - turning_span) / 3.0;
   left ← (⊝ ! (p .b) ⊖ ! turningSpan) ⊘ ! three
   leftValue ← cubicValue p left
-  if lt zero leftValue then leftStart p left leftValue
+  if lt plusZero leftValue then leftStart p left leftValue
       else rightStart p turningSpan
 
 unfoldable pub startRoot : Monic → Traced Step
@@ -66,7 +66,7 @@ startRoot m = do
   halfQ ← ! half ⊗ ! q
   -- let discriminant = half_q * half_q + p * p * p / 27.0;
   discriminant ← ! halfQ ⊗ ! halfQ ⊕ ! p ⊗ ! p ⊗ ! p ⊘ ! twentySeven
-  if lt zero discriminant then (do
+  if lt plusZero discriminant then (do
     u ← cardanoSingleReal p halfQ discriminant
     root ← ! u ⊖ ! b3
     pure (Next root))

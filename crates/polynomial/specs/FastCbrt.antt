@@ -3,7 +3,7 @@ use Prim.Native.Nat.{_+_, _/_}
 use mathlib.Core.Bool.{not}
 use lib.Ieee.{Float, binary64, toBits, ofBits, lt, eq}
 use lib.Ieee.Scale.{finite}
-use Rattle.ieee754.specs.Literal.{zero, one, two, minPositive}
+use Rattle.ieee754.specs.Literal.{plusZero, one, two, minPositive}
 use Rattle.ieee754.specs.Magnitude.{abs}
 use Rattle.ieee754.specs.CopySign.{copysign}
 use Rattle.ieee754.specs.Traced.{Traced, pure, _>>=_, if_then_else_, !_, ∛_, _⊗_, _⊘_, _⊕_}
@@ -20,7 +20,7 @@ unfoldable pub cbrtStep : Float → Float → Traced Step
 cbrtStep magnitude root = do
   cube ← ! root ⊗ ! root ⊗ ! root
   if not (finite cube) then pure Stop
-      else if eq cube zero then pure Stop
+      else if eq cube plusZero then pure Stop
       else do
         ratio ← ! magnitude ⊘ ! cube
         -- root *= (1.0 + 2.0 * ratio) / (2.0 + ratio);
@@ -37,7 +37,7 @@ cbrtSteps value magnitude = do
 
 unfoldable pub fastCbrt : Float → Traced Float
 fastCbrt value =
-    if eq value zero then pure zero
+    if eq value plusZero then pure plusZero
     else if not (finite (abs value)) then ∛ ! value
     else if lt (abs value) minPositive then ∛ ! value
     else cbrtSteps value (abs value)

@@ -3,10 +3,9 @@ use Prim.Native.Nat.{ℕ, zero, suc}
 use mathlib.Core.Bool.{not}
 use lib.Ieee.{Float, lt, eq}
 use lib.Ieee.Scale.{finite}
-use Rattle.ieee754.specs.Literal.{two}
+use Rattle.ieee754.specs.Literal.{plusZero, two}
 use Rattle.ieee754.specs.Magnitude.{abs}
 use Rattle.ieee754.specs.Traced.{Traced, pure, _>>=_, if_then_else_, !_, _⊗_, _⊘_, _⊕_, _⊖_}
-use Rattle.ieee754.specs.Literal as literal
 use Rattle.polynomial.specs.Literal.{three, ten⁻¹⁴}
 use Rattle.polynomial.specs.Answer.{after}
 use Rattle.polynomial.specs.CubicStart.{cubicValue}
@@ -23,7 +22,7 @@ newtonStep p root = do
         derivative ← (! three ⊗ ! root ⊕ ! two ⊗ ! (p .b)) ⊗ ! root ⊕ ! (p .c)
         if not (finite value) then pure Stop
             else if not (finite derivative) then pure Stop
-            else if eq derivative literal.zero then pure Stop
+            else if eq derivative plusZero then pure Stop
             else do
               -- let candidate = root - value / derivative;
               candidate ← ! root ⊖ ! value ⊘ ! derivative

@@ -2,7 +2,7 @@
 use mathlib.Core.Bool.{not}
 use lib.Ieee.{Float}
 use lib.Ieee.Scale.{finite}
-use Rattle.ieee754.specs.Literal.{zero}
+use Rattle.ieee754.specs.Literal.{plusZero}
 use Rattle.ieee754.specs.Traced.{Traced, pure, _>>=_, if_then_else_, !_, _⊗_}
 use Rattle.polynomial.specs.Answer.{notFinite, noRoot, after}
 use Rattle.polynomial.specs.CubicScale.{allZero, cubicVariableScale, normalised}
@@ -34,5 +34,5 @@ polishedCubicRoot b c d =
     if not (finite b) then pure notFinite
     else if not (finite c) then pure notFinite
     else if not (finite d) then pure notFinite
-    else if allZero b c d then pure (One zero)
+    else if allZero b c d then pure (One plusZero)
     else polishedRoot b c d

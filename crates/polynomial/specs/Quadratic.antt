@@ -2,7 +2,7 @@
 use mathlib.Core.Bool.{not}
 use lib.Ieee.{Float, neg, lt, eq}
 use lib.Ieee.Scale.{finite}
-use Rattle.ieee754.specs.Literal.{zero, half, epsilon, minPositive}
+use Rattle.ieee754.specs.Literal.{plusZero, half, epsilon, minPositive}
 use Rattle.ieee754.specs.Magnitude.{abs}
 use Rattle.ieee754.specs.CopySign.{copysign}
 use Rattle.ieee754.specs.Maximum.{max}
@@ -15,7 +15,7 @@ use Rattle.polynomial.specs.declared.Roots.the-variants.{Two}
 -- the roots where the discriminant is in the band or above it; the caller has cut a negative one to zero
 unfoldable pub quadraticPair : Float → Float → Float → Traced Roots
 quadraticPair b c discriminant =
-    if eq discriminant zero then (do
+    if eq discriminant plusZero then (do
       -- Some([-0.5 * b; 2])
       root ← ⊝ ! half ⊗ ! b
       pure (Two root root))
@@ -23,7 +23,7 @@ quadraticPair b c discriminant =
       -- let q = -0.5 * (b + discriminant.sqrt().copysign(b));
       root ← √ ! discriminant
       q ← ⊝ ! half ⊗ (! b ⊕ ! (copysign root b))
-      if eq q zero then pure (Two zero zero)
+      if eq q plusZero then pure (Two plusZero plusZero)
           else do
             -- Some([q, c / q])
             other ← ! c ⊘ ! q
@@ -42,7 +42,7 @@ quadraticRealMonicComputed b c cScale =
       tolerance ← ! thirtyTwo ⊗ ! epsilon ⊗ ! (max discriminantScale minPositive)
       if lt discriminant (neg tolerance) then pure noRealRoots
           else if not (finite discriminant) then pure noRealRoots
-          else quadraticPair b c (max discriminant zero)
+          else quadraticPair b c (max discriminant plusZero)
 
 unfoldable pub quadraticRealMonic : Float → Float → Traced Roots
 quadraticRealMonic b c = quadraticRealMonicComputed b c (abs c)

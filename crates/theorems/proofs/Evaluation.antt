@@ -5,7 +5,7 @@ use Rattle.ieee754.specs.CopySign.{copysign}
 use Rattle.ieee754.specs.Maximum.{max}
 use Rattle.ieee754.specs.Clamp.{clamp}
 use Rattle.ieee754.specs.TotalOrder.{totalOrder, totalCmp}
-use Rattle.ieee754.specs.Root.{sqrt, cbrt, roundRoot, root, digits}
+use Rattle.ieee754.specs.Root.{sqrt, cbrt, roundRoot, root, rootDigits}
 use Rattle.ieee754.specs.Fma.{fma}
 use Rattle.linalg.specs.Vectors.{vecSub, vecAdd, vecMul, vecDiv, dot, normSquared, norm, cross, absSum, allFinite}
 use Rattle.linalg.specs.Matrices.{fromColumns, fromRows, matVec, matMul, matNormSquared, trace, matFinite}
@@ -50,5 +50,5 @@ use Rattle.p3p_common.specs.declared.input.Bearings.{Bearings}
 use Rattle.lambdatwist.specs.declared.solve.Answer.{Answer}
 
 unfoldable pub evaluated : World → Bearings → Traced Answer
-unfolding ifValid keepPoint0 projectedGate gate hasNearOrthonormalColumns projectToRotation cameraPoint observationFits projectedPoseFitsMinimalSample pushGated pushPose rotationFromEdges push allPositive pushDepths poseTurn poseTurns poses ifKept inRange addRegular mulRegular divRegular fmaRegular sqrtRegular cbrtRegular solve solveOrdered orderedOr bestOr solveCubic solveRoot solveCandidates orNoRoot orNoSystem orNoRatio orSingular answered refused bestPermutation bestOf better withCondition candidates signTurn chart firstChart secondChart weightChart firstChartDepths secondChartDepths forRoots noDivisor pushIfPositive noCandidates ratioOf eigWithKnownZero systemOfPair orNotFound orNoPair eigenvectorOf eigenvectorByDivision ifAllFinite denominatorScale eigenDenominator precompute eigenvaluePair pairOfRoots byMagnitude nonzeroPair pairCoefficient zeroVector zeroDirection eigenvectorFromRowCrosses unitVector longer lastGreatest singularMatrix leadingCubicCondition leadingShare foldedScale isUnusable coefficientScale cubicCoefficients bearingFactors squaredSines cosines cosine squaredEdges edgeVectors empty worldBasisInverse isSingular dualBasis rayFits refineDepths refineTurns afterStep depthStep depthUpdate ifFinite depthResidual inputFinite polishedCubicRoot polishedRoot rescaledRoot newtonSteps newtonStep startRoot turningStart leftStart rightStart turningOffset cubicValue normalised cubicVariableScale rootMagnitude tiny large allZero cardanoSingleReal fastCbrt cbrtSteps cbrtStep cbrtStart quadraticRealMonic quadraticRealMonicComputed quadraticPair fromColumns fromRows matVec matMul matNormSquared trace matFinite vecSub vecAdd vecMul vecDiv dot normSquared norm cross absSum allFinite fma sqrt cbrt roundRoot root digits totalOrder totalCmp clamp max copysign abs ofBits toBits size add sub mul div sum round neg lt le eq isNan
+unfolding ifValid keepPoint0 projectedGate gate hasNearOrthonormalColumns projectToRotation cameraPoint observationFits projectedPoseFitsMinimalSample pushGated pushPose rotationFromEdges push allPositive pushDepths poseTurn poseTurns poses ifKept inRange addRegular mulRegular divRegular fmaRegular sqrtRegular cbrtRegular solve solveOrdered orderedOr bestOr solveCubic solveRoot solveCandidates orNoRoot orNoSystem orNoRatio orSingular answered refused bestPermutation bestOf better withCondition candidates signTurn chart firstChart secondChart weightChart firstChartDepths secondChartDepths forRoots noDivisor pushIfPositive noCandidates ratioOf eigWithKnownZero systemOfPair orNotFound orNoPair eigenvectorOf eigenvectorByDivision ifAllFinite denominatorScale eigenDenominator precompute eigenvaluePair pairOfRoots byMagnitude nonzeroPair pairCoefficient zeroVector zeroDirection eigenvectorFromRowCrosses unitVector longer lastGreatest singularMatrix leadingCubicCondition leadingShare foldedScale isUnusable coefficientScale cubicCoefficients bearingFactors squaredSines cosines cosine squaredEdges edgeVectors empty worldBasisInverse isSingular dualBasis rayFits refineDepths refineTurns afterStep depthStep depthUpdate ifFinite depthResidual inputFinite polishedCubicRoot polishedRoot rescaledRoot newtonSteps newtonStep startRoot turningStart leftStart rightStart turningOffset cubicValue normalised cubicVariableScale rootMagnitude tiny large allZero cardanoSingleReal fastCbrt cbrtSteps cbrtStep cbrtStart quadraticRealMonic quadraticRealMonicComputed quadraticPair fromColumns fromRows matVec matMul matNormSquared trace matFinite vecSub vecAdd vecMul vecDiv dot normSquared norm cross absSum allFinite fma sqrt cbrt roundRoot root rootDigits totalOrder totalCmp clamp max copysign abs ofBits toBits size add sub mul div sum round neg lt le eq isNan
 evaluated world bearings = solve world bearings

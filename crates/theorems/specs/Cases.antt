@@ -3,7 +3,7 @@ use Prim.Native.Nat.{ℕ}
 use mathlib.Core.Bool.{Bool, _&&_}
 use mathlib.Core.List.{List, [], _∷_}
 use lib.Dec.{eqb}
-use Rattle.ieee754.specs.Literal.{zero, one, two}
+use Rattle.ieee754.specs.Literal.{plusZero, one, two}
 use Rattle.linalg.specs.Vectors.{vector}
 use Rattle.p3p_common.specs.declared.input.World.{World}
 use Rattle.p3p_common.specs.declared.input.Bearings.{Bearings}
@@ -23,12 +23,12 @@ solveCaseHolds (frame world bearings number) = refusedWith (solve world bearings
 
 -- the bearings along the axes
 abbrev pub axisRays : Bearings
-axisRays = rays (vector one zero zero) (vector zero one zero) (vector zero zero one)
+axisRays = rays (vector one plusZero plusZero) (vector plusZero one plusZero) (vector plusZero plusZero one)
 
 unfoldable pub solveCases : List SolveCase
 solveCases =
     -- S1: world and bearings both (1, 0, 0), (0, 1, 0), (0, 0, 1) give 2
-    frame (points (vector one zero zero) (vector zero one zero) (vector zero zero one)) axisRays 2
+    frame (points (vector one plusZero plusZero) (vector plusZero one plusZero) (vector plusZero plusZero one)) axisRays 2
     -- S2: world (0, 0, 0), (1, 0, 0), (2, 0, 0), bearings as S1, give 3
-    ∷ frame (points (vector zero zero zero) (vector one zero zero) (vector two zero zero)) axisRays 3
+    ∷ frame (points (vector plusZero plusZero plusZero) (vector one plusZero plusZero) (vector two plusZero plusZero)) axisRays 3
     ∷ []

@@ -7,8 +7,6 @@ use Rattle.ieee754.proofs.Reading.{nan-of, not-nan, in-range, no-nan}
 use Rattle.ieee754.proofs.Sign.{abs-bits}
 use Rattle.ieee754.proofs.abs.abs.Statement.{statement}
 use Rattle.ieee754.proofs.abs.abs.Tie as tie
-use Rattle.ieee754.proofs.abs.abs.Reads as reads
-use Rattle.ieee754.proofs.abs.abs.Lts as lts
 
 abs-nan : abs nan ≡ nan
 unfolding abs

@@ -8,8 +8,6 @@ use borrow.Author.Tests.{lt-ltb}
 use borrow.Author.Needs.{needs}
 use Rattle.ieee754.proofs.bits.from_bits.Statement.{statement}
 use Rattle.ieee754.proofs.bits.from_bits.Tie as tie
-use Rattle.ieee754.proofs.bits.from_bits.Reads as reads
-use Rattle.ieee754.proofs.bits.from_bits.Lts as lts
 
 is-nan : (x : Float) → isNan x ≡ true → x ≡ nan
 unfolding isNan

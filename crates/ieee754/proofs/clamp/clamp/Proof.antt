@@ -3,9 +3,6 @@ use borrow.Author.Needs.{needs}
 use Rattle.ieee754.specs.Clamp.{clamp}
 use Rattle.ieee754.proofs.clamp.clamp.Statement.{statement}
 use Rattle.ieee754.proofs.clamp.clamp.Tie as tie
-use Rattle.ieee754.proofs.clamp.clamp.Reads as reads
-use Rattle.ieee754.proofs.clamp.clamp.Lts as lts
-use Rattle.ieee754.proofs.clamp.raised.Reads as raised-reads
 
 raised-requires : tie.Need-raised-requires
 raised-requires c κs = search needs

@@ -1,8 +1,6 @@
 -- `ieee754::clamp::raised` meets its contract. Assumes nothing.
 use Rattle.ieee754.proofs.clamp.raised.Statement.{statement}
 use Rattle.ieee754.proofs.clamp.raised.Tie as tie
-use Rattle.ieee754.proofs.clamp.raised.Reads as reads
-use Rattle.ieee754.proofs.clamp.raised.Lts as lts
 
 returns : tie.Need-returns
 returns c = rw (c .if1 .taken)

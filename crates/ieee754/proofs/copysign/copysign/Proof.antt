@@ -7,10 +7,6 @@ use Rattle.ieee754.specs.Magnitude.{abs}
 use Rattle.ieee754.specs.CopySign.{negative, copysign}
 use Rattle.ieee754.proofs.copysign.copysign.Statement.{statement}
 use Rattle.ieee754.proofs.copysign.copysign.Tie as tie
-use Rattle.ieee754.proofs.copysign.copysign.Reads as reads
-use Rattle.ieee754.proofs.copysign.copysign.Lts as lts
-use Rattle.ieee754.proofs.abs.abs.Reads as abs-reads
-use Rattle.ieee754.proofs.copysign.negative.Reads as negative-reads
 
 minus : (x y : Float) → negative y ≡ true → neg (abs x) ≡ copysign x y
 unfolding copysign abs neg

@@ -7,8 +7,6 @@ use Rattle.ieee754.proofs.Reading.{nan-of, not-nan}
 use Rattle.ieee754.proofs.Sign.{negative-bits}
 use Rattle.ieee754.proofs.copysign.negative.Statement.{statement}
 use Rattle.ieee754.proofs.copysign.negative.Tie as tie
-use Rattle.ieee754.proofs.copysign.negative.Reads as reads
-use Rattle.ieee754.proofs.copysign.negative.Lts as lts
 
 held : (c : tie.Start) → T (fits binary64 (c .args .y))
 held c = subst T (sym (c .good .0 .1)) tt

@@ -3,13 +3,13 @@ use Prim.Native.Nat.{ℕ, suc, _+_, _-_, _*_, _/_, _%_, _^_, _≤_, _<_}
 use mathlib.Core.Path.{_≡_, refl, sym, ap, ap₂, _∙_, subst}
 use mathlib.Core.Logic.{⊎-elim}
 use mathlib.Core.Bool.{Bool, true, false, cond, Bool·beq}
-use native.Mathlib.Nat.{le-trans, le-of-eq, le-of-lt, lt-of-lt-of-le, lt-of-le-of-lt, mul-assoc, mul-le-mul-right, mul-lt-mul-of-pos-right, add-sub-of-le, div-add-mod', mod-lt, suc-mul, div-le-self}
+use native.Mathlib.Nat.{le-trans, le-of-eq, le-of-lt, lt-of-lt-of-le, lt-of-le-of-lt, mul-le-mul-right, div-add-mod', mod-lt, suc-mul}
 use native.Mathlib.Omega.{arith}
 use borrow.Author.Needs.{needs}
 use borrow.Author.Tests.{leb-true, leb-false}
 use lib.Arith.{lt-one}
 use lib.Dec.{leb, lit<, lit≤}
-use lib.Pow.{pow-add, pow-pos, shr-lt, shr-le}
+use lib.Pow.{pow-pos, shr-lt, shr-le}
 use lib.Ieee.{Float, binary64, units}
 use Rattle.ieee754.specs.declared.normal.Scaled.{Scaled}
 use Rattle.ieee754.specs.inner.Leading.{Settles}

@@ -1,14 +1,12 @@
 -- `settle` meets its contract: the word is moved up until it has 63 digits, and what is nearest to both ends of the range is what all of it rounds to (Rounding.antt). Assumes nothing.
 use Prim.Native.Nat.{ℕ, _+_, _-_, _*_, _%_, _^_, _≤_, _<_}
 use mathlib.Core.Path.{_≡_, sym, ap, _∙_, subst}
-use mathlib.Core.Bool.{Bool}
 use native.Mathlib.Nat.{le-trans, le-of-eq, lt-trans, mod-eq-of-lt, add-mul}
 use native.Mathlib.Omega.{arith}
 use lib.Dec.{lit<, lit≤}
 use lib.Pow.{pow-mono}
 use lib.Count.{leadingZeros}
 use borrow.Author.Tests.{ltb-true}
-use lib.Ieee.{binary64, units}
 use Rattle.ieee754.specs.inner.Leading.{Settles}
 use Rattle.ieee754.specs.inner.Rounded.{rounded}
 use Rattle.ieee754.proofs.Order.{both}

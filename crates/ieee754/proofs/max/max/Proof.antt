@@ -6,9 +6,6 @@ use Rattle.ieee754.specs.Maximum.{max}
 use Rattle.ieee754.proofs.Sign.{ne-self}
 use Rattle.ieee754.proofs.max.max.Statement.{statement}
 use Rattle.ieee754.proofs.max.max.Tie as tie
-use Rattle.ieee754.proofs.max.max.Reads as reads
-use Rattle.ieee754.proofs.max.max.Lts as lts
-use Rattle.ieee754.proofs.copysign.negative.Reads as negative-reads
 
 returns : tie.Need-returns
 unfolding max

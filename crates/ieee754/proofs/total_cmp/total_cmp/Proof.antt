@@ -4,9 +4,6 @@ use mathlib.Core.Path.{sym, _∙_}
 use Rattle.ieee754.specs.TotalOrder.{totalCmp}
 use Rattle.ieee754.proofs.total_cmp.total_cmp.Statement.{statement}
 use Rattle.ieee754.proofs.total_cmp.total_cmp.Tie as tie
-use Rattle.ieee754.proofs.total_cmp.total_cmp.Reads as reads
-use Rattle.ieee754.proofs.total_cmp.total_cmp.Lts as lts
-use Rattle.ieee754.proofs.total_cmp.total_order.Reads as total-order-reads
 
 total-order-requires : tie.Need-total-order-requires
 total-order-requires c κs = search needs

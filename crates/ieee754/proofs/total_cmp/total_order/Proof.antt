@@ -5,9 +5,6 @@ use Rattle.ieee754.specs.TotalOrder.{totalOrder}
 use Rattle.ieee754.proofs.Sign.{ne-self}
 use Rattle.ieee754.proofs.total_cmp.total_order.Statement.{statement}
 use Rattle.ieee754.proofs.total_cmp.total_order.Tie as tie
-use Rattle.ieee754.proofs.total_cmp.total_order.Reads as reads
-use Rattle.ieee754.proofs.total_cmp.total_order.Lts as lts
-use Rattle.ieee754.proofs.copysign.negative.Reads as negative-reads
 
 returns : tie.Need-returns
 unfolding totalOrder

@@ -9,10 +9,6 @@ use Rattle.lambdatwist.specs.Poses.{poseTurns, poses}
 use Rattle.lambdatwist.proofs.PoseTurns.{turns-go, turns-stop, turns-end, four-slots}
 use Rattle.lambdatwist.proofs.poses.poses.Statement.{statement}
 use Rattle.lambdatwist.proofs.poses.poses.Tie as tie
-use Rattle.lambdatwist.proofs.poses.poses.Reads as reads
-use Rattle.lambdatwist.proofs.poses.poses.Lts as lts
-use Rattle.lambdatwist.proofs.poses.pose_turn.Reads as pose-turn-reads
-use Rattle.p3p_common.proofs.solutions.Solutions.empty.Reads as empty-reads
 
 abbrev Inv-loop : tie.InvT-loop
 Inv-loop view edges cosines inverse count depths output₀ at₀ output at =

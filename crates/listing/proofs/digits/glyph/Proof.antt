@@ -3,8 +3,6 @@ use borrow.Author.Tests.{lt-ltb, le-ltb}
 use borrow.Author.Needs.{needs}
 use Rattle.listing.proofs.digits.glyph.Statement.{statement}
 use Rattle.listing.proofs.digits.glyph.Tie as tie
-use Rattle.listing.proofs.digits.glyph.Reads as reads
-use Rattle.listing.proofs.digits.glyph.Lts as lts
 
 cast-result : tie.Need-cast-result
 cast-result c = search needs

@@ -8,9 +8,6 @@ use Rattle.listing.specs.Digits.{glyph, hexadecimal}
 use Rattle.listing.proofs.Hexadecimal.{Left, start, turn, finish, length-hexadecimal}
 use Rattle.listing.proofs.digits.put_word.Statement.{statement}
 use Rattle.listing.proofs.digits.put_word.Tie as tie
-use Rattle.listing.proofs.digits.put_word.Reads as reads
-use Rattle.listing.proofs.digits.put_word.Lts as lts
-use Rattle.listing.proofs.digits.glyph.Reads as glyph-reads
 
 abbrev Inv-loop : tie.InvT-loop
 Inv-loop out₀ at word rest₀ i₀ out rest i = (i ≤ 16) × Left out₀ at (hexadecimal 16 word) i rest out × (length out ≡ length out₀)

@@ -9,8 +9,6 @@ use borrow.Author.Needs.{needs}
 use Rattle.listing.proofs.Storing.{sets-next}
 use Rattle.listing.proofs.put.put_text.Statement.{statement}
 use Rattle.listing.proofs.put.put_text.Tie as tie
-use Rattle.listing.proofs.put.put_text.Reads as reads
-use Rattle.listing.proofs.put.put_text.Lts as lts
 
 abbrev Inv-loop : tie.InvT-loop
 Inv-loop out₀ at text i₀ out i = (i ≤ length text) × (out ≡ sets out₀ at (take i text)) × (length out ≡ length out₀)

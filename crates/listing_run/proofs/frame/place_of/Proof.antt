@@ -2,8 +2,6 @@
 use borrow.Author.Needs.{needs}
 use Rattle.listing_run.proofs.frame.place_of.Statement.{statement}
 use Rattle.listing_run.proofs.frame.place_of.Tie as tie
-use Rattle.listing_run.proofs.frame.place_of.Reads as reads
-use Rattle.listing_run.proofs.frame.place_of.Lts as lts
 
 -- src/frame.rt:30:22
 enum-known-choice : tie.Need-enum-known-choice

@@ -10,8 +10,6 @@ use Rattle.choice.specs.Answer.{place}
 use Rattle.listing_run.proofs.AnswerLines.{refused-lines, accepted-lines}
 use Rattle.listing_run.proofs.frame.put_answer.Statement.{statement}
 use Rattle.listing_run.proofs.frame.put_answer.Tie as tie
-use Rattle.listing_run.proofs.frame.put_answer.Reads as reads
-use Rattle.listing_run.proofs.frame.put_answer.Lts as lts
 
 put-refused-requires : tie.Need-put-refused-requires
 put-refused-requires c κs = search needs

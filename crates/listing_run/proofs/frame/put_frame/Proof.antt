@@ -10,8 +10,6 @@ use Rattle.listing.proofs.Writing.{written, not-written}
 use Rattle.listing_run.specs.FrameLines.{answerLines, frameLines}
 use Rattle.listing_run.proofs.frame.put_frame.Statement.{statement}
 use Rattle.listing_run.proofs.frame.put_frame.Tie as tie
-use Rattle.listing_run.proofs.frame.put_frame.Reads as reads
-use Rattle.listing_run.proofs.frame.put_frame.Lts as lts
 
 left-requires : tie.Need-left-requires
 left-requires c κs = search needs

@@ -12,10 +12,6 @@ use Rattle.listing_run.specs.FrameLines.{poseLines}
 use Rattle.listing_run.proofs.PoseLines.{none-stored, next-stored}
 use Rattle.listing_run.proofs.frame.put_poses.Statement.{statement}
 use Rattle.listing_run.proofs.frame.put_poses.Tie as tie
-use Rattle.listing_run.proofs.frame.put_poses.Reads as reads
-use Rattle.listing_run.proofs.frame.put_poses.Lts as lts
-use Rattle.listing.proofs.line.put_pose.Reads as put-pose-reads
-use Rattle.listing_run.proofs.frame.listed.Reads as listed-reads
 
 abbrev Inv-loop : tie.InvT-loop
 Inv-loop out₀ at number count poses updates n next₀ place₀ out next place =

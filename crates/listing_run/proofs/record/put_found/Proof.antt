@@ -10,8 +10,6 @@ use Rattle.listing.proofs.Writing.{stored}
 use Rattle.listing_run.specs.RecordLines.{recordLines, following, waits, turnLines, turnCourse}
 use Rattle.listing_run.proofs.record.put_found.Statement.{statement}
 use Rattle.listing_run.proofs.record.put_found.Tie as tie
-use Rattle.listing_run.proofs.record.put_found.Reads as reads
-use Rattle.listing_run.proofs.record.put_found.Lts as lts
 
 nothing : (l : List ℕ) (at : ℕ) → Stored l at [] at l
 nothing l at = record { next-at = omega arith; holds = refl }

@@ -10,8 +10,6 @@ use Rattle.listing.proofs.Writing.{written, not-written}
 use Rattle.listing_run.specs.RecordLines.{turnLines, turnCourse, courseOf}
 use Rattle.listing_run.proofs.record.put_record.Statement.{statement}
 use Rattle.listing_run.proofs.record.put_record.Tie as tie
-use Rattle.listing_run.proofs.record.put_record.Reads as reads
-use Rattle.listing_run.proofs.record.put_record.Lts as lts
 
 left-requires : tie.Need-left-requires
 left-requires c κs = search needs

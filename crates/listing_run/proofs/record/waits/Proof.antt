@@ -2,8 +2,6 @@
 use Rattle.listing_run.specs.RecordLines.{stopWaits}
 use Rattle.listing_run.proofs.record.waits.Statement.{statement}
 use Rattle.listing_run.proofs.record.waits.Tie as tie
-use Rattle.listing_run.proofs.record.waits.Reads as reads
-use Rattle.listing_run.proofs.record.waits.Lts as lts
 
 returns : tie.Need-returns
 unfolding stopWaits

@@ -5,10 +5,6 @@ use mathlib.Core.Path.{_≡_}
 use lib.ListN.{length}
 use Rattle.listing_run.proofs.run.run.Statement.{statement}
 use Rattle.listing_run.proofs.run.run.Tie as tie
-use Rattle.listing_run.proofs.run.run.Reads as reads
-use Rattle.listing_run.proofs.run.run.Lts as lts
-use Rattle.listing.proofs.line.put_header.Reads as put-header-reads
-use Rattle.listing_run.proofs.run.step.Reads as step-reads
 
 abbrev Inv-loop : tie.InvT-loop
 Inv-loop fd input₀ out₀ at state₀ turns₀ input out state turns = (length input ≡ length input₀) × (length out ≡ length out₀)

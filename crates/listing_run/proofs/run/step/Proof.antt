@@ -11,8 +11,6 @@ use Rattle.listing.specs.Lines.{roomy}
 use Rattle.listing_run.specs.RecordLines.{courseOf}
 use Rattle.listing_run.proofs.run.step.Statement.{statement}
 use Rattle.listing_run.proofs.run.step.Tie as tie
-use Rattle.listing_run.proofs.run.step.Reads as reads
-use Rattle.listing_run.proofs.run.step.Lts as lts
 
 abbrev start : tie.After-put-record → tie.Start
 start p = p .before .before .before .before .before .before .before

@@ -4,9 +4,6 @@ use lib.ListN.{length-take}
 use borrow.Author.Needs.{needs}
 use Rattle.listing_run.proofs.stream.flush.Statement.{statement}
 use Rattle.listing_run.proofs.stream.flush.Tie as tie
-use Rattle.listing_run.proofs.stream.flush.Reads as reads
-use Rattle.listing_run.proofs.stream.flush.Lts as lts
-use Rattle.io.proofs.write_all.Reads as write-all-reads
 
 returns : tie.Need-returns
 returns c = search needs

@@ -4,11 +4,6 @@ use borrow.Author.Tests.{not-true, not-false}
 use Rattle.p3p_common.specs.Gate.{gate, ifValid}
 use Rattle.p3p_common.proofs.gate.gate.Statement.{statement}
 use Rattle.p3p_common.proofs.gate.gate.Tie as tie
-use Rattle.p3p_common.proofs.gate.gate.Reads as reads
-use Rattle.p3p_common.proofs.gate.gate.Lts as lts
-use Rattle.linalg.proofs.vector3.Vector3.all_finite.Reads as all-finite-reads
-use Rattle.p3p_common.proofs.gate.projected_gate.Reads as projected-gate-reads
-use Rattle.p3p_common.proofs.has_near_orthonormal_columns.has_near_orthonormal_columns.Reads as has-near-orthonormal-columns-reads
 
 has-near-orthonormal-columns-requires : tie.Need-has-near-orthonormal-columns-requires
 has-near-orthonormal-columns-requires c κs = search needs

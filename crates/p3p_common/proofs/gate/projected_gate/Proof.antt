@@ -5,14 +5,6 @@ use Rattle.p3p_common.specs.ProjectedPose.{cameraPoint}
 use Rattle.p3p_common.specs.Gate.{projectedGate, keepPoint0, ifValid}
 use Rattle.p3p_common.proofs.gate.projected_gate.Statement.{statement}
 use Rattle.p3p_common.proofs.gate.projected_gate.Tie as tie
-use Rattle.p3p_common.proofs.gate.projected_gate.Reads as reads
-use Rattle.p3p_common.proofs.gate.projected_gate.Lts as lts
-use Rattle.linalg.proofs.matrix3.Matrix3.mul_vector.Reads as mul-vector-reads
-use Rattle.linalg.proofs.vector3.Vector3.add.Reads as add-reads
-use Rattle.linalg.proofs.vector3.Vector3.all_finite.Reads as all-finite-reads
-use Rattle.linalg.proofs.vector3.Vector3.sub.Reads as sub-reads
-use Rattle.p3p_common.proofs.project_to_rotation.project_to_rotation.Reads as project-to-rotation-reads
-use Rattle.p3p_common.proofs.projected_pose.projected_pose_fits_minimal_sample.Reads as projected-pose-fits-minimal-sample-reads
 
 project-to-rotation-requires : tie.Need-project-to-rotation-requires
 project-to-rotation-requires c κs = search needs

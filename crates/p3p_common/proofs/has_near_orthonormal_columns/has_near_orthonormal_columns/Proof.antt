@@ -3,14 +3,6 @@ use borrow.Author.Needs.{needs}
 use Rattle.p3p_common.specs.NearOrthonormal.{hasNearOrthonormalColumns}
 use Rattle.p3p_common.proofs.has_near_orthonormal_columns.has_near_orthonormal_columns.Statement.{statement}
 use Rattle.p3p_common.proofs.has_near_orthonormal_columns.has_near_orthonormal_columns.Tie as tie
-use Rattle.p3p_common.proofs.has_near_orthonormal_columns.has_near_orthonormal_columns.Reads as reads
-use Rattle.p3p_common.proofs.has_near_orthonormal_columns.has_near_orthonormal_columns.Lts as lts
-use Rattle.ieee754.proofs.abs.abs.Reads as abs-reads
-use Rattle.linalg.proofs.matrix3.Matrix3.column0.Reads as column0-reads
-use Rattle.linalg.proofs.matrix3.Matrix3.column1.Reads as column1-reads
-use Rattle.linalg.proofs.matrix3.Matrix3.column2.Reads as column2-reads
-use Rattle.linalg.proofs.vector3.Vector3.dot.Reads as dot-reads
-use Rattle.linalg.proofs.vector3.Vector3.norm_squared.Reads as norm-squared-reads
 
 column0-requires : tie.Need-column0-requires
 column0-requires c κs = search needs

@@ -3,9 +3,6 @@ use borrow.Author.Needs.{needs}
 use Rattle.p3p_common.specs.Input.{inputFinite}
 use Rattle.p3p_common.proofs.input.input_finite.Statement.{statement}
 use Rattle.p3p_common.proofs.input.input_finite.Tie as tie
-use Rattle.p3p_common.proofs.input.input_finite.Reads as reads
-use Rattle.p3p_common.proofs.input.input_finite.Lts as lts
-use Rattle.linalg.proofs.vector3.Vector3.all_finite.Reads as all-finite-reads
 
 all-finite-requires : tie.Need-all-finite-requires
 all-finite-requires c κs = search needs

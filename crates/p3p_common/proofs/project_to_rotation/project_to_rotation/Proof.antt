@@ -4,19 +4,6 @@ use borrow.Author.Tests.{not-true, not-false}
 use Rattle.p3p_common.specs.ProjectToRotation.{projectToRotation}
 use Rattle.p3p_common.proofs.project_to_rotation.project_to_rotation.Statement.{statement}
 use Rattle.p3p_common.proofs.project_to_rotation.project_to_rotation.Tie as tie
-use Rattle.p3p_common.proofs.project_to_rotation.project_to_rotation.Reads as reads
-use Rattle.p3p_common.proofs.project_to_rotation.project_to_rotation.Lts as lts
-use Rattle.ieee754.proofs.sqrt.sqrt.Reads as sqrt-reads
-use Rattle.linalg.proofs.matrix3.Matrix3.all_finite.Reads as all-finite-reads
-use Rattle.linalg.proofs.matrix3.Matrix3.column0.Reads as column0-reads
-use Rattle.linalg.proofs.matrix3.Matrix3.column1.Reads as column1-reads
-use Rattle.linalg.proofs.matrix3.Matrix3.from_columns.Reads as from-columns-reads
-use Rattle.linalg.proofs.vector3.Vector3.cross.Reads as cross-reads
-use Rattle.linalg.proofs.vector3.Vector3.div.Reads as div-reads
-use Rattle.linalg.proofs.vector3.Vector3.dot.Reads as dot-reads
-use Rattle.linalg.proofs.vector3.Vector3.mul.Reads as mul-reads
-use Rattle.linalg.proofs.vector3.Vector3.norm.Reads as norm-reads
-use Rattle.linalg.proofs.vector3.Vector3.sub.Reads as sub-reads
 
 all-finite-requires : tie.Need-all-finite-requires
 all-finite-requires c κs = search needs

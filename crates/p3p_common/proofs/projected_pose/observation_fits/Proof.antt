@@ -3,11 +3,6 @@ use borrow.Author.Needs.{needs}
 use Rattle.p3p_common.specs.ProjectedPose.{observationFits, cameraPoint}
 use Rattle.p3p_common.proofs.projected_pose.observation_fits.Statement.{statement}
 use Rattle.p3p_common.proofs.projected_pose.observation_fits.Tie as tie
-use Rattle.p3p_common.proofs.projected_pose.observation_fits.Reads as reads
-use Rattle.p3p_common.proofs.projected_pose.observation_fits.Lts as lts
-use Rattle.linalg.proofs.matrix3.Matrix3.mul_vector.Reads as mul-vector-reads
-use Rattle.linalg.proofs.vector3.Vector3.add.Reads as add-reads
-use Rattle.p3p_common.proofs.ray_fits.ray_fits.Reads as ray-fits-reads
 
 mul-vector-requires : tie.Need-mul-vector-requires
 mul-vector-requires c κs = search needs

@@ -4,9 +4,6 @@ use borrow.Author.Tests.{not-true, not-false}
 use Rattle.p3p_common.specs.ProjectedPose.{projectedPoseFitsMinimalSample}
 use Rattle.p3p_common.proofs.projected_pose.projected_pose_fits_minimal_sample.Statement.{statement}
 use Rattle.p3p_common.proofs.projected_pose.projected_pose_fits_minimal_sample.Tie as tie
-use Rattle.p3p_common.proofs.projected_pose.projected_pose_fits_minimal_sample.Reads as reads
-use Rattle.p3p_common.proofs.projected_pose.projected_pose_fits_minimal_sample.Lts as lts
-use Rattle.p3p_common.proofs.projected_pose.observation_fits.Reads as observation-fits-reads
 
 observation-fits-requires : tie.Need-observation-fits-requires
 observation-fits-requires c κs = search needs

@@ -3,10 +3,6 @@ use borrow.Author.Needs.{needs}
 use Rattle.p3p_common.specs.PushPose.{pushPose, pushGated}
 use Rattle.p3p_common.proofs.push_pose.push_pose.Statement.{statement}
 use Rattle.p3p_common.proofs.push_pose.push_pose.Tie as tie
-use Rattle.p3p_common.proofs.push_pose.push_pose.Reads as reads
-use Rattle.p3p_common.proofs.push_pose.push_pose.Lts as lts
-use Rattle.p3p_common.proofs.gate.gate.Reads as gate-reads
-use Rattle.p3p_common.proofs.solutions.Solutions.push.Reads as push-reads
 
 gate-requires : tie.Need-gate-requires
 gate-requires c κs = search needs

@@ -2,16 +2,10 @@
 use borrow.Author.Needs.{needs}
 use borrow.Author.Tests.{not-true, not-false}
 use lib.Ieee.{lt}
-use Rattle.ieee754.specs.Literal.{num}
+use Rattle.ieee754.specs.Literal.{double}
 use Rattle.p3p_common.specs.RayFits.{rayFits}
 use Rattle.p3p_common.proofs.ray_fits.ray_fits.Statement.{statement}
 use Rattle.p3p_common.proofs.ray_fits.ray_fits.Tie as tie
-use Rattle.p3p_common.proofs.ray_fits.ray_fits.Reads as reads
-use Rattle.p3p_common.proofs.ray_fits.ray_fits.Lts as lts
-use Rattle.ieee754.proofs.is_finite.is_finite.Reads as is-finite-reads
-use Rattle.linalg.proofs.vector3.Vector3.cross.Reads as cross-reads
-use Rattle.linalg.proofs.vector3.Vector3.dot.Reads as dot-reads
-use Rattle.linalg.proofs.vector3.Vector3.norm_squared.Reads as norm-squared-reads
 
 dot-requires : tie.Need-dot-requires
 dot-requires c κs = search needs
@@ -25,7 +19,7 @@ returns c = rw (← c .before .before .dot .ensures, ← c .before .is-finite .e
 
 returns-2 : tie.Need-returns-2
 unfolding rayFits
-returns-2 c = rw (← c .before .before .before .dot .ensures, ← c .before .before .is-finite .ensures, not-false (c .before .before .is-finite .result) (c .before .if1 .left), not-true (lt (num 0) (c .before .before .before .dot .result)) (c .if2 .taken))
+returns-2 c = rw (← c .before .before .before .dot .ensures, ← c .before .before .is-finite .ensures, not-false (c .before .before .is-finite .result) (c .before .if1 .left), not-true (lt (double 0) (c .before .before .before .dot .result)) (c .if2 .taken))
 
 cross-requires : tie.Need-cross-requires
 cross-requires c κs = search needs
@@ -35,7 +29,7 @@ norm-squared-requires c κs = search needs
 
 returns-3 : tie.Need-returns-3
 unfolding rayFits
-returns-3 c = rw (← c .before .before .before .before .before .dot .ensures, ← c .before .before .before .before .is-finite .ensures, not-false (c .before .before .before .before .is-finite .result) (c .before .before .before .if1 .left), not-false (lt (num 0) (c .before .before .before .before .before .dot .result)) (c .before .before .if2 .left), ← c .before .cross .ensures, ← c .norm-squared .ensures)
+returns-3 c = rw (← c .before .before .before .before .before .dot .ensures, ← c .before .before .before .before .is-finite .ensures, not-false (c .before .before .before .before .is-finite .result) (c .before .before .before .if1 .left), not-false (lt (double 0) (c .before .before .before .before .before .dot .result)) (c .before .before .if2 .left), ← c .before .cross .ensures, ← c .norm-squared .ensures)
 
 pub ray-fits-spec : {M : Type 1} → statement M
 ray-fits-spec =

@@ -3,8 +3,6 @@ use mathlib.Core.Path.{refl}
 use Rattle.p3p_common.specs.RefineDepths.{depthResidual}
 use Rattle.p3p_common.proofs.refine_depths.depth_residual.Statement.{statement}
 use Rattle.p3p_common.proofs.refine_depths.depth_residual.Tie as tie
-use Rattle.p3p_common.proofs.refine_depths.depth_residual.Reads as reads
-use Rattle.p3p_common.proofs.refine_depths.depth_residual.Lts as lts
 
 returns : tie.Need-returns
 unfolding depthResidual

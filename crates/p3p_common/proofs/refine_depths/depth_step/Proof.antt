@@ -3,11 +3,6 @@ use borrow.Author.Needs.{needs}
 use Rattle.p3p_common.specs.RefineDepths.{depthStep}
 use Rattle.p3p_common.proofs.refine_depths.depth_step.Statement.{statement}
 use Rattle.p3p_common.proofs.refine_depths.depth_step.Tie as tie
-use Rattle.p3p_common.proofs.refine_depths.depth_step.Reads as reads
-use Rattle.p3p_common.proofs.refine_depths.depth_step.Lts as lts
-use Rattle.linalg.proofs.vector3.Vector3.abs_sum.Reads as abs-sum-reads
-use Rattle.p3p_common.proofs.refine_depths.depth_residual.Reads as depth-residual-reads
-use Rattle.p3p_common.proofs.refine_depths.depth_update.Reads as depth-update-reads
 
 depth-residual-requires : tie.Need-depth-residual-requires
 depth-residual-requires c κs = search needs

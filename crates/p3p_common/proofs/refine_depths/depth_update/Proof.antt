@@ -4,10 +4,6 @@ use borrow.Author.Tests.{not-true, not-false}
 use Rattle.p3p_common.specs.RefineDepths.{depthUpdate, ifFinite}
 use Rattle.p3p_common.proofs.refine_depths.depth_update.Statement.{statement}
 use Rattle.p3p_common.proofs.refine_depths.depth_update.Tie as tie
-use Rattle.p3p_common.proofs.refine_depths.depth_update.Reads as reads
-use Rattle.p3p_common.proofs.refine_depths.depth_update.Lts as lts
-use Rattle.ieee754.proofs.is_finite.is_finite.Reads as is-finite-reads
-use Rattle.linalg.proofs.vector3.Vector3.all_finite.Reads as all-finite-reads
 
 is-finite-requires : tie.Need-is-finite-requires
 is-finite-requires c κs = search needs

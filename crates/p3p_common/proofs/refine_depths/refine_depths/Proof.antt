@@ -8,10 +8,6 @@ use Rattle.p3p_common.specs.RefineDepths.{refineTurns, refineDepths}
 use Rattle.p3p_common.proofs.Turns.{turns-stop, turns-go, turns-end}
 use Rattle.p3p_common.proofs.refine_depths.refine_depths.Statement.{statement}
 use Rattle.p3p_common.proofs.refine_depths.refine_depths.Tie as tie
-use Rattle.p3p_common.proofs.refine_depths.refine_depths.Reads as reads
-use Rattle.p3p_common.proofs.refine_depths.refine_depths.Lts as lts
-use Rattle.ieee754.proofs.max.max.Reads as max-reads
-use Rattle.p3p_common.proofs.refine_depths.depth_step.Reads as depth-step-reads
 
 abbrev Inv-loop : tie.InvT-loop
 Inv-loop edges cosines iterations a01 a02 a12 tolerance refined₀ updates₀ refined updates =

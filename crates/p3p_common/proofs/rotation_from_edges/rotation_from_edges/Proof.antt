@@ -3,11 +3,6 @@ use borrow.Author.Needs.{needs}
 use Rattle.p3p_common.specs.RotationFromEdges.{rotationFromEdges}
 use Rattle.p3p_common.proofs.rotation_from_edges.rotation_from_edges.Statement.{statement}
 use Rattle.p3p_common.proofs.rotation_from_edges.rotation_from_edges.Tie as tie
-use Rattle.p3p_common.proofs.rotation_from_edges.rotation_from_edges.Reads as reads
-use Rattle.p3p_common.proofs.rotation_from_edges.rotation_from_edges.Lts as lts
-use Rattle.linalg.proofs.matrix3.Matrix3.from_columns.Reads as from-columns-reads
-use Rattle.linalg.proofs.matrix3.Matrix3.mul.Reads as mul-reads
-use Rattle.linalg.proofs.vector3.Vector3.cross.Reads as cross-reads
 
 cross-requires : tie.Need-cross-requires
 cross-requires c κs = search needs

@@ -3,11 +3,6 @@ use borrow.Author.Needs.{needs}
 use Rattle.p3p_common.specs.WorldBasisInverse.{dualBasis}
 use Rattle.p3p_common.proofs.world_basis_inverse.dual_basis.Statement.{statement}
 use Rattle.p3p_common.proofs.world_basis_inverse.dual_basis.Tie as tie
-use Rattle.p3p_common.proofs.world_basis_inverse.dual_basis.Reads as reads
-use Rattle.p3p_common.proofs.world_basis_inverse.dual_basis.Lts as lts
-use Rattle.linalg.proofs.matrix3.Matrix3.from_rows.Reads as from-rows-reads
-use Rattle.linalg.proofs.vector3.Vector3.cross.Reads as cross-reads
-use Rattle.linalg.proofs.vector3.Vector3.mul.Reads as mul-reads
 
 cross-requires : tie.Need-cross-requires
 cross-requires c κs = search needs

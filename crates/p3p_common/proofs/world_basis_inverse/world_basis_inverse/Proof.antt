@@ -4,13 +4,6 @@ use borrow.Author.Tests.{not-true, not-false}
 use Rattle.p3p_common.specs.WorldBasisInverse.{worldBasisInverse, isSingular}
 use Rattle.p3p_common.proofs.world_basis_inverse.world_basis_inverse.Statement.{statement}
 use Rattle.p3p_common.proofs.world_basis_inverse.world_basis_inverse.Tie as tie
-use Rattle.p3p_common.proofs.world_basis_inverse.world_basis_inverse.Reads as reads
-use Rattle.p3p_common.proofs.world_basis_inverse.world_basis_inverse.Lts as lts
-use Rattle.ieee754.proofs.is_finite.is_finite.Reads as is-finite-reads
-use Rattle.ieee754.proofs.max.max.Reads as max-reads
-use Rattle.linalg.proofs.vector3.Vector3.cross.Reads as cross-reads
-use Rattle.linalg.proofs.vector3.Vector3.norm_squared.Reads as norm-squared-reads
-use Rattle.p3p_common.proofs.world_basis_inverse.dual_basis.Reads as dual-basis-reads
 
 cross-requires : tie.Need-cross-requires
 cross-requires c κs = search needs

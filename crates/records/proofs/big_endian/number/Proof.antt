@@ -11,9 +11,6 @@ use Rattle.records.specs.Format.{part, bigEndian}
 use Rattle.records.proofs.BigEndian.{part-none, part-next, next-lt}
 use Rattle.records.proofs.big_endian.number.Statement.{statement}
 use Rattle.records.proofs.big_endian.number.Tie as tie
-use Rattle.records.proofs.big_endian.number.Reads as reads
-use Rattle.records.proofs.big_endian.number.Lts as lts
-use Rattle.records.proofs.big_endian.widened.Reads as widened-reads
 
 abbrev Inv-loop : tie.InvT-loop
 Inv-loop s at width n₀ i₀ n i = (i ≤ width) × (n ≡ bigEndian (part s at i)) × (n < 2 ^ (8 * i))

@@ -9,10 +9,6 @@ use Rattle.records.proofs.Answers.{ended, lone-byte, wrong-length, trun
 use borrow.Author.Needs.{needs}
 use Rattle.records.proofs.record.read.Statement.{statement}
 use Rattle.records.proofs.record.read.Tie as tie
-use Rattle.records.proofs.record.read.Reads as reads
-use Rattle.records.proofs.record.read.Lts as lts
-use Rattle.records.proofs.big_endian.number.Reads as number-reads
-use Rattle.records.proofs.frame.frame_at.Reads as frame-at-reads
 
 returns : tie.Need-returns
 returns c = sym (ended _ _ (c .if1 .taken))

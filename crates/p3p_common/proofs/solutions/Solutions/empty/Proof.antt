@@ -3,9 +3,6 @@ use borrow.Author.Needs.{needs}
 use Rattle.p3p_common.specs.Slots.{empty}
 use Rattle.p3p_common.proofs.solutions.Solutions.empty.Statement.{statement}
 use Rattle.p3p_common.proofs.solutions.Solutions.empty.Tie as tie
-use Rattle.p3p_common.proofs.solutions.Solutions.empty.Reads as reads
-use Rattle.p3p_common.proofs.solutions.Solutions.empty.Lts as lts
-use Rattle.linalg.proofs.pose.Pose.zeros.Reads as zeros-reads
 
 zeros-requires : tie.Need-zeros-requires
 zeros-requires c κs = search needs

@@ -4,8 +4,6 @@ use borrow.Author.Tests.{lt-ltb, le-ltb}
 use Rattle.p3p_common.specs.Slots.{push}
 use Rattle.p3p_common.proofs.solutions.Solutions.push.Statement.{statement}
 use Rattle.p3p_common.proofs.solutions.Solutions.push.Tie as tie
-use Rattle.p3p_common.proofs.solutions.Solutions.push.Reads as reads
-use Rattle.p3p_common.proofs.solutions.Solutions.push.Lts as lts
 
 mul-pose : tie.Need-mul-pose
 mul-pose c = search needs
