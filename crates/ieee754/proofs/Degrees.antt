@@ -112,9 +112,6 @@ module _ {k : ℤ} where
   pub degree : {n p : ℤ} {m m' : Traced Float} → n ≡ p → Scales k n m m' → Scales k p m m'
   degree {m = m} {m' = m'} e = subst (λ (d : ℤ). Scales k d m m') e
 
-  pub degree-at : {n p : ℤ} {x x' : Float} → n ≡ p → At k n x x' → At k p x x'
-  degree-at {x = x} {x' = x'} e = subst (λ (d : ℤ). At k d x x') e
-
   -- ---- functions that round nothing
   pub neg-at : {n : ℤ} {x x' : Float} → At k n x x' → At k n (neg x) (neg x')
   neg-at {n} {x} f = record { scaled = ap neg (f .scaled) ∙ neg-scale (n *ℤ k) x }
@@ -187,10 +184,6 @@ module _ {A : Type 0} {R : A → A → Type 0} where
   -- a weaker relation
   pub both-map : {S : A → A → Type 0} {m m' : Traced A} → ((x x' : A) → R x x' → S x x') → Both R m m' → Both S m m'
   both-map {m = m} {m' = m'} f h = record { results = λ r r'. f (m .value) (m' .value) (h .results r r') }
-
-  -- what a regular run has besides, in each of the two
-  pub both-and : {P : A → Type 0} {m m' : Traced A} → (T (m .regular) → P (m .value)) → (T (m' .regular) → P (m' .value)) → Both R m m' → Both (λ x x'. R x x' × P x × P x') m m'
-  both-and f f' h = record { results = λ r r'. (h .results r r', f r, f' r') }
 
 -- a computation whose inputs are equal in the two runs
 pub alike : {A : Type 0} {m : Traced A} → Both _≡_ m m

@@ -1,8 +1,9 @@
 -- Every result of the crate's operations is a double: `sqrt-fits`, `cbrt-fits`, `fma-fits`, `abs-fits`, `copysign-fits`, `max-fits`, `clamp-fits`. Where an argument can come back as it is, it has to be one.
 -- And a double is written in one way, so that two with the same sign and size are equal (`fits-unique`). Assumes nothing.
-use mathlib.Core.Path.{_≡_, sym, ap, _∙_, subst}
+use mathlib.Core.Path.{_≡_, refl, sym, ap, _∙_, subst}
 use Prim.Native.Nat.{ℕ, zero, suc, _+_, _-_, _*_, _/_, _%_, _^_, _≤_, _<_, compare}
-use native.Mathlib.Nat.{le-trans, le-of-eq, le-refl, lt-of-lt-of-le, lt-of-le-of-lt, zero-lt-suc, mul-right-comm}
+use native.Mathlib.Nat.{le-trans, le-of-eq, le-refl, lt-of-lt-of-le, lt-of-le-of-lt, zero-lt-suc, mul-right-comm, pow-succ'}
+use native.Mathlib.Omega.{arith}
 use mathlib.Core.Bool.{Bool, true, false, cond, _&&_, Bool·beq}
 use lib.IntN.{ℤ}
 use lib.Dec.{T, leb, ltb, eqb, leb→le, ltb→lt, eqb→eq}
@@ -39,6 +40,15 @@ fits-parts s m e t =
       lowest = leb→le (down e) (2 ^ 1074) (and-r (a && b) c (and-l (a && b && c) d t));
       highest = ltb→lt (suc m * up e) (2 ^ 1024 * down e) (and-r (a && b && c) d t);
     }
+
+-- ---- an odd number times a power of two is so in one way
+pub odd-once : (m n a b : ℕ) → m % 2 ≡ 1 → n % 2 ≡ 1 → m * 2 ^ a ≡ n * 2 ^ b → (m ≡ n) × (a ≡ b)
+odd-once m n zero zero o p h = (omega arith, refl)
+odd-once m n zero (suc b) o p h = absurd (omega (arith, ap (λ (x : ℕ). n * x) (pow-succ' 2 b)))
+odd-once m n (suc a) zero o p h = absurd (omega (arith, ap (λ (x : ℕ). m * x) (pow-succ' 2 a)))
+odd-once m n (suc a) (suc b) o p h =
+    let r = odd-once m n a b o p (omega (arith, ap (λ (x : ℕ). m * x) (pow-succ' 2 a), ap (λ (x : ℕ). n * x) (pow-succ' 2 b))) in
+    (r .0, ap suc (r .1))
 
 -- ---- two doubles with the same sign and size are equal: they have the same bit pattern
 pub fits-unique : (f : Format) (s : Bool) (m : ℕ) (e : ℤ) (n : ℕ) (d : ℤ) → T (fits f (fin s m e)) → T (fits f (fin s n d)) → m * up e * down d ≡ n * up d * down e → fin s m e ≡ fin s n d

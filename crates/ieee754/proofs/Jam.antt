@@ -2,14 +2,15 @@
 use mathlib.Core.Path.{_≡_, refl, sym, ap, ap₂, _∙_, subst}
 use mathlib.Core.Logic.{_↔_, ⊎-elim}
 use Prim.Native.Nat.{ℕ, suc, _+_, _-_, _*_, _/_, _%_, _^_, _≤_, _<_, min, max}
-use native.Mathlib.Nat.{lt-of-lt-of-le, add-mul, suc-add, suc-mul, two-pow-succ, mul-le-mul-right, mul-div-cancel, mul-mod-left, le-of-lt, div-add-mod', zero-div, zero-mod, add-zero, div-eq-of-lt, mod-eq-of-lt, mod-lt, mul-add-div-right, mul-add-mod-self-right, div-lt-iff-lt-mul, le-div-iff-mul-le, pow-succ', pow-suc, mul-assoc, div-div-eq-div-mul, mul-pos}
+use native.Mathlib.Nat.{lt-of-lt-of-le, add-mul, suc-add, suc-mul, two-pow-succ, mul-le-mul-right, mul-div-cancel, mul-mod-left, le-of-lt, div-add-mod', zero-div, zero-mod, div-eq-of-lt, mod-eq-of-lt, mod-lt, mul-add-div-right, mul-add-mod-self-right, div-lt-iff-lt-mul, le-div-iff-mul-le, pow-succ', pow-suc, mul-assoc, div-div-eq-div-mul, mul-pos}
 use native.Mathlib.Numerals.{add-one, one-add}
 use native.Mathlib.Omega.{arith}
 use lib.Arith.{digits-lt, digits-div, digits-mod, lt-one}
 use lib.Bits.{bitOr, or-step, or-zero-r}
-use lib.Pow.{pow-pos, pow-add, pow-mono, shr-lt, shr-shr, shl-shr, mod-pow-add}
+use lib.Pow.{pow-pos, pow-add, pow-mono, shr-lt, shr-shr, mod-pow-add}
 use Rattle.ieee754.specs.inner.Jam.{jam}
 use Rattle.ieee754.proofs.Order.{lt-or-ge}
+use Rattle.ieee754.proofs.Sizes.{shl-shl, moved}
 
 -- what is kept, and the mark
 pub jam-is : (k n : ℕ) → jam k n ≡ n / 2 ^ suc k * 2 + min 1 (n % 2 ^ suc k)
@@ -147,23 +148,19 @@ module _ (w j k : ℕ) (e : j + k ≡ w) (J : 0 < j) where
   width = ap (λ (x : ℕ). 2 ^ x) (omega arith) ∙ pow-add 2 k j
 
   -- what a word keeps of h * 2 ^ j
-  moved : (h : ℕ) → h * 2 ^ j % 2 ^ w ≡ h % 2 ^ k * 2 ^ j
-  moved h =
-      ap (λ (x : ℕ). h * 2 ^ j % 2 ^ x) (omega arith)
-      ∙ mod-pow-add (h * 2 ^ j) k j
-      ∙ ap₂ (λ (x y : ℕ). x % 2 ^ k * 2 ^ j + y) (shl-shr h j) (mul-mod-left h (2 ^ j))
-      ∙ add-zero (h % 2 ^ k * 2 ^ j)
+  kept : (h : ℕ) → h * 2 ^ j % 2 ^ w ≡ h % 2 ^ k * 2 ^ j
+  kept h = ap (λ (x : ℕ). h * 2 ^ j % 2 ^ x) (omega arith) ∙ moved k j h
 
   low-lt : (l : ℕ) → l < 2 ^ w → jam k l < 2 ^ j
   low-lt l b = subst (λ (x : ℕ). jam k l < 2 ^ x) (omega arith) (jam-lt k (j - 1) l (subst (λ (x : ℕ). l < 2 ^ x) (omega arith) b))
 
   pub jam-word-lt : (h l : ℕ) → l < 2 ^ w → h * 2 ^ j % 2 ^ w + jam k l < 2 ^ w
-  jam-word-lt h l b = rw (moved h, width) (digits-lt (mod-lt h (pow-pos k)) (low-lt l b))
+  jam-word-lt h l b = rw (kept h, width) (digits-lt (mod-lt h (pow-pos k)) (low-lt l b))
 
   pub jam-words : (h l : ℕ) → h / 2 ^ k * 2 ^ w + (h * 2 ^ j % 2 ^ w + jam k l) ≡ jam k (h * 2 ^ w + l)
   jam-words h l =
       let a = h * 2 ^ (j - 1) in
-      let high : h * 2 ^ w ≡ a * 2 ^ suc k = ap (λ (x : ℕ). h * 2 ^ x) (omega arith) ∙ ap (λ (x : ℕ). h * x) (pow-add 2 (j - 1) (suc k)) ∙ sym (mul-assoc h (2 ^ (j - 1)) (2 ^ suc k)) in
+      let high : h * 2 ^ w ≡ a * 2 ^ suc k = sym (shl-shl h (j - 1) (suc k) w (omega arith)) in
       let twice : a * 2 ≡ h * 2 ^ j = mul-assoc h (2 ^ (j - 1)) 2 ∙ ap (λ (x : ℕ). h * x) (sym (pow-suc 2 (j - 1)) ∙ ap (λ (x : ℕ). 2 ^ x) (omega arith)) in
-      let both : h / 2 ^ k * 2 ^ w + h * 2 ^ j % 2 ^ w ≡ h * 2 ^ j = rw (moved h, width, ← mul-assoc (h / 2 ^ k) (2 ^ k) (2 ^ j), ← add-mul (h / 2 ^ k * 2 ^ k) (h % 2 ^ k) (2 ^ j), div-add-mod' h (2 ^ k)) in
+      let both : h / 2 ^ k * 2 ^ w + h * 2 ^ j % 2 ^ w ≡ h * 2 ^ j = rw (kept h, width, ← mul-assoc (h / 2 ^ k) (2 ^ k) (2 ^ j), ← add-mul (h / 2 ^ k * 2 ^ k) (h % 2 ^ k) (2 ^ j), div-add-mod' h (2 ^ k)) in
       omega (arith, both, twice, jam-add k a l, ap (λ (x : ℕ). jam k (x + l)) high)

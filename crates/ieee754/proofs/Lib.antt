@@ -1,3 +1,4 @@
+-- What the proofs of this crate share, from numbers and words up to rounding and roots; then the laws that crates above cite, and theorems about the definitions.
 pub mod Order
 pub mod Sizes
 pub mod Carry
@@ -17,6 +18,7 @@ pub mod Laws
 pub mod Degrees
 pub mod RegularNormal
 pub mod MinPositive
+pub mod Finite
 pub mod Fitting
 pub mod RootRegular
 pub mod RootNearest

@@ -4,7 +4,7 @@ use mathlib.Core.Path.{_≡_, refl, sym, ap, ap₂, _∙_, subst}
 use Prim.Native.Nat.{ℕ, zero, suc, _+_, _*_, _≤_, _<_, compare, Ordering, Ordering·lt, Ordering·eq, Ordering·gt}
 use native.Mathlib.Nat.{le-of-eq, le-of-lt, le-antisymm}
 use native.Mathlib.Omega.{arith}
-use mathlib.Core.Bool.{Bool, true, false, not, cond, _&&_, _||_}
+use mathlib.Core.Bool.{Bool, true, false, not, cond, _&&_, _||_, and-false, or-false}
 use mathlib.Core.Logic.{⊎-elim}
 use lib.IntN.{ℤ}
 use lib.Dec.{T, isLe, isEq, leb, ltb, eqb, leb→le, le→leb, ltb→lt}
@@ -31,10 +31,6 @@ signed true a true b = leb b a
 -- what `totalOrder` asks of two finite values
 abbrev asked : Bool → ℕ → Bool → ℕ → Bool
 asked s a t b = below s a t b || (level s a t b && (s || not t))
-
-and-false : (b : Bool) → b && false ≡ false
-and-false true = refl
-and-false false = refl
 
 asked-is : (s : Bool) (a : ℕ) (t : Bool) (b : ℕ) → asked s a t b ≡ signed s a t b
 asked-is false a false b = go (compare a b) (compared a b)
@@ -152,10 +148,6 @@ order-antisym (fin s m e) (fin t n d) X Y h k =
     fits-unique binary64 s m e n d X Y' (a .1) ∙ ap (λ (b : Bool). fin b n d) (a .0)
 
 -- ---- it agrees with `lt`
-or-false : (b : Bool) → b || false ≡ b
-or-false true = refl
-or-false false = refl
-
 pub order-lt : (x y : Float) → isNan y ≡ false → eq x y ≡ false → totalOrder x y ≡ lt x y
 unfolding totalOrder
 order-lt x y n h = rw (n, h) (or-false (lt x y))

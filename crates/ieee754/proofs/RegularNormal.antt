@@ -17,7 +17,7 @@ use borrow.Author.Tests.{le-ltb}
 use Rattle.ieee754.specs.Literal.{double, minPositive}
 use Rattle.ieee754.specs.Root.{root, roundRoot, sqrt, cbrt}
 use Rattle.ieee754.specs.Fma.{fma}
-use Rattle.ieee754.specs.Traced.{Traced, _⊕_, _⊖_, _⊗_, _⊘_, mulAdd, inRange, magnitude, addRegular, mulRegular, divRegular, fmaRegular, sqrtRegular, cbrtRegular}
+use Rattle.ieee754.specs.Traced.{Traced, _⊕_, inRange, magnitude, addRegular, mulRegular, divRegular, fmaRegular, sqrtRegular, cbrtRegular}
 use Rattle.ieee754.proofs.Order.{or-right}
 use Rattle.ieee754.proofs.RootLaws.{mul-pow, pow-mul, pow-back, dropped-drops, root-whole, roundRoot-is}
 use Rattle.ieee754.proofs.RootValues.{roundRoot-one}
@@ -228,18 +228,6 @@ sqrt-above (fin false (suc m) e) r =
     enough : (w q u j b : ℕ) → j < suc w * u → w ≤ q → 1 ≤ q → 2 * b ≤ j → b < q * u
     enough w q u j b h g o l = omega (arith, mul-le-mul-right u o, mul-le-mul-right u g)
 
--- ---- the same of the lifted operations
+-- ---- the same of a lifted sum
 pub ⊕-normal : (x y : Traced Float) → T ((x ⊕ y) .regular) → T (zeroOrNormal ((x ⊕ y) .value))
 ⊕-normal x y r = add-normal (x .value) (y .value) (and-r (x .regular && y .regular) (addRegular (x .value) (y .value)) r)
-
-pub ⊖-normal : (x y : Traced Float) → T ((x ⊖ y) .regular) → T (zeroOrNormal ((x ⊖ y) .value))
-⊖-normal x y r = sub-normal (x .value) (y .value) (and-r (x .regular && y .regular) (addRegular (x .value) (neg (y .value))) r)
-
-pub ⊗-normal : (x y : Traced Float) → T ((x ⊗ y) .regular) → T (zeroOrNormal ((x ⊗ y) .value))
-⊗-normal x y r = mul-normal (x .value) (y .value) (and-r (x .regular && y .regular) (mulRegular (x .value) (y .value)) r)
-
-pub ⊘-normal : (x y : Traced Float) → T ((x ⊘ y) .regular) → T (zeroOrNormal ((x ⊘ y) .value))
-⊘-normal x y r = div-normal (x .value) (y .value) (and-r (x .regular && y .regular) (divRegular (x .value) (y .value)) r)
-
-pub mulAdd-normal : (x y z : Traced Float) → T (mulAdd x y z .regular) → T (zeroOrNormal (mulAdd x y z .value))
-mulAdd-normal x y z r = fma-normal (x .value) (y .value) (z .value) (and-r (x .regular && y .regular && z .regular) (fmaRegular (x .value) (y .value) (z .value)) r)

@@ -1,8 +1,8 @@
 -- The root of a double is the nearest double, and no two are equally near: `sqrt-nearest`, `cbrt-nearest`. Numbers of smallest values 2 ^ -1074 stand for the doubles, and powers for the roots, so that
 -- all is said of whole numbers. Assumes nothing.
-use mathlib.Core.Path.{_≡_, sym, ap, _∙_, subst}
+use mathlib.Core.Path.{_≡_, refl, sym, ap, _∙_, subst}
 use mathlib.Core.Logic.{⊎-elim}
-use Prim.Native.Nat.{ℕ, zero, suc, _+_, _-_, _*_, _%_, _^_, _≤_, _<_, compare, Ordering, Ordering·lt, Ordering·eq, Ordering·gt}
+use Prim.Native.Nat.{ℕ, zero, suc, _+_, _-_, _*_, _^_, _≤_, _<_, compare, Ordering, Ordering·lt, Ordering·eq, Ordering·gt}
 use native.Mathlib.Nat.{le-trans, le-of-eq, le-of-lt, lt-of-lt-of-le, lt-of-le-of-lt, not-le-of-lt, zero-lt-suc, mul-one, mul-assoc, mul-left-comm, mul-pos, mul-le-mul-right, mul-lt-mul-of-pos-right, lt-irrefl, one-le-pow, lt-of-mul-lt-mul-right, eq-of-mul-eq-mul-right, pow-suc, pow-le-pow-left, pow-lt-pow-left, one-mul}
 use native.Mathlib.Omega.{arith}
 use mathlib.Core.Bool.{Bool, true, false}
@@ -18,11 +18,12 @@ use Rattle.ieee754.specs.CopySign.{negative}
 use Rattle.ieee754.specs.Root.{roundRoot, sqrt, cbrt}
 use Rattle.ieee754.specs.Traced.{inRange, sqrtRegular, cbrtRegular}
 use Rattle.ieee754.proofs.Order.{lt-or-ge}
+use Rattle.ieee754.proofs.Sizes.{shl-shl}
 use Rattle.ieee754.proofs.Exponent.{odd-pow}
 use Rattle.ieee754.proofs.RootLaws.{Compared, compared, dropped-drops, root-whole}
 use Rattle.ieee754.proofs.RoundScale.{Normal, zero-or-normal, raised, drop, keep, roundRoot-odd}
 use Rattle.ieee754.proofs.RegularNormal.{part, whole-least}
-use Rattle.ieee754.proofs.Fitting.{fits-parts}
+use Rattle.ieee754.proofs.Fitting.{fits-parts, odd-once}
 use Rattle.ieee754.proofs.RootRegular.{sqrt-regular, cbrt-regular}
 
 -- ---- what is said
@@ -37,6 +38,9 @@ pub record NearestRoot (p : ℕ) (s : Bool) (a c : ℕ) (x : Float) : Type 0 whe
   pub magnitude : ℕ
   pub value : HasValue x s magnitude (2 ^ 1074)
   pub nearer : (y : Float) (t : Bool) (b : ℕ) → T (fits binary64 y) → HasValue y t b (2 ^ 1074) → Nearer p a c magnitude b
+
+rest : (x y : ℕ) → x ≤ y → y ≡ y - x + x
+rest x y h = omega arith
 
 -- ---- a double is m * 2 ^ i smallest values, with m of 53 digits at most. So from 2 ^ (52 + k) of them on it is a multiple of 2 ^ k.
 pub record Whole (b : ℕ) : Type 0 where
@@ -54,7 +58,7 @@ double-whole (fin s (suc m) (pos j)) t b F v = record {
   digits = suc m;
   exponent = j + 1074;
   short = fits-parts s m (pos j) F .short;
-  is = sym (mul-one b) ∙ sym (v .1) ∙ mul-assoc (suc m) (2 ^ j) (2 ^ 1074) ∙ ap (λ (x : ℕ). suc m * x) (sym (pow-add 2 j 1074));
+  is = sym (mul-one b) ∙ sym (v .1) ∙ shl-shl (suc m) j 1074 (j + 1074) refl;
 }
 double-whole (fin s (suc m) (negsuc j)) t b F v =
     let h = fits-parts s m (negsuc j) F in
@@ -71,9 +75,6 @@ double-whole (fin s (suc m) (negsuc j)) t b F v =
     le-exponent : (i j : ℕ) → 2 ^ i ≤ 2 ^ j → i ≤ j
     le-exponent i j h = ⊎-elim (λ (l : j < i). absurd (not-le-of-lt (pow-lt l) h)) (λ (g : i ≤ j). g) (lt-or-ge j i)
 
-    rest : (x y : ℕ) → x ≤ y → y ≡ y - x + x
-    rest x y h = omega arith
-
 module _ (k w : ℕ) (W : 2 ^ 52 ≤ w) (b : ℕ) (B : Whole b) where
   multiple : 2 ^ 52 * 2 ^ k ≤ b → (j : ℕ) × (b ≡ j * 2 ^ k)
   multiple h =
@@ -83,9 +84,6 @@ module _ (k w : ℕ) (W : 2 ^ 52 ≤ w) (b : ℕ) (B : Whole b) where
       let reach : 52 + k < 53 + i = ⊎-elim (λ (l : 52 + k < 53 + i). l) (λ (g : 53 + i ≤ 52 + k). absurd (not-le-of-lt under (pow-mono g))) (lt-or-ge (52 + k) (53 + i)) in
       let split : 2 ^ i ≡ 2 ^ (i - k) * 2 ^ k = ap (λ (x : ℕ). 2 ^ x) (rest k i (omega (arith, reach))) ∙ pow-add 2 (i - k) k in
       (m * 2 ^ (i - k), B .is ∙ ap (λ (x : ℕ). m * x) split ∙ sym (mul-assoc m (2 ^ (i - k)) (2 ^ k)))
-    where
-      rest : (x y : ℕ) → x ≤ y → y ≡ y - x + x
-      rest x y h = omega arith
 
   -- no double lies strictly between w and w + 1 times 2 ^ k
   gap-above : w * 2 ^ k < b → suc w * 2 ^ k ≤ b
@@ -96,19 +94,7 @@ module _ (k w : ℕ) (W : 2 ^ 52 ≤ w) (b : ℕ) (B : Whole b) where
   gap-below : b < suc w * 2 ^ k → b ≤ w * 2 ^ k
   gap-below h = ⊎-elim (λ (l : w * 2 ^ k < b). absurd (not-le-of-lt h (gap-above l))) (λ (g : b ≤ w * 2 ^ k). g) (lt-or-ge (w * 2 ^ k) b)
 
--- ---- no root of a double is half way between two: an odd number times a power of two is that in one way only
-even : (m x : ℕ) → m % 2 ≡ 1 → m * 2 ^ 0 ≡ x * 2 → ⊥
-even m x M h = omega (arith, mul-one m)
-
-suc-power : (m i : ℕ) → m * 2 ^ suc i ≡ m * 2 ^ i * 2
-suc-power m i = ap (λ (x : ℕ). m * x) (pow-suc 2 i) ∙ sym (mul-assoc m (2 ^ i) 2)
-
-odd-part : (i j m o : ℕ) → m % 2 ≡ 1 → o % 2 ≡ 1 → m * 2 ^ i ≡ o * 2 ^ j → m ≡ o
-odd-part zero zero m o M O h = sym (mul-one m) ∙ h ∙ mul-one o
-odd-part zero (suc j) m o M O h = absurd (even m (o * 2 ^ j) M (h ∙ suc-power o j))
-odd-part (suc i) zero m o M O h = absurd (even o (m * 2 ^ i) O (sym h ∙ suc-power m i))
-odd-part (suc i) (suc j) m o M O h = odd-part i j m o M O (eq-of-mul-eq-mul-right 2 (zero-lt-suc 1) (m * 2 ^ i) (o * 2 ^ j) (sym (suc-power m i) ∙ h ∙ suc-power o j))
-
+-- ---- no root of a double is half way between two
 regroup : (m a b c i : ℕ) → 2 ^ i ≡ a * (b * c) → m * 2 ^ i ≡ a * (m * b * c)
 regroup m a b c i h = ap (λ (x : ℕ). m * x) h ∙ mul-left-comm m a (b * c) ∙ ap (λ (x : ℕ). a * x) (sym (mul-assoc m b c))
 
@@ -125,7 +111,7 @@ no-tie : (p : ℕ) → 0 < p → (s : Bool) (m : ℕ) (e : ℤ) (w k : ℕ) → 
 no-tie p P s m e w k F W h =
     let f = fits-parts s m e F in
     let t = tie-parts p (suc m) e ((2 * w + 1) ^ p) k h in
-    let same : suc m ≡ (2 * w + 1) ^ p = odd-part (t .0) (t .1) (suc m) ((2 * w + 1) ^ p) (f .odd) (odd-pow p w) (t .2) in
+    let same : suc m ≡ (2 * w + 1) ^ p = odd-once (suc m) ((2 * w + 1) ^ p) (t .0) (t .1) (f .odd) (odd-pow p w) (t .2) .0 in
     let large : 2 * w + 1 ≤ (2 * w + 1) ^ p = le-power p (2 * w + 1) P (omega arith) in
     omega (arith, f .short)
 

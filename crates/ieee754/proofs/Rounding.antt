@@ -1,9 +1,9 @@
 -- What `round` sees of a number n over 2 ^ (u + low f): its digits as far down as half of the last one that it keeps, and below them only whether all are 0. So a number that was cut short by `jam` rounds as
 -- the whole number does, provided enough digits are kept. In n's own scale the format's smallest value is 2 ^ u. Assumes nothing.
-use mathlib.Core.Path.{_≡_, sym, ap, _∙_, subst}
+use mathlib.Core.Path.{_≡_, refl, sym, ap, _∙_, subst}
 use mathlib.Core.Logic.{_↔_, _⊎_, inl, inr, ⊎-elim}
 use Prim.Native.Nat.{ℕ, suc, _+_, _-_, _*_, _/_, _%_, _^_, _≤_, _<_, min, compare}
-use native.Mathlib.Nat.{le-trans, le-antisymm, le-of-eq, lt-of-le-of-lt, zero-lt-suc, mul-assoc, mul-comm, mul-pos, mul-le-mul-right, le-div-iff-mul-le, div-add-mod', mod-lt, add-mul, zero-mul, pow-succ', suc-add}
+use native.Mathlib.Nat.{le-trans, le-antisymm, le-of-eq, lt-of-le-of-lt, zero-lt-suc, mul-assoc, mul-pos, mul-le-mul-right, le-div-iff-mul-le, div-add-mod', mod-lt, add-mul, zero-mul, pow-succ', suc-add}
 use native.Mathlib.Omega.{arith}
 use mathlib.Core.Bool.{Bool}
 use lib.Arith.{lt-one}
@@ -27,7 +27,7 @@ round-at : (f : Format) (s : Bool) (u n : ℕ) → round f s n (2 ^ (u + low f))
 round-at f s u n =
     let l = low f in
     let d = drop f u n in
-    let e : n * 2 ^ l * 2 ^ u ≡ n * 2 ^ (u + l) = mul-assoc n (2 ^ l) (2 ^ u) ∙ ap (λ (x : ℕ). n * x) (mul-comm (2 ^ l) (2 ^ u) ∙ sym (pow-add 2 u l)) in
+    let e : n * 2 ^ l * 2 ^ u ≡ n * 2 ^ (u + l) = shl-shl n l u (u + l) (omega arith) in
     let k : size (n * 2 ^ l / 2 ^ (u + l)) - prec f ≡ d = ap (λ (x : ℕ). size x - prec f) (div-same (n * 2 ^ l) (2 ^ (u + l)) n (2 ^ u) (pow-pos (u + l)) (pow-pos u) e) in
     let g : n * 2 ^ l * 2 ^ (u + d) ≡ n * (2 ^ (u + l) * 2 ^ d) = ap (λ (x : ℕ). n * 2 ^ l * x) (pow-add 2 u d) ∙ sym (mul-assoc (n * 2 ^ l) (2 ^ u) (2 ^ d)) ∙ ap (λ (x : ℕ). x * 2 ^ d) e ∙ mul-assoc n (2 ^ (u + l)) (2 ^ d) in
     round-is f s n (2 ^ (u + l))
@@ -97,7 +97,7 @@ round-jam f s u e k n (fine x) = cut-short f s u e k n (inl x)
 round-jam f s u e k n (long x) = cut-short f s u e k n (inr (omega (arith, jam-is k n, pow-succ' 2 (prec f))))
 round-jam f s u e k n (exact x) =
     ap (λ (y : ℕ). round f s y (2 ^ (u + low f)))
-    (ap (λ (y : ℕ). jam k n * y) (pow-add 2 k e) ∙ sym (mul-assoc (jam k n) (2 ^ k) (2 ^ e)) ∙ ap (λ (y : ℕ). y * 2 ^ e) (jam-exact k n x))
+    (sym (shl-shl (jam k n) k e (k + e) refl) ∙ ap (λ (y : ℕ). y * 2 ^ e) (jam-exact k n x))
 
 -- ---- a word w of 64 digits, with its top digit set or at the lowest exponent, is rounded to 53 of them
 module _ (s : Bool) (w k : ℕ) (short : w < 2 ^ 64) (full : 0 < k → 2 ^ 63 ≤ w) where

@@ -1,10 +1,10 @@
 -- How many binary digits a number has, and a number moved up to the top of a word. Assumes nothing.
-use mathlib.Core.Path.{_≡_, sym, ap, _∙_, subst}
+use mathlib.Core.Path.{_≡_, sym, ap, ap₂, _∙_, subst}
 use mathlib.Core.Logic.{⊎-elim}
-use Prim.Native.Nat.{ℕ, suc, _+_, _-_, _*_, _/_, _^_, _≤_, _<_}
-use native.Mathlib.Nat.{le-trans, le-of-eq, lt-of-lt-of-le, lt-of-not-le, not-le-of-lt, mul-assoc, mul-le-mul-right, div-lt-iff-lt-mul}
+use Prim.Native.Nat.{ℕ, suc, _+_, _-_, _*_, _/_, _%_, _^_, _≤_, _<_}
+use native.Mathlib.Nat.{le-trans, le-of-eq, lt-of-lt-of-le, lt-of-not-le, not-le-of-lt, mul-assoc, mul-le-mul-right, mul-mod-left, add-zero, div-lt-iff-lt-mul}
 use native.Mathlib.Omega.{arith}
-use lib.Pow.{pow-add, pow-pos, pow-mono, shr-lt, shl-lt}
+use lib.Pow.{pow-add, pow-pos, pow-mono, shr-lt, shl-lt, shl-shr, mod-pow-add}
 use lib.Count.{leadingZeros, leading-top}
 use lib.Ieee.{size}
 use lib.Ieee.Digits.{size-lt, size-le}
@@ -13,6 +13,10 @@ use Rattle.ieee754.proofs.Order.{lt-or-ge}
 -- moved up by i digits, and then by j
 pub shl-shl : (a i j k : ℕ) → i + j ≡ k → a * 2 ^ i * 2 ^ j ≡ a * 2 ^ k
 shl-shl a i j k h = mul-assoc a (2 ^ i) (2 ^ j) ∙ ap (λ (x : ℕ). a * x) (sym (pow-add 2 i j) ∙ ap (λ (x : ℕ). 2 ^ x) h)
+
+-- moved up by j digits, of k + j it keeps the lowest k
+pub moved : (k j n : ℕ) → n * 2 ^ j % 2 ^ (k + j) ≡ n % 2 ^ k * 2 ^ j
+moved k j n = mod-pow-add (n * 2 ^ j) k j ∙ ap₂ (λ (x y : ℕ). x % 2 ^ k * 2 ^ j + y) (shl-shr n j) (mul-mod-left n (2 ^ j)) ∙ add-zero (n % 2 ^ k * 2 ^ j)
 
 -- a number of no less than 2 ^ j has more than j digits
 pub size-gt : (n j : ℕ) → 2 ^ j ≤ n → j < size n

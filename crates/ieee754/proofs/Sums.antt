@@ -5,7 +5,7 @@ use mathlib.Core.Logic.{⊎-elim}
 use Prim.Native.Nat.{ℕ, suc, _+_, _-_, _*_, _/_, _%_, _^_, _≤_, _<_}
 use native.Mathlib.Nat.{le-of-lt, add-comm, add-mul, suc-mul, mul-assoc, mul-le-mul-right, mul-comm, mul-sub, mul-mod-left, mul-add-mod-self-right, zero-mod, pow-succ', div-add-mod'}
 use native.Mathlib.Omega.{arith}
-use mathlib.Core.Bool.{Bool, true, false, _&&_, Bool·beq, cond}
+use mathlib.Core.Bool.{Bool, true, false, _&&_, Bool·beq, cond, and-true}
 use lib.Dec.{ltb}
 use lib.Pow.{pow-add, pow-pos}
 use lib.Ieee.{Format, prec, low, round, sum}
@@ -105,10 +105,6 @@ sum-jam f u e k p a h s t =
     ∙ (λ i. cond (Bool·beq s t) (plus i) (cond (less i) (from i) (off i)))
     ∙ sym (sum-scaled f s p t A (2 ^ e) D (pow-pos e))
     ∙ ap (λ (x : ℕ). sum f s (p * 2 ^ e) t x D) whole
-
-and-true : (b : Bool) → b && true ≡ b
-and-true true = refl
-and-true false = refl
 
 -- ---- two terms of which a whole number of units E is known, a of L and b of M, and n, the sum or the difference of these: the terms' own is less than a unit below it and less than two above it
 module _ (f : Format) (s t : Bool) (c L M E a b n : ℕ) (aL : a * E ≤ L) (La : L < suc a * E) (bM : b * E ≤ M) (Mb : M < suc b * E) where

@@ -1,11 +1,12 @@
 -- A pose that the gate lets by has twelve finite numbers. Its translation is tested; and it is a difference that takes in every entry of the rotation, none of which can then be a NaN or an infinity.
 -- Assumes nothing.
-use mathlib.Core.Bool.{Bool, true, false, _&&_, not, cond, Bool·beq}
-use lib.Dec.{T, eqb}
-use lib.Ieee.{Float, nan, inf, fin, binary64, neg, add, sub, mul, unlike}
+use mathlib.Core.Bool.{Bool, true, false, _&&_, not}
+use lib.Dec.{T}
+use lib.Ieee.{Float, binary64, neg, add, sub, mul}
 use lib.Ieee.Fits.{and-i, and-l, and-r}
 use lib.Ieee.Scale.{finite}
 use Rattle.ieee754.specs.Traced.{Traced, if_then_else_}
+use Rattle.ieee754.proofs.Finite.{neg-operand, add-operands, mul-operands}
 use Rattle.linalg.specs.Vectors.{allFinite, vecSub}
 use Rattle.linalg.specs.Matrices.{matVec, matFinite, column0, column1, column2}
 use Rattle.linalg.specs.declared.vector3.Vector3.{Vector3}
@@ -26,41 +27,6 @@ use Rattle.p3p_common.specs.PoseSlots.{FinitePose}
 pub either-way : {A : Type 0} (P : A → Type 0) (b : Bool) {x y : A} → (T b → P x) → (T (not b) → P y) → P (if b then x else y)
 either-way P true f g = f tt
 either-way P false f g = g tt
-
--- ---- operands of a finite result are finite
-neg-operand : (x : Float) → T (finite (neg x)) → T (finite x)
-unfolding neg
-neg-operand nan h = h
-neg-operand (inf s) h = h
-neg-operand (fin s m e) h = tt
-
-no-sum : (b s : Bool) → T (finite (cond b (inf s) nan)) → ⊥
-no-sum true s h = h
-no-sum false s h = h
-
-no-product : (b s : Bool) → T (finite (cond b nan (inf s))) → ⊥
-no-product true s h = h
-no-product false s h = h
-
-add-operands : (x y : Float) → T (finite (add binary64 x y)) → T (finite x) × T (finite y)
-unfolding add
-add-operands nan y h = absurd h
-add-operands (inf s) nan h = absurd h
-add-operands (inf s) (inf t) h = absurd (no-sum (Bool·beq s t) s h)
-add-operands (inf s) (fin t n d) h = absurd h
-add-operands (fin s m e) nan h = absurd h
-add-operands (fin s m e) (inf t) h = absurd h
-add-operands (fin s m e) (fin t n d) h = (tt, tt)
-
-mul-operands : (x y : Float) → T (finite (mul binary64 x y)) → T (finite x) × T (finite y)
-unfolding mul
-mul-operands nan y h = absurd h
-mul-operands (inf s) nan h = absurd h
-mul-operands (inf s) (inf t) h = absurd h
-mul-operands (inf s) (fin t n d) h = absurd (no-product (eqb n 0) (unlike s t) h)
-mul-operands (fin s m e) nan h = absurd h
-mul-operands (fin s m e) (inf t) h = absurd (no-product (eqb m 0) (unlike s t) h)
-mul-operands (fin s m e) (fin t n d) h = (tt, tt)
 
 -- ---- a translation that is finite and is made with the rotation, t = c - R p, makes the rotation finite
 

@@ -2,10 +2,11 @@
 use mathlib.Core.Path.{_≡_, refl, sym, _∙_}
 use mathlib.Core.Bool.{true, false≢true}
 use lib.Arith.{le→nltb}
-use lib.Ieee.{Float, nan, inf, fin, binary64, ofBits, isNan, div}
+use lib.Ieee.{Float, nan, inf, fin, binary64, isNan}
 use lib.Ieee.Bits.{nanBits-is, nanBits-above}
 use borrow.Author.Tests.{lt-ltb}
 use borrow.Author.Needs.{needs}
+use Rattle.ieee754.proofs.Reading.{zero-over-zero}
 use Rattle.ieee754.proofs.bits.from_bits.Statement.{statement}
 use Rattle.ieee754.proofs.bits.from_bits.Tie as tie
 
@@ -15,12 +16,8 @@ is-nan nan h = refl
 is-nan (inf s) h = absurd (false≢true h)
 is-nan (fin s m e) h = absurd (false≢true h)
 
-zeros : div binary64 (ofBits binary64 0) (ofBits binary64 0) ≡ nan
-unfolding div ofBits
-zeros = refl
-
 returns : tie.Need-returns
-returns c = zeros ∙ sym (is-nan _ (sym (nanBits-is binary64 (c .before .args .pattern)) ∙ nanBits-above binary64 (c .before .args .pattern) ∙ lt-ltb _ _ (c .if1 .taken)))
+returns c = zero-over-zero ∙ sym (is-nan _ (sym (nanBits-is binary64 (c .before .args .pattern)) ∙ nanBits-above binary64 (c .before .args .pattern) ∙ lt-ltb _ _ (c .if1 .taken)))
 
 float-from-bits-result : tie.Need-float-from-bits-result
 float-from-bits-result c = rw (nanBits-above binary64 (c .before .args .pattern)) (le→nltb _ _ (c .if1 .left))

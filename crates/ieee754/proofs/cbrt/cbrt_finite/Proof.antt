@@ -1,17 +1,13 @@
 -- `cbrt_finite` meets its contract: the root of a double goes by its value. Assumes nothing.
 use Prim.Native.Nat.{ℕ, _*_, _^_, _<_}
-use mathlib.Core.Path.{_≡_, sym, ap, _∙_}
-use native.Mathlib.Nat.{zero-mul}
-use native.Mathlib.Omega.{arith}
+use mathlib.Core.Path.{sym, ap, _∙_}
+use native.Mathlib.Nat.{zero-mul, pos-of-ne-zero}
 use borrow.Author.Needs.{needs}
 use lib.Dec.{lit<}
 use Rattle.ieee754.proofs.RootValues.{cbrt-zero, cbrt-of}
 use Rattle.ieee754.proofs.Exponent.{normal-value, normal-pos}
 use Rattle.ieee754.proofs.cbrt.cbrt_finite.Statement.{statement}
 use Rattle.ieee754.proofs.cbrt.cbrt_finite.Tie as tie
-
-some : {n : ℕ} → (n ≡ 0 → ⊥) → 0 < n
-some h = omega arith
 
 unpack-requires : tie.Need-unpack-requires
 unpack-requires c κs = search needs
@@ -23,7 +19,7 @@ returns c =
     cbrt-zero (u .before .args .x) (a .negative) (a .sig * 2 ^ a .exp) (2 ^ 1074) (ap (λ (m : ℕ). m * 2 ^ a .exp) (c .if1 .taken) ∙ zero-mul (2 ^ a .exp)) (lit< tt) (u .unpack .ensures .is)
 
 normalise-requires : tie.Need-normalise-requires
-normalise-requires c κs = (c .before .before .unpack .ensures .digits, some (c .if1 .left))
+normalise-requires c κs = (c .before .before .unpack .ensures .digits, pos-of-ne-zero (c .if1 .left))
 
 scaled-requires : tie.Need-scaled-requires
 scaled-requires c κs = search needs

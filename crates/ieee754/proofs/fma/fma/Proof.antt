@@ -2,12 +2,12 @@
 use borrow.Author.Needs.{needs}
 use mathlib.Core.Path.{_≡_, refl}
 use mathlib.Core.Logic.{⊎-elim}
-use mathlib.Core.Bool.{Bool, true, false, not, _&&_}
+use mathlib.Core.Bool.{not, _&&_}
 use lib.Dec.{T}
 use lib.Ieee.{Float, nan, inf, fin, binary64, add, mul}
 use lib.Ieee.Scale.{finite}
 use Rattle.ieee754.specs.Fma.{fma}
-use Rattle.ieee754.proofs.Order.{answered, denied}
+use Rattle.ieee754.proofs.Order.{answered, denied, not-both-left, not-both-right}
 use Rattle.ieee754.proofs.fma.fma.Statement.{statement}
 use Rattle.ieee754.proofs.fma.fma.Tie as tie
 
@@ -30,14 +30,6 @@ factor (inf s) y z a = refl
 factor (fin s m e) nan z a = refl
 factor (fin s m e) (inf t) z a = refl
 factor (fin s m e) (fin t n d) z a = absurd a
-
-first : (a b : Bool) → T (not a) → T (not (a && b))
-first true b h = absurd h
-first false b h = tt
-
-second : (a b : Bool) → T (not b) → T (not (a && b))
-second true b h = h
-second false b h = tt
 
 is-finite-requires : tie.Need-is-finite-requires
 is-finite-requires c κs = search needs
@@ -72,8 +64,8 @@ returns-3 c =
     let x = s .args .x in
     let y = s .args .y in
     factor x y (s .args .z)
-    (⊎-elim (λ w. second (finite x) (finite y) (denied (w .1 .ensures) (w .2 .left)))
-    (λ w. first (finite x) (finite y) (denied (c .before .is-finite .ensures) (w .left))) (c .if1 .came))
+    (⊎-elim (λ w. not-both-right (finite x) (finite y) (denied (w .1 .ensures) (w .2 .left)))
+    (λ w. not-both-left (finite x) (finite y) (denied (c .before .is-finite .ensures) (w .left))) (c .if1 .came))
 
 pub fma-spec : {M : Type 1} → statement M
 fma-spec = tie.close (tie.spec is-finite-requires is-finite-requires-2 is-finite-requires-3 fma-finite-requires returns returns-2 returns-3)

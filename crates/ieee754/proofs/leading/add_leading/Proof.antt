@@ -1,13 +1,11 @@
 -- `add_leading` meets its contract: the sum of the leading words is near to that of the terms (Sums.antt), and where all that is so near rounds alike, the sum does (`settle`). Assumes nothing.
 use Prim.Native.Nat.{ℕ, suc, _+_, _-_, _*_, _/_, _%_, _^_, _≤_, _<_}
 use mathlib.Core.Path.{_≡_, refl, sym, ap, ap₂, _∙_, subst}
-use mathlib.Core.Logic.{⊎-elim}
 use mathlib.Core.Bool.{Bool, true, false, cond, Bool·beq}
-use native.Mathlib.Nat.{le-trans, le-of-eq, le-of-lt, lt-of-lt-of-le, lt-of-le-of-lt, mul-le-mul-right, div-add-mod', mod-lt, suc-mul}
+use native.Mathlib.Nat.{le-trans, le-of-eq, le-of-lt, lt-of-lt-of-le, lt-of-le-of-lt, mul-le-mul-right, div-add-mod', mod-lt, suc-mul, pos-of-ne-zero}
 use native.Mathlib.Omega.{arith}
 use borrow.Author.Needs.{needs}
 use borrow.Author.Tests.{leb-true, leb-false}
-use lib.Arith.{lt-one}
 use lib.Dec.{leb, lit<, lit≤}
 use lib.Pow.{pow-pos, shr-lt, shr-le}
 use lib.Ieee.{Float, binary64, units}
@@ -16,7 +14,6 @@ use Rattle.ieee754.specs.inner.Leading.{Settles}
 use Rattle.ieee754.specs.inner.Rounded.{rounded, summed}
 use Rattle.ieee754.specs.inner.Value.{value}
 use Rattle.ieee754.proofs.Carry.{high-below}
-use Rattle.ieee754.proofs.Order.{lt-or-ge}
 use Rattle.ieee754.proofs.Sizes.{shl-shl}
 use Rattle.ieee754.proofs.Sums.{sum-between, sum-comm}
 use Rattle.ieee754.proofs.leading.add_leading.Statement.{statement}
@@ -160,14 +157,11 @@ add-scaled-requires c κs = search needs
 choose-sign-requires : tie.Need-choose-sign-requires
 choose-sign-requires c κs = search needs
 
-nonzero : (n : ℕ) → (n ≡ 0 → ⊥) → 0 < n
-nonzero n h = ⊎-elim (λ (l : n < 1). absurd (h (lt-one l))) (λ g. g) (lt-or-ge n 1)
-
 pack-requires : tie.Need-pack-requires
 pack-requires c κs =
     let n = c .before in
     let w = n .before .before .settle in
-    let h = w .ensures (nonzero (w .result .sig) (n .if1 .left)) in
+    let h = w .ensures (pos-of-ne-zero (n .if1 .left)) in
     (le-of-lt (h .short), λ g. h .full, h .within)
 
 returns : tie.Need-returns
@@ -194,7 +188,7 @@ returns-2 c =
     let y = s .args .c .exp + 1083 in
     let first = leb y x in
     let is : f .before .before .before .shift-right .result ≡ a = f .before .before .before .shift-right .ensures in
-    let settled = w .ensures (nonzero (w .result .sig) (n .if1 .left)) in
+    let settled = w .ensures (pos-of-ne-zero (n .if1 .left)) in
     let lead : k .choose4 .result ≡ cond first a b = k .choose4 .ensures ∙ ap (λ (z : ℕ). cond first z b) is in
     let rest : g .choose2 .result ≡ cond first b a = g .choose2 .ensures ∙ ap (λ (z : ℕ). cond first b z) is in
     let low : h .shift .result ≡ cond first b a / 2 ^ (cond first x y - cond first y x) = h .shift .ensures ∙ ap₂ (λ (o d : ℕ). o / 2 ^ d) rest (ap₂ (λ (e d : ℕ). e - d) (f .choose .ensures) (h .before .choose3 .ensures)) in

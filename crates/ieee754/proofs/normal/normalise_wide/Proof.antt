@@ -2,7 +2,7 @@
 use borrow.Author.Needs.{needs}
 use mathlib.Core.Path.{_≡_, sym, ap, _∙_, subst}
 use Prim.Native.Nat.{ℕ, suc, _+_, _-_, _*_, _%_, _^_, _≤_, _<_}
-use native.Mathlib.Nat.{le-trans, le-of-eq, lt-of-lt-of-le, mul-assoc, mul-le-mul-right, add-comm, add-sub-of-le, mod-eq-of-lt, add-zero, zero-mul}
+use native.Mathlib.Nat.{le-trans, le-of-eq, lt-of-lt-of-le, mul-le-mul-right, add-comm, add-sub-of-le, mod-eq-of-lt, add-zero, zero-mul, pos-of-ne-zero}
 use native.Mathlib.Omega.{arith}
 use mathlib.Core.Bool.{Bool}
 use lib.Arith.{digits-lt}
@@ -16,7 +16,7 @@ use Rattle.ieee754.specs.inner.Jam.{jam}
 use Rattle.ieee754.specs.inner.Rounded.{rounded}
 use Rattle.ieee754.proofs.Jam.{jam-ge, jam-lt}
 use Rattle.ieee754.proofs.Rounding.{Kept, round-jam}
-use Rattle.ieee754.proofs.Sizes.{zeros-lt, shifted-ge, shifted-lt}
+use Rattle.ieee754.proofs.Sizes.{shl-shl, zeros-lt, shifted-ge, shifted-lt}
 use Rattle.ieee754.proofs.normal.normalise_wide.Statement.{statement}
 use Rattle.ieee754.proofs.normal.normalise_wide.Tie as tie
 
@@ -26,13 +26,10 @@ zeros n = leadingZeros 64 n
 zeros-fits : (n : ℕ) → Fits w64 (zeros n)
 zeros-fits n = record { fits = omega (arith, leading-le 64 n) }
 
-some : (n : ℕ) → (n ≡ 0 → ⊥) → 0 < n
-some n h = omega arith
-
 -- ---- two words: the cut leaves 64 digits
 two-words : (h l : ℕ) → (h ≡ 0 → ⊥) → h < 2 ^ 64 → l < 2 ^ 64 → (2 ^ 63 ≤ jam (64 - zeros h) (h * 2 ^ 64 + l)) × (jam (64 - zeros h) (h * 2 ^ 64 + l) < 2 ^ 64)
 two-words h l z a b =
-    let t = leading-top 64 h (some h z) a in
+    let t = leading-top 64 h (pos-of-ne-zero z) a in
     let j = t .0 in
     let n = h * 2 ^ 64 + l in
     let lo : 2 ^ (j + 64) ≤ n = le-trans (le-of-eq (pow-add 2 j 64)) (le-trans (mul-le-mul-right (2 ^ 64) (t .2)) (omega arith)) in
@@ -54,11 +51,11 @@ cut-alike s t n k e h l =
 
 -- ---- one word: nothing is lost
 one-word : (l : ℕ) → (l ≡ 0 → ⊥) → l < 2 ^ 64 → (2 ^ 63 ≤ l * 2 ^ zeros l) × (l * 2 ^ zeros l < 2 ^ 64)
-one-word l z b = (shifted-ge 64 64 l (some l z) b (lit≤ tt) (zeros l) (add-zero (zeros l)), shifted-lt 64 64 l (some l z) b (lit≤ tt) (zeros l) (add-zero (zeros l)))
+one-word l z b = (shifted-ge 64 64 l (pos-of-ne-zero z) b (lit≤ tt) (zeros l) (add-zero (zeros l)), shifted-lt 64 64 l (pos-of-ne-zero z) b (lit≤ tt) (zeros l) (add-zero (zeros l)))
 
 moved : (h l k e : ℕ) → h ≡ 0 → k ≤ e → l * 2 ^ k * 2 ^ (e - k) ≡ (h * 2 ^ 64 + l) * 2 ^ e
 moved h l k e z g =
-    mul-assoc l (2 ^ k) (2 ^ (e - k)) ∙ ap (λ (x : ℕ). l * x) (sym (pow-add 2 k (e - k)) ∙ ap (λ (x : ℕ). 2 ^ x) (add-sub-of-le g)) ∙ ap (λ (x : ℕ). x * 2 ^ e) (omega arith)
+    shl-shl l k (e - k) e (add-sub-of-le g) ∙ ap (λ (x : ℕ). x * 2 ^ e) (omega arith)
 
 nothing : (h l e : ℕ) → h ≡ 0 → l ≡ 0 → 0 * 2 ^ 0 ≡ (h * 2 ^ 64 + l) * 2 ^ e
 nothing h l e y z = sym (zero-mul (2 ^ e)) ∙ ap (λ (x : ℕ). x * 2 ^ e) (omega arith)
@@ -79,7 +76,7 @@ cast-n-2 : tie.Need-cast-n-2
 cast-n-2 c = zeros-fits (c .before .before .before .before .before .args .v .lo)
 
 shl-t13 : tie.Need-shl-t13
-shl-t13 c = let s = c .before .before .before .before .before .before in zeros-lt 64 64 (s .args .v .lo) (some (s .args .v .lo) (c .before .before .if2 .taken)) (c .struct-known5 .given .1 .0 .fits) (lit≤ tt)
+shl-t13 c = let s = c .before .before .before .before .before .before in zeros-lt 64 64 (s .args .v .lo) (pos-of-ne-zero (c .before .before .if2 .taken)) (c .struct-known5 .given .1 .0 .fits) (lit≤ tt)
 
 sub-t14 : tie.Need-sub-t14
 sub-t14 c = let s = c .before .before .before .before .before .before in le-trans (leading-le 64 (s .args .v .lo)) (s .pre .0)

@@ -2,29 +2,25 @@
 use Prim.Native.Nat.{ℕ, _+_, _-_, _*_, _/_, _%_, _^_, _≤_, _<_}
 use mathlib.Core.Path.{_≡_, refl, sym, ap, _∙_, subst}
 use mathlib.Core.Bool.{Bool, false}
-use native.Mathlib.Nat.{mul-assoc, mul-pos, mod-eq-of-lt}
+use native.Mathlib.Nat.{mul-pos, mod-eq-of-lt}
 use native.Mathlib.Omega.{arith}
 use borrow.Author.Needs.{needs}
 use borrow.Author.Tests.{lt-leb}
 use lib.Dec.{T, leb, lit<}
-use lib.Pow.{pow-add, pow-pos}
+use lib.Pow.{pow-pos}
 use lib.Ieee.{Float, binary64, fits, toBits}
 use lib.Ieee.Exact.{HasValue}
 use lib.Ieee.Scale.{finite}
+use denote.Floats.{passes}
 use Rattle.ieee754.specs.Root.{sqrt, roundRoot}
-use Rattle.ieee754.proofs.Reading.{read-higher, times, finite-not-nan}
+use Rattle.ieee754.proofs.Reading.{field-range, read-higher, times, finite-not-nan}
 use Rattle.ieee754.proofs.RootValues.{sqrt-of}
+use Rattle.ieee754.proofs.Sizes.{shl-shl}
 use Rattle.ieee754.proofs.sqrt.sqrt_finite.Statement.{statement}
 use Rattle.ieee754.proofs.sqrt.sqrt_finite.Tie as tie
 
--- what owning an `f64` tells: the format holds it
-held : (c : tie.Start) → T (fits binary64 (c .args .x))
-held c = subst T (sym (c .good .0 .1)) tt
-
 raised : (m e : ℕ) → 0 < e → m * 2 ^ (e + 51) ≡ m * 2 ^ (e - 1) * 2 ^ 52
-raised m e p =
-    let d : e + 51 ≡ e - 1 + 52 = omega arith in
-    ap (λ (y : ℕ). m * 2 ^ y) d ∙ ap (λ (y : ℕ). m * y) (pow-add 2 (e - 1) 52) ∙ sym (mul-assoc m (2 ^ (e - 1)) (2 ^ 52))
+raised m e p = sym (shl-shl m (e - 1) 52 (e + 51) (omega arith))
 
 some : (b : ℕ) → 2 ^ 52 ≤ b → 0 < b / 2 ^ 52
 some b h = omega arith
@@ -76,19 +72,13 @@ scaled-requires c κs =
     let s = c .before .before in
     let x = s .args .x in
     let b = toBits binary64 x in
-    (at-least b, less b, below b (c .if2 .left) (read x b refl (held s) (s .pre) (c .before .if1 .left) (c .if2 .left) .1))
-  where
-    at-least : (b : ℕ) → 2 ^ 52 ≤ 2 ^ 52 + b % 2 ^ 52
-    at-least b = omega arith
-
-    less : (b : ℕ) → 2 ^ 52 + b % 2 ^ 52 < 2 ^ 53
-    less b = omega arith
+    (field-range b .0, field-range b .1, below b (c .if2 .left) (read x b refl (passes _ (s .good .0 .1)) (s .pre) (c .before .if1 .left) (c .if2 .left) .1))
 
 returns-3 : tie.Need-returns-3
 returns-3 c =
     let f = c .before in
     let s = f .before .before in
-    c .scaled .ensures ∙ sym (root (s .args .x) (toBits binary64 (s .args .x)) refl (held s) (s .pre) (f .before .if1 .left) (f .if2 .left))
+    c .scaled .ensures ∙ sym (root (s .args .x) (toBits binary64 (s .args .x)) refl (passes _ (s .good .0 .1)) (s .pre) (f .before .if1 .left) (f .if2 .left))
 
 pub sqrt-finite-spec : {M : Type 1} → statement M
 sqrt-finite-spec = tie.close (tie.spec float-to-bits-bits sqrt-other-requires returns sqrt-other-requires-2 returns-2 add-sig add-exp scaled-requires returns-3)

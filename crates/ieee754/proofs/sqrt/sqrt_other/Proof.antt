@@ -1,25 +1,17 @@
 -- `sqrt_other` meets its contract: the root of a double goes by its value. Assumes nothing.
 use Prim.Native.Nat.{ℕ, _*_, _^_, _<_}
-use mathlib.Core.Path.{_≡_, refl, sym, ap, _∙_, subst}
+use mathlib.Core.Path.{_≡_, sym, ap, _∙_, subst}
 use mathlib.Core.Bool.{Bool, false}
-use native.Mathlib.Nat.{mul-pos, zero-mul}
-use native.Mathlib.Omega.{arith}
+use native.Mathlib.Nat.{mul-pos, zero-mul, pos-of-ne-zero}
 use borrow.Author.Needs.{needs}
 use lib.Dec.{lit<}
 use lib.Pow.{pow-pos}
-use lib.Ieee.{nan, binary64, div, ofBits}
 use lib.Ieee.Exact.{HasValue}
+use Rattle.ieee754.proofs.Reading.{zero-over-zero}
 use Rattle.ieee754.proofs.RootValues.{sqrt-zero, sqrt-of, sqrt-negative}
 use Rattle.ieee754.proofs.Exponent.{normal-value, normal-pos}
 use Rattle.ieee754.proofs.sqrt.sqrt_other.Statement.{statement}
 use Rattle.ieee754.proofs.sqrt.sqrt_other.Tie as tie
-
-some : {n : ℕ} → (n ≡ 0 → ⊥) → 0 < n
-some h = omega arith
-
-zero-over-zero : div binary64 (ofBits binary64 0) (ofBits binary64 0) ≡ nan
-unfolding div ofBits
-zero-over-zero = refl
 
 -- the value of the argument, with the sign that a test found
 signed : (c : tie.After-unpack) {s : Bool} → let a = c .unpack .result in a .negative ≡ s → HasValue (c .before .args .x) s (a .sig * 2 ^ a .exp) (2 ^ 1074)
@@ -38,10 +30,10 @@ returns-2 : tie.Need-returns-2
 returns-2 c =
     let u = c .before .before .before in
     let a = u .unpack .result in
-    zero-over-zero ∙ sym (sqrt-negative (u .before .args .x) (a .sig * 2 ^ a .exp) (2 ^ 1074) (mul-pos (some (c .before .if1 .left)) (pow-pos (a .exp))) (signed u (c .if2 .taken)))
+    zero-over-zero ∙ sym (sqrt-negative (u .before .args .x) (a .sig * 2 ^ a .exp) (2 ^ 1074) (mul-pos (pos-of-ne-zero (c .before .if1 .left)) (pow-pos (a .exp))) (signed u (c .if2 .taken)))
 
 normalise-requires : tie.Need-normalise-requires
-normalise-requires c κs = (c .before .before .before .unpack .ensures .digits, some (c .before .if1 .left))
+normalise-requires c κs = (c .before .before .before .unpack .ensures .digits, pos-of-ne-zero (c .before .if1 .left))
 
 scaled-requires : tie.Need-scaled-requires
 scaled-requires c κs = search needs

@@ -3,7 +3,7 @@ use borrow.Author.Needs.{needs}
 use mathlib.Core.Path.{_≡_, refl, sym, ap, ap₂, _∙_, subst}
 use mathlib.Core.Logic.{⊎-elim}
 use Prim.Native.Nat.{ℕ, suc, _+_, _-_, _*_, _/_, _%_, _^_, _≤_, _<_}
-use native.Mathlib.Nat.{le-trans, le-of-eq, le-of-lt, lt-of-lt-of-le, lt-of-le-of-lt, add-le-add, mul-le-mul-right, mul-assoc, mul-left-comm, mul-mod-left, add-zero, sub-add-cancel}
+use native.Mathlib.Nat.{le-trans, le-of-eq, le-of-lt, lt-of-lt-of-le, lt-of-le-of-lt, add-le-add, mul-le-mul-right, mul-assoc, mul-mod-left, add-zero, sub-add-cancel}
 use native.Mathlib.Omega.{arith}
 use mathlib.Core.Bool.{Bool}
 use lib.Dec.{lit≤}
@@ -15,6 +15,7 @@ use Rattle.ieee754.specs.inner.Value.{value}
 use Rattle.ieee754.proofs.Carry.{high-below}
 use Rattle.ieee754.proofs.Jam.{jam-lt, jam-no-longer}
 use Rattle.ieee754.proofs.Order.{lt-or-ge}
+use Rattle.ieee754.proofs.Sizes.{shl-shl}
 use Rattle.ieee754.proofs.Sums.{Apart, sum-comm, sum-jam}
 use Rattle.ieee754.proofs.sum.add_scaled.Statement.{statement}
 use Rattle.ieee754.proofs.sum.add_scaled.Tie as tie
@@ -34,11 +35,9 @@ twice-half : (m : ℕ) → half m * 2 ≡ addend m
 twice-half m = omega arith
 
 -- its value over 2 ^ 2166
-rescale : (m x a b y c : ℕ) → a * b * y ≡ c → m * a * b * (x * y) ≡ m * x * c
-rescale m x a b y c e = rw (← e) (simp (mul-assoc, mul-left-comm))
-
 addend-is : (m x : ℕ) → addend m * 2 ^ (x + 1019) ≡ m * 2 ^ x * 2 ^ 1092
-addend-is m x = ap₂ (λ (y z : ℕ). y * z) (add-zero (m * 512 * 2 ^ 64)) (pow-add 2 x 1019) ∙ rescale m (2 ^ x) 512 (2 ^ 64) (2 ^ 1019) (2 ^ 1092) refl
+addend-is m x =
+    ap (λ (y : ℕ). y * 2 ^ (x + 1019)) (add-zero (m * 512 * 2 ^ 64) ∙ shl-shl m 9 64 73 refl) ∙ shl-shl m 73 (x + 1019) (x + 1092) (omega arith) ∙ sym (shl-shl m x 1092 (x + 1092) refl)
 
 -- ---- the product is cut short: either the addend is no larger than a small power of two, and what is cut off lies below half of the smallest value, or the addend is larger by far
 product-apart : (p e m x k : ℕ) → p < 2 ^ 124 → (0 < x → 2 ^ 52 ≤ m) → k + e ≡ x + 1019 → Apart binary64 1092 e k p (half m)

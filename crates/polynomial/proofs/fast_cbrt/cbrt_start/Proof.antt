@@ -2,30 +2,27 @@
 use borrow.Author.Needs.{needs}
 use native.Mathlib.Omega.{arith}
 use Prim.Native.Nat.{_+_, _/_, _%_, _<_, _≤_}
-use mathlib.Core.Path.{refl, sym, subst}
-use lib.Dec.{T}
-use lib.Ieee.{binary64, fits, toBits}
+use mathlib.Core.Path.{refl}
+use denote.Floats.{passes}
+use lib.Ieee.{binary64, toBits}
 use lib.Ieee.Bits.{toBits-lt}
 use Rattle.ieee754.proofs.Reading.{in-range, no-nan}
 use Rattle.polynomial.specs.FastCbrt.{cbrtStart}
 use Rattle.polynomial.proofs.fast_cbrt.cbrt_start.Statement.{statement}
 use Rattle.polynomial.proofs.fast_cbrt.cbrt_start.Tie as tie
 
-held : (c : tie.Start) → T (fits binary64 (c .args .magnitude))
-held c = subst T (sym (c .good .0 .1)) tt
-
 float-to-bits-result : tie.Need-float-to-bits-result
 float-to-bits-result c = search needs
 
 add-result : tie.Need-add-result
 add-result c =
-    let bound : toBits binary64 (c .args .magnitude) < 0x1_0000_0000_0000_0000 = toBits-lt binary64 (c .args .magnitude) (held c) in
+    let bound : toBits binary64 (c .args .magnitude) < 0x1_0000_0000_0000_0000 = toBits-lt binary64 (c .args .magnitude) (passes _ (c .good .0 .1)) in
     omega arith
 
 float-from-bits-result : tie.Need-float-from-bits-result
 float-from-bits-result c =
-    let bound : toBits binary64 (c .args .magnitude) < 0x1_0000_0000_0000_0000 = toBits-lt binary64 (c .args .magnitude) (held c) in
-    let number : toBits binary64 (c .args .magnitude) % 0x8000_0000_0000_0000 ≤ 0x7ff0_0000_0000_0000 = in-range binary64 (c .args .magnitude) (held c) (c .pre) in
+    let bound : toBits binary64 (c .args .magnitude) < 0x1_0000_0000_0000_0000 = toBits-lt binary64 (c .args .magnitude) (passes _ (c .good .0 .1)) in
+    let number : toBits binary64 (c .args .magnitude) % 0x8000_0000_0000_0000 ≤ 0x7ff0_0000_0000_0000 = in-range binary64 (c .args .magnitude) (passes _ (c .good .0 .1)) (c .pre) in
     let below : toBits binary64 (c .args .magnitude) / 3 + 0x2a9f_7625_3119_d328 ≤ 0x7ff0_0000_0000_0000 = omega arith in
     no-nan binary64 _ below
 
