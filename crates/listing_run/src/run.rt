@@ -1,11 +1,8 @@
 // The run: records are listed one after another, what waits is written, and the input is read on, as each turn asks for.
 ghost use mathlib.Core.Path.{_≡_};
 ghost use Prim.Native.Nat.{min};
-ghost use lib.ListN.{length, take};
-ghost use Rattle.records.specs.Record.{recordAt};
-ghost use Rattle.listing.specs.Lines.{roomy};
-ghost use Rattle.listing_run.specs.RecordLines.{courseOf};
-ghost use Rattle.listing_run.specs.Goes.{Goes};
+ghost use lib.ListN.{length};
+ghost use Rattle.listing_run.specs.Goes.{Writes, Reads, Steps};
 use crate::record::Course;
 use crate::record::put_record;
 use crate::stream::Filling;
@@ -37,7 +34,9 @@ fn least(a: usize, b: usize) -> usize
 }
 
 // Writes what waits.
-fn write_on(out: &[u8], state: State) -> Turn {
+fn write_on(out: &[u8], state: State) -> Turn
+    ensures { λ r. ⌜ Writes state r ⌝ }
+{
     if !flush(out, state.at) {
         return Turn::Over;
     }
@@ -51,7 +50,9 @@ fn write_on(out: &[u8], state: State) -> Turn {
 }
 
 // Reads on, from the buffer's begin where all of it has been listed. Nothing waits to be written.
-fn read_on(fd: i32, input: &mut [u8], filled: usize, next: usize, listed: u64) -> Turn {
+fn read_on(fd: i32, input: &mut [u8], filled: usize, next: usize, listed: u64) -> Turn
+    ensures { λ r. ⌜ Reads (length (now (input .entry))) filled next listed r ⌝ }
+{
     if input.len() <= next {
         return Turn::More(State {
             filled: 0,
@@ -83,7 +84,7 @@ fn read_on(fd: i32, input: &mut [u8], filled: usize, next: usize, listed: u64) -
 
 // One turn: what stands next in the input is listed, and the run goes on as that asks for.
 fn step(fd: i32, input: &mut [u8], out: &mut [u8], state: State) -> Turn
-    ensures { λ r. ⌜ Goes (courseOf (roomy 1600 (now (out .entry)) (state .at)) (state .ended) (recordAt (take (min (state .filled) (length (now (input .entry)))) (now (input .entry))) (state .next))) state r ⌝ }
+    ensures { λ r. ⌜ Steps (now (input .entry)) (now (out .entry)) (now (out .exit)) state r ⌝ }
 {
     let filled = state.filled;
     let ended = state.ended;

@@ -79,7 +79,7 @@ same-length-4 c = search needs
 returns-2 : tie.Need-returns-2
 returns-2 c =
     let t = c .before .before in
-    rw (← course-is (t .before .before .before .before), t .enum-told .given .1) tt
+    rw (← course-is (t .before .before .before .before), t .enum-told .given .1) (c .write-on .ensures)
 
 same-length-5 : tie.Need-same-length-5
 same-length-5 c = search needs
@@ -90,7 +90,7 @@ same-length-6 c = search needs
 returns-3 : tie.Need-returns-3
 returns-3 c =
     let t = c .before .before .before .before .before .before .before in
-    rw (← course-is (t .before .before .before .before), t .enum-told2 .given .1) tt
+    rw (← course-is (t .before .before .before .before), t .enum-told2 .given .1) (c .before .before .read-on .ensures)
 
 same-length-7 : tie.Need-same-length-7
 same-length-7 c = search needs
@@ -102,7 +102,7 @@ returns-4 : tie.Need-returns-4
 returns-4 c =
     let f = c .before in
     let p = f .before .before .before .before in
-    rw (← course-is p, f .course .given .1) (record { filled = refl; begins = refl; listed = p .before .before .before .before .wrapping-add-u64 .ensures; ended = refl })
+    rw (← course-is p, f .course .given .1) (record { filled = refl; begins = refl; at = rw (← p .before .before .before .before .wrapping-add-u64 .ensures, ← p .before .before .before .least .ensures) (p .put-record .ensures .0); listed = p .before .before .before .before .wrapping-add-u64 .ensures; ended = refl })
 
 same-length-9 : tie.Need-same-length-9
 same-length-9 c = search needs

@@ -1,0 +1,62 @@
+-- `listing_run::run::read_on` meets its contract: what reading once leads to (`fill`) goes into the state. Assumes nothing.
+use borrow.Author.Needs.{needs}
+use Prim.Native.Nat.{ℕ, _≤_, _<_}
+use native.Mathlib.Nat.{le-refl, le-of-lt, not-le-of-lt}
+use mathlib.Core.Path.{refl, subst}
+use mathlib.Core.Bool.{true, false, false≢true}
+use lib.ListN.{length}
+use denote.Ref.{now}
+use Rattle.listing_run.specs.Goes.{Fetched, Fills}
+use Rattle.listing_run.specs.declared.stream.Filling.{Filling}
+use Rattle.listing_run.proofs.run.read_on.Statement.{statement}
+use Rattle.listing_run.proofs.run.read_on.Tie as tie
+
+added : (size filled next count n : ℕ) → next < size → (filled ≤ n) × (n ≤ size) → Fetched size filled next count record { filled = n; next = next; at = 0; listed = count; ended = false }
+added size filled next count n l h = record { again = λ g. absurd (not-le-of-lt l g); on = λ _. (refl, h .0, h .1, λ e. absurd (false≢true e)); at = refl; listed = refl }
+
+ended : (size filled next count : ℕ) → next < size → filled < size → Fetched size filled next count record { filled = filled; next = next; at = 0; listed = count; ended = true }
+ended size filled next count l h = record { again = λ g. absurd (not-le-of-lt l g); on = λ _. (refl, le-refl filled, le-of-lt h, λ _. refl); at = refl; listed = refl }
+
+returns : tie.Need-returns
+returns c = search needs
+
+fill-requires : tie.Need-fill-requires
+fill-requires c κs = search needs
+
+enum-known-filling : tie.Need-enum-known-filling
+enum-known-filling c = search needs
+
+enum-told : tie.Need-enum-told
+enum-told c = search needs
+
+enum-told-2 : tie.Need-enum-told-2
+enum-told-2 c = search needs
+
+same-length : tie.Need-same-length
+same-length c = search needs
+
+returns-2 : tie.Need-returns-2
+returns-2 c =
+    let f = c .before .before .before .before .before in
+    let s = f .before .before .before .before in
+    let size = length (now (s .args .input)) in
+    added size (s .args .filled) (s .args .next) (s .args .listed) (c .before .filling .given .0 .0) (f .before .before .if1 .left) (subst (λ (r : Filling). Fills size (s .args .filled) r) (c .before .filling .given .1) (f .fill .ensures))
+
+same-length-2 : tie.Need-same-length-2
+same-length-2 c = search needs
+
+returns-3 : tie.Need-returns-3
+returns-3 c =
+    let f = c .before .before .before .before in
+    let s = f .before .before .before .before in
+    let size = length (now (s .args .input)) in
+    ended size (s .args .filled) (s .args .next) (s .args .listed) (f .before .before .if1 .left) (subst (λ (r : Filling). Fills size (s .args .filled) r) (c .enum-told .given .1) (f .fill .ensures))
+
+same-length-3 : tie.Need-same-length-3
+same-length-3 c = search needs
+
+returns-4 : tie.Need-returns-4
+returns-4 c = search needs
+
+pub read-on-spec : {M : Type 1} → statement M
+read-on-spec = tie.close (tie.spec returns fill-requires enum-known-filling enum-told enum-told-2 same-length returns-2 same-length-2 returns-3 same-length-3 returns-4)
