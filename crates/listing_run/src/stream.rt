@@ -1,5 +1,6 @@
 // The input, by its file descriptor, and standard output, in parts.
-ghost use lib.ListN.{length};
+ghost use mathlib.Core.Path.{_≡_};
+ghost use lib.ListN.{length, take};
 ghost use Rattle.listing_run.specs.Goes.{Fills};
 use libc::EINTR;
 use libc::STDOUT_FILENO;
@@ -16,6 +17,7 @@ pub enum Filling {
 // Reads once into `input`, of which `filled` bytes are filled already.
 pub fn fill(fd: i32, input: &mut [u8], filled: usize) -> Filling
     ensures { λ r. ⌜ Fills (length (now (input .entry))) filled r ⌝ }
+    ensures { λ r. ⌜ take filled (now (input .exit)) ≡ take filled (now (input .entry)) ⌝ }
 {
     if input.len() <= filled {
         return Filling::Failed;
