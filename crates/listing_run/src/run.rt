@@ -1,7 +1,7 @@
 // The run: records are listed one after another, what waits is written, and the input is read on, as each turn asks for.
 ghost use mathlib.Core.Path.{_≡_};
 ghost use Prim.Native.Nat.{min};
-ghost use lib.ListN.{length};
+ghost use lib.ListN.{length, take};
 ghost use Rattle.listing_run.specs.Goes.{Writes, Reads, Steps};
 use crate::record::Course;
 use crate::record::put_record;
@@ -52,6 +52,7 @@ fn write_on(out: &[u8], state: State) -> Turn
 // Reads on, from the buffer's begin where all of it has been listed. Nothing waits to be written.
 fn read_on(fd: i32, input: &mut [u8], filled: usize, next: usize, listed: u64) -> Turn
     ensures { λ r. ⌜ Reads (length (now (input .entry))) filled next listed r ⌝ }
+    ensures { λ r. ⌜ take filled (now (input .exit)) ≡ take filled (now (input .entry)) ⌝ }
 {
     if input.len() <= next {
         return Turn::More(State {
@@ -85,6 +86,7 @@ fn read_on(fd: i32, input: &mut [u8], filled: usize, next: usize, listed: u64) -
 // One turn: what stands next in the input is listed, and the run goes on as that asks for.
 fn step(fd: i32, input: &mut [u8], out: &mut [u8], state: State) -> Turn
     ensures { λ r. ⌜ Steps (now (input .entry)) (now (out .entry)) (now (out .exit)) state r ⌝ }
+    ensures { λ r. ⌜ take (state .filled) (now (input .exit)) ≡ take (state .filled) (now (input .entry)) ⌝ }
 {
     let filled = state.filled;
     let ended = state.ended;

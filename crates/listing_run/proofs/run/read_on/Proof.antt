@@ -40,7 +40,7 @@ returns-2 c =
     let f = c .before .before .before .before .before in
     let s = f .before .before .before .before in
     let size = length (now (s .args .input)) in
-    added size (s .args .filled) (s .args .next) (s .args .listed) (c .before .filling .given .0 .0) (f .before .before .if1 .left) (subst (λ (r : Filling). Fills size (s .args .filled) r) (c .before .filling .given .1) (f .fill .ensures .0))
+    (added size (s .args .filled) (s .args .next) (s .args .listed) (c .before .filling .given .0 .0) (f .before .before .if1 .left) (subst (λ (r : Filling). Fills size (s .args .filled) r) (c .before .filling .given .1) (f .fill .ensures .0)), f .fill .ensures .1)
 
 same-length-2 : tie.Need-same-length-2
 same-length-2 c = search needs
@@ -50,7 +50,7 @@ returns-3 c =
     let f = c .before .before .before .before in
     let s = f .before .before .before .before in
     let size = length (now (s .args .input)) in
-    ended size (s .args .filled) (s .args .next) (s .args .listed) (f .before .before .if1 .left) (subst (λ (r : Filling). Fills size (s .args .filled) r) (c .enum-told .given .1) (f .fill .ensures .0))
+    (ended size (s .args .filled) (s .args .next) (s .args .listed) (f .before .before .if1 .left) (subst (λ (r : Filling). Fills size (s .args .filled) r) (c .enum-told .given .1) (f .fill .ensures .0)), f .fill .ensures .1)
 
 same-length-3 : tie.Need-same-length-3
 same-length-3 c = search needs

@@ -56,7 +56,7 @@ same-length-2 c = search needs
 returns : tie.Need-returns
 returns c =
     let t = c .before .before .before in
-    rw (← course-is (t .before .before .before .before), t .enum-told2 .given .1) tt
+    rw (← course-is (t .before .before .before .before), t .enum-told2 .given .1) (tt, refl)
 
 read-on-requires : tie.Need-read-on-requires
 read-on-requires c κs = search needs
@@ -79,7 +79,7 @@ same-length-4 c = search needs
 returns-2 : tie.Need-returns-2
 returns-2 c =
     let t = c .before .before in
-    rw (← course-is (t .before .before .before .before), t .enum-told .given .1) (c .write-on .ensures)
+    rw (← course-is (t .before .before .before .before), t .enum-told .given .1) (c .write-on .ensures, refl)
 
 same-length-5 : tie.Need-same-length-5
 same-length-5 c = search needs
@@ -102,7 +102,7 @@ returns-4 : tie.Need-returns-4
 returns-4 c =
     let f = c .before in
     let p = f .before .before .before .before in
-    rw (← course-is p, f .course .given .1) (record { filled = refl; begins = refl; at = rw (← p .before .before .before .before .wrapping-add-u64 .ensures, ← p .before .before .before .least .ensures) (p .put-record .ensures .0); listed = p .before .before .before .before .wrapping-add-u64 .ensures; ended = refl })
+    rw (← course-is p, f .course .given .1) (record { filled = refl; begins = refl; at = rw (← p .before .before .before .before .wrapping-add-u64 .ensures, ← p .before .before .before .least .ensures) (p .put-record .ensures .0); listed = p .before .before .before .before .wrapping-add-u64 .ensures; ended = refl }, refl)
 
 same-length-9 : tie.Need-same-length-9
 same-length-9 c = search needs
@@ -113,7 +113,7 @@ same-length-10 c = search needs
 returns-5 : tie.Need-returns-5
 returns-5 c =
     let t = c .before .before in
-    rw (← course-is (t .before .before .before .before), t .enum-told3 .given .1) tt
+    rw (← course-is (t .before .before .before .before), t .enum-told3 .given .1) (tt, refl)
 
 pub step-spec : {M : Type 1} → statement M
 step-spec =
