@@ -334,6 +334,8 @@ class File:
             return self.key(owner)
         if len(path) == 1:
             return self.names.get(path[0], path[0])
+        if self.module == "" and any(f.crate == self.crate and f.module == path[0] for f in self.world.files):
+            return (self.crate, "::".join(path[:-1]), path[-1])
         crate = self.crate if path[0] == "crate" else path[0]
         return (crate, "::".join(path[1:-1]), path[-1])
 

@@ -17,6 +17,10 @@ class Trap(Exception):
     """An overflow, an index out of range, a division by zero, or too many steps."""
 
 
+class Outside(Exception):
+    """A call that leaves the repository's crates: what is read and written is not interpreted."""
+
+
 class Return(Exception):
     def __init__(self, value):
         self.value = value
@@ -537,6 +541,8 @@ class Machine:
         if target[2] == "sqrt" and target[0] == "ieee754":
             x = values[0]
             return NAN if x != x or x < 0.0 else math.sqrt(x) if x != 0.0 else x
+        if target not in self.world.functions:
+            raise Outside()
         return self.call(self.world.functions[target], values)
 
 
@@ -647,7 +653,10 @@ def differs(machine, function, text):
             break
         inputs.begin()
         args = [inputs.make(t, n) for n, t in function.params]
-        expected = outcome(machine, function, copy.deepcopy(args), None)
-        if expected != "trap" and outcome(machine, function, args, changed) != expected:
-            return True
+        try:
+            expected = outcome(machine, function, copy.deepcopy(args), None)
+            if expected != "trap" and outcome(machine, function, args, changed) != expected:
+                return True
+        except Outside:
+            return None
     return False

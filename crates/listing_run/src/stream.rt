@@ -1,5 +1,7 @@
 // The input, by its file descriptor, and standard output, in parts.
 ghost use mathlib.Core.Path.{_≡_};
+ghost use mathlib.Core.Bool.{false};
+ghost use Prim.Native.Nat.{_<_};
 ghost use lib.ListN.{length, take};
 ghost use Rattle.listing_run.specs.Goes.{Fills};
 use libc::EINTR;
@@ -37,7 +39,9 @@ pub fn fill(fd: i32, input: &mut [u8], filled: usize) -> Filling
 }
 
 // Writes the first `n` bytes of `out`, and answers whether all were written.
-pub fn flush(out: &[u8], n: usize) -> bool {
+pub fn flush(out: &[u8], n: usize) -> bool
+    ensures { λ r. ⌜ (length (now (out .entry)) < n → r ≡ false) ⌝ }
+{
     if out.len() < n {
         return false;
     }

@@ -1,5 +1,6 @@
--- `listing_run::stream::flush` is safe: no more is written than there is. Assumes nothing.
+-- `listing_run::stream::flush` meets its contract, and no more is written than there is. Assumes nothing.
 use native.Mathlib.Omega.{arith}
+use native.Mathlib.Nat.{not-le-of-lt}
 use lib.ListN.{length-take}
 use borrow.Author.Needs.{needs}
 use Rattle.listing_run.proofs.stream.flush.Statement.{statement}
@@ -15,7 +16,7 @@ write-all-requires : tie.Need-write-all-requires
 write-all-requires c κs = search needs
 
 returns-2 : tie.Need-returns-2
-returns-2 c = search needs
+returns-2 c = λ l. absurd (not-le-of-lt l (c .before .before .if1 .left))
 
 pub flush-spec : {M : Type 1} → statement M
 flush-spec = tie.close (tie.spec returns slice-aggregate-write-all write-all-requires returns-2)
