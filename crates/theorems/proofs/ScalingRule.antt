@@ -19,7 +19,7 @@ use Rattle.lambdatwist.specs.Solve.{solve}
 use Rattle.lambdatwist.specs.declared.solve.Answer.{Answer}
 use Rattle.theorems.proofs.TimesPower.{times-at, at-times}
 use Rattle.theorems.proofs.SolveScaling.{AtAnswer, solve-scales}
-use Rattle.theorems.proofs.FiniteTranslation.{FinitePoses, no-pose, finite-pose, solve-finite}
+use Rattle.theorems.proofs.FiniteTranslation.{FiniteTranslations, no-pose, finite-pose, solve-finite}
 
 module _ (k : ℤ) where
   -- ---- from the statement's hypotheses to the calculus of degrees
@@ -44,11 +44,11 @@ module _ (k : ℤ) where
         z = at-times k (v .z) (v' .z) (and-r (finite (v .x) && finite (v .y)) (finite (v .z)) f) (h .z);
       }
 
-  poses-alike : {ps ps' : List Pose} → FinitePoses ps → AtPoses k ps ps' → rule.AlikePoses k ps ps'
+  poses-alike : {ps ps' : List Pose} → FiniteTranslations ps → AtPoses k ps ps' → rule.AlikePoses k ps ps'
   poses-alike no-pose no-poses = rule.no-places
   poses-alike (finite-pose f fs) (more-poses h hs) = rule.next-place (record { rotation = h .rotation; translation = vector-times f (h .translation) }) (poses-alike fs hs)
 
-  answer-alike : {a a' : Answer} → FinitePoses (a .poses) → AtAnswer k a a' → rule.Alike k a a'
+  answer-alike : {a a' : Answer} → FiniteTranslations (a .poses) → AtAnswer k a a' → rule.Alike k a a'
   answer-alike f h = record { refusal = h .refusal; count = h .count; poses = poses-alike f (h .poses); updates = h .updates }
 
 pub scaling-rule : ScalingRule
