@@ -7,6 +7,7 @@ use lib.Dec.{T}
 use lib.Ieee.Fits.{and-l, and-r}
 use lib.Ieee.Scale.{finite}
 use Rattle.linalg.specs.Vectors.{allFinite}
+use Rattle.linalg.specs.Doubles.{Doubles}
 use Rattle.linalg.specs.declared.vector3.Vector3.{Vector3}
 use Rattle.linalg.specs.declared.pose.Pose.{Pose}
 use Rattle.linalg.specs.VectorScaling.{AtVector}
@@ -23,7 +24,7 @@ use Rattle.theorems.proofs.FiniteTranslation.{FiniteTranslations, no-po
 
 module _ (k : ℤ) where
   -- ---- from the statement's hypotheses to the calculus of degrees
-  vector-at : {v v' : Vector3} → rule.Doubles v → rule.Doubles v' → rule.TimesVector k v v' → AtVector k (pos 1) v v'
+  vector-at : {v v' : Vector3} → Doubles v → Doubles v' → rule.TimesVector k v v' → AtVector k (pos 1) v v'
   vector-at {v} {v'} d d' h = record {
     x = times-at k (v .x) (v' .x) (d .x) (d' .x) (h .x);
     y = times-at k (v .y) (v' .y) (d .y) (d' .y) (h .y);
