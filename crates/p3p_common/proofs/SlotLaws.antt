@@ -1,4 +1,5 @@
--- The slots of a solve hold what specs/PoseSlots.antt says: at the start, and after a pose is pushed that took at most five updates. The refinement with five turns makes at most five. Assumes nothing.
+-- The slots of a solve hold what specs/PoseSlots.antt says: at the start, and after a pose is pushed that took at most five updates. The refinement with five turns makes at most five. Assumes
+-- nothing.
 use mathlib.Core.Path.{_≡_, refl, _∙_, subst⁻¹}
 use mathlib.Core.Logic.{_⊎_, inl, inr}
 use mathlib.Core.List.{List, [], _∷_}

@@ -1,4 +1,5 @@
--- The cases of document 01, "Checked by hand", that are marked P, in one table: those of the root finders, of the refinement and the rays, and the solves S1 and S2. That they hold is `marked-cases` in the proofs.
+-- The cases of document 01, "Checked by hand", that are marked P, in one table: those of the root finders, of the refinement and the rays, and the solves S1 and S2. That they hold is `marked-cases`
+-- in the proofs.
 use Prim.Native.Nat.{ℕ}
 use mathlib.Core.Bool.{Bool, _&&_}
 use mathlib.Core.List.{List, [], _∷_, _++_, map}
