@@ -1,4 +1,5 @@
--- The two charts of `solve_ordered`: from the null vector of one sign to at most two depth candidates, one for each root of the chart's quadratic. Where the quadratic refuses, only that sign's turn ends.
+-- The two charts of `solve_ordered` (lambdatwist.rs): from the null vector of one sign to at most two depth candidates, one for each root of the chart's quadratic. Where the quadratic refuses, only
+-- that sign's turn ends.
 use mathlib.Core.Bool.{Bool, not, _||_}
 use lib.Ieee.{Float, lt, le, eq}
 use lib.Ieee.Scale.{finite}

@@ -1,4 +1,5 @@
--- `leading_cubic_condition`: how large the leading coefficient of the cubic is beside the largest.
+-- `leading_cubic_condition` of lambdatwist.rs: how large the leading coefficient of the cubic is beside the largest. The Rust computes s01, s12, s20 and then triple; `squaredSines` has the order of
+-- `solve_ordered`, triple first.
 use lib.Ieee.{Float, eq}
 use lib.Ieee.Scale.{finite}
 use Rattle.ieee754.specs.Literal.{plusZero}

@@ -1,5 +1,5 @@
--- The coefficients of the cubic whose root gives the singular matrix, and the test by which an ordering of the points is unusable: `solve_ordered`, from `let cubic3` to the retry, and document 01,
--- question 2.
+-- The coefficients of the cubic whose root gives the singular matrix, and the test by which an ordering of the points is unusable: `solve_ordered` (lambdatwist.rs), from `let cubic3` to the retry,
+-- and document 01, question 2.
 use mathlib.Core.Bool.{Bool, true}
 use lib.Ieee.{Float, le}
 use lib.Ieee.Scale.{finite}

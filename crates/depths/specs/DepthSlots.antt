@@ -1,4 +1,4 @@
--- The depth candidates of `solve_ordered`: four slots and a count.
+-- The depth candidates of `solve_ordered` (lambdatwist.rs): four slots and a count.
 use Prim.Native.Nat.{_+_}
 use mathlib.Core.List.{[], _∷_}
 use lib.Dec.{ltb}

@@ -1,4 +1,4 @@
--- The matrix that is singular at the cubic's root g: `let matrix = Matrix3::new(..)` of `solve_ordered`.
+-- The matrix that is singular at the cubic's root g: `let matrix = Matrix3::new(..)` of `solve_ordered` (lambdatwist.rs).
 use lib.Ieee.{Float}
 use Rattle.ieee754.specs.Literal.{half, one}
 use Rattle.ieee754.specs.Traced.{Traced, pure, _>>=_, _⊗_, _⊕_, _⊖_, !_, ⊝_}

@@ -1,4 +1,4 @@
--- The two eigenvalues that are not known: the second part of `eig_with_known_zero`. They are the roots of a quadratic, the greater in magnitude first.
+-- The two eigenvalues that are not known: the second part of `eig_with_known_zero` (lambdatwist.rs). They are the roots of a quadratic, the greater in magnitude first.
 use lib.Ieee.{Float, lt, eq}
 use Rattle.ieee754.specs.Literal.{plusZero}
 use Rattle.ieee754.specs.Magnitude.{abs}

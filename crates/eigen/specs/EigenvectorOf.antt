@@ -1,4 +1,4 @@
--- The eigenvector of a nonzero eigenvalue: the closure `eigenvector` of `eig_with_known_zero`, and what is computed before it for both values.
+-- The eigenvector of a nonzero eigenvalue: the closure `eigenvector` of `eig_with_known_zero` (lambdatwist.rs), and what is computed before it for both values.
 use lib.Ieee.{Float, le}
 use lib.Ieee.Scale.{finite}
 use Rattle.ieee754.specs.Literal.{one, sixtyFour, epsilon, minPositive}

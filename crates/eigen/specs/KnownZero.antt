@@ -1,4 +1,4 @@
--- `eig_with_known_zero`: the eigenvectors, by columns, and the eigenvalues of a symmetric matrix of which zero is an eigenvalue. Each step that stops ends it.
+-- `eig_with_known_zero` of lambdatwist.rs: the eigenvectors, by columns, and the eigenvalues of a symmetric matrix of which zero is an eigenvalue. Each step that stops ends it.
 use lib.Ieee.{Float}
 use Rattle.ieee754.specs.Literal.{plusZero}
 use Rattle.ieee754.specs.Traced.{Traced, pure, _>>=_, if_then_else_, _⊗_, !_}

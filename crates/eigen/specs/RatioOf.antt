@@ -1,4 +1,4 @@
--- The square root of minus the second eigenvalue over the first, with either sign of which a null vector is made: `solve_ordered`, from `let ratio_squared` on.
+-- The square root of minus the second eigenvalue over the first, with either sign of which a null vector is made: `solve_ordered` (lambdatwist.rs), from `let ratio_squared` on.
 use lib.Ieee.{Float, lt}
 use lib.Ieee.Scale.{finite}
 use Rattle.ieee754.specs.Literal.{plusZero, sixtyFour, epsilon}

@@ -1,4 +1,4 @@
--- `eigenvector_from_row_crosses`: the longest cross product of two rows of matrix - eigenvalue, divided by its length.
+-- `eigenvector_from_row_crosses` of lambdatwist.rs: the longest cross product of two rows of matrix - eigenvalue, divided by its length.
 use mathlib.Core.Bool.{_&&_}
 use lib.Ieee.{Float, lt}
 use lib.Ieee.Scale.{finite}

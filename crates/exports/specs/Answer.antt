@@ -1,4 +1,4 @@
--- Answers as C and Rust get them, where a crate below has a type of its own.
+-- Answers as C and Rust get them, where a crate below has a type of its own: as include/p3p.h declares them.
 use lib.IntN.{ℤ, pos, negsuc}
 use Rattle.ieee754.specs.declared.total_cmp.Order.{Order}
 use Rattle.ieee754.specs.declared.total_cmp.Order.the-variants.{Less, Equal, Greater}

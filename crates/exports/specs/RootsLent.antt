@@ -1,4 +1,4 @@
--- What the doubles that are lent to a root finder hold when it returns: a root, or what they held before where there is none to write.
+-- What the doubles that are lent to a root finder hold when it returns: a root, or what they held before where there is none to write: document 01, "Questions, in order".
 use lib.Ieee.{Float}
 use Rattle.polynomial.specs.declared.Roots.{Roots}
 use Rattle.polynomial.specs.declared.Roots.the-variants.{Two, One, Refused}

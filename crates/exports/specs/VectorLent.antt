@@ -1,4 +1,4 @@
--- A vector among lent doubles: x, y, z from a place on. (The NaN stands past the end, where no function of this crate reads.)
+-- A vector among lent doubles, in the layout of include/p3p.h: x, y, z from a place on. (The NaN stands past the end, where no function of this crate reads.)
 use Prim.Native.Nat.{ℕ, _+_}
 use mathlib.Core.List.{List}
 use lib.Ieee.{Float, nan}

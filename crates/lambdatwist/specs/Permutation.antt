@@ -1,5 +1,5 @@
--- The choice of `solve_best_conditioned_permutation`: of the five other orderings of the points, the one whose leading coefficient is the largest beside the others. A later one replaces the best only
--- if its condition is greater, so a NaN in the first stays.
+-- The choice of `solve_best_conditioned_permutation` (lambdatwist.rs): of the five other orderings of the points, the one whose leading coefficient is the largest beside the others. A later one
+-- replaces the best only if its condition is greater, so a NaN in the first stays.
 use mathlib.Core.List.{List, [], _∷_}
 use lib.Ieee.{lt}
 use Rattle.ieee754.specs.Traced.{Traced, pure, _>>=_, if_then_else_}

@@ -1,5 +1,5 @@
--- From the eigensystem to the poses: the end of `solve_ordered`. For either sign of the ratio a chart gives depth candidates; each candidate is refined, and where its depths are positive a pose is made
--- of it and goes to the gate.
+-- From the eigensystem to the poses: the end of `solve_ordered` (lambdatwist.rs). For either sign of the ratio a chart gives depth candidates; each candidate is refined, and where its depths are
+-- positive a pose is made of it and goes to the gate.
 use mathlib.Core.Bool.{Bool, _&&_, not}
 use mathlib.Core.List.{List, [], _∷_}
 use lib.ListN.{take}
@@ -24,7 +24,7 @@ use Rattle.depths.specs.declared.angles.Factors.{Factors}
 use Rattle.depths.specs.declared.candidates.Candidates.{Candidates}
 use Rattle.lambdatwist.specs.declared.poses.View.{View}
 
--- the turn of one sign: let null_vector = eigenvectors.column(0) - sign * eigenvectors.column(1);
+-- the turn of one sign: let null_vector = eigenvectors.column(0) - sign * eigenvectors.column(1); with the factors of the product exchanged
 unfoldable pub signTurn : SquaredEdges → Factors → Matrix3 → Float → Candidates → Traced Candidates
 signTurn edges b eigenvectors sign found = do
   scaled ← vecMul (column1 eigenvectors) sign
@@ -41,7 +41,7 @@ candidates edges b eigenvectors ratio = do
 unfoldable pub allPositive : Vector3 → Bool
 allPositive d = allFinite d && (not (le (d .x) plusZero) && (not (le (d .y) plusZero) && not (le (d .z) plusZero)))
 
--- from `let camera0 = depth[0] * f0;` to the push
+-- from `let camera0 = depth[0] * f0;` to the push, with the factors of these three products exchanged
 unfoldable pub pushDepths : View → Matrix3 → Solutions → Refined → Traced Solutions
 pushDepths view worldInverse output refined = do
   camera0 ← vecMul (view .bearings .f0) (refined .depths .x)

@@ -1,5 +1,5 @@
--- The solve of eighteen doubles: `solve_ordered`, `solve_best_conditioned_permutation` and `solve_solver_minimal`, with the refusals of document 01. An ordering is solved with an allowance of retries;
--- where it is unusable and one is left, the best conditioned of the other orderings is solved with one less.
+-- The solve of eighteen doubles: `solve_ordered`, `solve_best_conditioned_permutation` and `solve_solver_minimal` of lambdatwist.rs, with the refusals of document 01. An ordering is solved with an
+-- allowance of retries; where it is unusable and one is left, the best conditioned of the other orderings is solved with one less.
 use Prim.Native.Nat.{ℕ, zero, suc}
 use lib.Dec.{eqb}
 use lib.Ieee.{Float, le}

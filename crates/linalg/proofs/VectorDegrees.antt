@@ -4,9 +4,9 @@ use mathlib.Core.Bool.{_&&_}
 use lib.IntN.{ℤ, pos, _+ℤ_, _-ℤ_}
 use lib.Ieee.{Float}
 use Rattle.ieee754.specs.Scaling.{Both, At, Scales}
-use Rattle.ieee754.proofs.Degrees.{same, at-zero, null, !_, _⊗_, _⊘_, _⊕_, _⊖_, √_, pure, _>>=_, abs-at, finite-same}
+use Rattle.ieee754.proofs.Degrees.{same, at-zero, null, !_, _⊗_, _⊘_, _⊕_, _⊖_, pure, _>>=_, abs-at, finite-same}
 use Rattle.linalg.specs.declared.vector3.Vector3.{Vector3}
-use Rattle.linalg.specs.Vectors.{zeros, vecSub, vecAdd, vecMul, vecDiv, dot, normSquared, norm, cross, absSum, allFinite}
+use Rattle.linalg.specs.Vectors.{zeros, vecSub, vecAdd, vecMul, vecDiv, dot, normSquared, cross, absSum, allFinite}
 use Rattle.linalg.specs.VectorScaling.{AtEntries, AtVector}
 
 module _ {k : ℤ} where
@@ -60,10 +60,6 @@ module _ {k : ℤ} where
   pub normSquared-scales : {n : ℤ} {v v' : Vector3} → AtVector k n v v' → Scales k (n +ℤ n) (normSquared v) (normSquared v')
   unfolding normSquared
   normSquared-scales v = dot-scales v v
-
-  pub norm-scales : {n : ℤ} {v v' : Vector3} → AtVector k n v v' → Scales k n (norm v) (norm v')
-  unfolding norm
-  norm-scales v = √ normSquared-scales v
 
   pub cross-scales : {n p : ℤ} {a a' b b' : Vector3} → AtVector k n a a' → AtVector k p b b' → Both (AtVector k (n +ℤ p)) (cross a b) (cross a' b')
   unfolding cross

@@ -1,4 +1,4 @@
--- Vectors and matrices of two runs, entry by entry, at a degree of the scaling rule.
+-- Vectors and matrices of two runs, entry by entry, at a degree of the scaling rule, demand 3 of the mission.
 use lib.IntN.{ℤ}
 use Rattle.ieee754.specs.Scaling.{At}
 use Rattle.linalg.specs.declared.vector3.Vector3.{Vector3}

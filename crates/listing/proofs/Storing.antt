@@ -1,4 +1,4 @@
--- Bytes stored from a position on: in two parts, one more at the end, one in front. Assumes nothing.
+-- Bytes stored from a position on: in two parts, one more at the end, one in front, none. Assumes nothing.
 use Prim.Native.Nat.{ℕ, suc, _+_, _<_}
 use mathlib.Core.Path.{_≡_, refl, sym, ap, _∙_, subst}
 use mathlib.Core.List.{List, [], _∷_, _++_}
@@ -15,6 +15,10 @@ sets-append (x ∷ xs) ys l at = rw (add-suc at (length xs), ← suc-add at (len
 
 pub stored-as : {l l′ xs ys : List ℕ} {at next : ℕ} → xs ≡ ys → Stored l at xs next l′ → Stored l at ys next l′
 stored-as {l} {l′} {xs} {ys} {at} {next} e s = subst (λ (zs : List ℕ). Stored l at zs next l′) e s
+
+-- no byte stored
+pub none : (l : List ℕ) (at : ℕ) → Stored l at [] at l
+none l at = record { next-at = omega arith; holds = refl }
 
 -- two runs of stores, the second from where the first ends, are one
 pub then : {l l′ l″ xs ys : List ℕ} {at next end : ℕ} → Stored l at xs next l′ → Stored l′ next ys end l″ → Stored l at (xs ++ ys) end l″

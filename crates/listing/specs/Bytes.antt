@@ -1,4 +1,4 @@
--- Text as bytes, and bytes put into a slice from a position on.
+-- Text as bytes, and bytes put into a slice from a position on: what the lines of document 01, "Frame records and their listing", are made with.
 use Prim.Native.Nat.{ℕ, _+_}
 use Prim.Native.Char.{code}
 use Prim.Native.String.{String, [] as []ₛ, _∷_ as _∷ₛ_}

@@ -10,7 +10,7 @@ use Rattle.linalg.specs.Matrices.{zeroPose}
 use Rattle.linalg.specs.declared.pose.Pose.{Pose}
 use Rattle.listing.specs.Bytes.{Stored}
 use Rattle.listing.specs.Lines.{Written, poseLine}
-use Rattle.listing.proofs.Storing.{then, stored-as}
+use Rattle.listing.proofs.Storing.{none, then, stored-as}
 use Rattle.listing.proofs.Writing.{stored}
 use Rattle.listing_run.specs.FrameLines.{poseLines}
 
@@ -23,7 +23,7 @@ inside-same (a ∷ l) (suc i) d e h = inside-same l i d e (le-of-suc-le-suc h)
 module _ (n : ℕ) (poses : List Pose) (updates : List ℕ) where
   pub none-stored : (l : List ℕ) (at : ℕ) → Stored l at (poseLines n poses updates 0) at l
   unfolding poseLines
-  none-stored l at = record { next-at = omega arith; holds = refl }
+  none-stored l at = none l at
 
   one-more : (k : ℕ) (d : Pose) → k < length poses → poseLines n poses updates k ++ poseLine n (k + 1) (getD updates k 0) (getD poses k d) ≡ poseLines n poses updates (k + 1)
   unfolding poseLines

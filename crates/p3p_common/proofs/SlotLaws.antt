@@ -1,12 +1,14 @@
--- The slots of a solve hold what specs/PoseSlots.antt says: at the start, and after a pose is pushed that took at most five updates. The refinement with five turns makes at most five. Assumes nothing.
-use mathlib.Core.Path.{_≡_, refl, ap, _∙_, subst⁻¹}
+-- The slots of a solve hold what specs/PoseSlots.antt says: at the start, and after a pose is pushed that took at most five updates. The refinement with five turns makes at most five. Assumes
+-- nothing.
+use mathlib.Core.Path.{_≡_, refl, _∙_, subst⁻¹}
 use mathlib.Core.Logic.{_⊎_, inl, inr}
 use mathlib.Core.List.{List, [], _∷_}
 use Prim.Native.Nat.{ℕ, zero, suc, _+_, _≤_, _<_}
-use native.Mathlib.Nat.{not-suc-le-zero, le-of-suc-le-suc, eq-or-lt-of-le}
+use native.Mathlib.Nat.{not-suc-le-zero, eq-or-lt-of-le}
 use native.Mathlib.Omega.{arith}
 use lib.Dec.{T, ltb, ltb→lt}
-use lib.ListN.{length, getD, set, replicate, length-set}
+use lib.ListN.{getD, set, replicate, length-set}
+use lib.Seq.{getD-set-same, getD-set-other}
 use lib.Ieee.{Float}
 use Rattle.linalg.specs.Vectors.{allFinite}
 use Rattle.linalg.specs.Matrices.{zeroPose, matFinite}
@@ -30,18 +32,6 @@ use Rattle.p3p_common.proofs.FiniteGate.{either-way, FiniteGated, gate-
 
 -- ---- a list of slots
 module _ {A : Type 0} where
-  set-there : (l : List A) (i : ℕ) (a d : A) → i < length l → getD (set l i a) i d ≡ a
-  set-there [] i a d h = absurd (not-suc-le-zero h)
-  set-there (x ∷ l) zero a d h = refl
-  set-there (x ∷ l) (suc i) a d h = set-there l i a d (le-of-suc-le-suc h)
-
-  set-elsewhere : (l : List A) (i j : ℕ) (a d : A) → (i ≡ j → ⊥) → getD (set l i a) j d ≡ getD l j d
-  set-elsewhere [] i j a d h = refl
-  set-elsewhere (x ∷ l) zero zero a d h = absurd (h refl)
-  set-elsewhere (x ∷ l) zero (suc j) a d h = refl
-  set-elsewhere (x ∷ l) (suc i) zero a d h = refl
-  set-elsewhere (x ∷ l) (suc i) (suc j) a d h = set-elsewhere l i j a d (λ e. h (ap suc e))
-
   all-alike : (n i : ℕ) (d : A) → getD (replicate n d) i d ≡ d
   all-alike zero i d = refl
   all-alike (suc n) zero d = refl
@@ -53,14 +43,14 @@ module _ {A : Type 0} where
   -- the next slot is filled
   module _ (Holds : A → Type 0) (d : A) (n : ℕ) (l : List A) (a : A) (room : n < 4) (s : Filled Holds d n l) where
     held-at : Holds a → (i : ℕ) → (i ≡ n) ⊎ (i < n) → Holds (getD (set l n a) i d)
-    held-at h i (inl e) = subst⁻¹ (λ (j : ℕ). Holds (getD (set l n a) j d)) e (subst⁻¹ Holds (set-there l n a d (subst⁻¹ (λ (k : ℕ). n < k) (s .four) room)) h)
-    held-at h i (inr below) = subst⁻¹ Holds (set-elsewhere l n i a d (λ e. omega arith)) (s .held i below)
+    held-at h i (inl e) = subst⁻¹ (λ (j : ℕ). Holds (getD (set l n a) j d)) e (subst⁻¹ Holds (getD-set-same l n a d (subst⁻¹ (λ (k : ℕ). n < k) (s .four) room)) h)
+    held-at h i (inr below) = subst⁻¹ Holds (getD-set-other l n i a d (λ e. omega arith)) (s .held i below)
 
     pub next-filled : Holds a → Filled Holds d (n + 1) (set l n a)
     next-filled h = record {
       four = length-set l n a ∙ s .four;
       held = λ i below. let le : i ≤ n = omega arith in held-at h i (eq-or-lt-of-le le);
-      rest = λ i beyond. set-elsewhere l n i a d (λ e. omega arith) ∙ s .rest i (omega arith);
+      rest = λ i beyond. getD-set-other l n i a d (λ e. omega arith) ∙ s .rest i (omega arith);
     }
 
 -- ---- the solutions

@@ -1,4 +1,5 @@
--- project_to_rotation of pose/p3p/common.rs: modified Gram-Schmidt on the first two columns, their cross product for the third.
+-- project_to_rotation of pose/p3p/common.rs: modified Gram-Schmidt on the first two columns, their cross product for the third. The Rust writes `f64::EPSILON.sqrt()` in both tests; here it is
+-- computed once.
 use lib.Ieee.{le}
 use Rattle.ieee754.specs.Literal.{epsilon}
 use Rattle.ieee754.specs.Traced.{Traced, pure, _>>=_, if_then_else_, !_, √_}

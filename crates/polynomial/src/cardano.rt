@@ -1,4 +1,4 @@
-// Cardano's formula.
+// Cardano's formula: cardano_single_real of shared/polynomial.rs.
 ghost use mathlib.Core.Path.{_≡_};
 ghost use Rattle.polynomial.specs.Cardano.{cardanoSingleReal};
 use crate::fast_cbrt::fast_cbrt;

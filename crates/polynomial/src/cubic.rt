@@ -1,4 +1,4 @@
-// One real root of a monic cubic.
+// One real root of a monic cubic: polished_cubic_root of shared/polynomial.rs.
 ghost use mathlib.Core.Path.{_≡_};
 ghost use Rattle.polynomial.specs.PolishedRoot.{rescaledRoot, polishedRoot, polishedCubicRoot};
 use crate::Monic;

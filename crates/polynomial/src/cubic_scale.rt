@@ -1,4 +1,4 @@
-// The scale of a cubic's variable, by which its coefficients come near to one.
+// The scale of a cubic's variable, by which its coefficients come near to one: cubic_variable_scale of shared/polynomial.rs.
 ghost use mathlib.Core.Path.{_≡_};
 ghost use Rattle.polynomial.specs.CubicScale.{allZero, large, tiny, rootMagnitude, cubicVariableScale, normalised};
 use crate::Monic;

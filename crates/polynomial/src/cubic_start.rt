@@ -1,4 +1,4 @@
-// The root of a cubic from which Newton's method starts.
+// The root of a cubic from which Newton's method starts: polished_cubic_root of shared/polynomial.rs, from `let b3` on.
 ghost use mathlib.Core.Path.{_≡_};
 ghost use Rattle.polynomial.specs.CubicStart.{cubicValue, turningOffset, leftStart, rightStart, turningStart, startRoot};
 use crate::Monic;

@@ -1,4 +1,4 @@
-// A fast cube root, which Cardano's formula uses.
+// A fast cube root, which Cardano's formula uses: fast_cbrt of shared/polynomial.rs.
 ghost use mathlib.Core.Path.{_≡_};
 ghost use mathlib.Core.Bool.{not};
 ghost use lib.Dec.{T};

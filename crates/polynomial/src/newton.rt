@@ -1,4 +1,4 @@
-// Newton's method on a cubic.
+// Newton's method on a cubic: the loop of polished_cubic_root of shared/polynomial.rs.
 ghost use mathlib.Core.Path.{_≡_};
 ghost use Rattle.polynomial.specs.Newton.{newtonStep, newtonSteps};
 use crate::Monic;

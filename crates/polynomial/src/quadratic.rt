@@ -1,4 +1,4 @@
-// The real roots of a monic quadratic.
+// The real roots of a monic quadratic: quadratic_real_monic and quadratic_real_monic_computed of shared/polynomial.rs.
 ghost use mathlib.Core.Path.{_≡_};
 ghost use Rattle.polynomial.specs.Quadratic.{quadraticPair, quadraticRealMonicComputed, quadraticRealMonic};
 use crate::Roots;

@@ -11,12 +11,13 @@ use lib.ListN.{length, getD, length-append}
 use lib.Seq.{take-at, drop-at, getD-at}
 use lib.Ieee.{Float, binary64, ofBits, toBits, fits}
 use lib.Ieee.Bits.{ofBits-toBits, toBits-lt}
+use Rattle.linalg.specs.Doubles.{Doubles}
 use Rattle.linalg.specs.declared.vector3.Vector3.{Vector3}
 use Rattle.records.specs.declared.frame.Frame.{Frame}
 use Rattle.records.specs.declared.record.Record.the-variants.{Accepted}
 use Rattle.records.specs.Format.{part, bigEndian, doubleAt, vectorAt, frameAt}
 use Rattle.records.specs.Record.{recordAt}
-use Rattle.records.specs.Encoding.{bytes, doubleBytes, vectorBytes, vectorsBytes, vectors, recordBytes, Doubles, AllDoubles}
+use Rattle.records.specs.Encoding.{bytes, doubleBytes, vectorBytes, vectorsBytes, vectors, recordBytes, AllDoubles}
 use Rattle.records.proofs.Answers.{accepted}
 
 -- ---- numbers
@@ -63,19 +64,19 @@ module _ (s before after : List ℕ) (at k : ℕ) (v : Vector3) (placed : length
 
   x-back : doubleAt s (at + 24 * k) ≡ v .x
   unfolding vectorBytes
-  x-back = let e : s ≡ before ++ (X ++ (Y ++ Z ++ after)) = split ∙ simp append-assoc in rw e (double-back before (Y ++ Z ++ after) (at + 24 * k) (v .x) (doubles .0) placed)
+  x-back = let e : s ≡ before ++ (X ++ (Y ++ Z ++ after)) = split ∙ simp append-assoc in rw e (double-back before (Y ++ Z ++ after) (at + 24 * k) (v .x) (doubles .x) placed)
 
   y-back : doubleAt s (at + 24 * k + 8) ≡ v .y
   unfolding vectorBytes
   y-back =
       let e : s ≡ (before ++ X) ++ (Y ++ (Z ++ after)) = split ∙ simp append-assoc in
-      rw e (double-back (before ++ X) (Z ++ after) (at + 24 * k + 8) (v .y) (doubles .1) (simp (length-append, length-bytes) (omega arith)))
+      rw e (double-back (before ++ X) (Z ++ after) (at + 24 * k + 8) (v .y) (doubles .y) (simp (length-append, length-bytes) (omega arith)))
 
   z-back : doubleAt s (at + 24 * k + 16) ≡ v .z
   unfolding vectorBytes
   z-back =
       let e : s ≡ (before ++ X ++ Y) ++ (Z ++ after) = split ∙ simp append-assoc in
-      rw e (double-back (before ++ X ++ Y) after (at + 24 * k + 16) (v .z) (doubles .2) (simp (length-append, length-bytes) (omega arith)))
+      rw e (double-back (before ++ X ++ Y) after (at + 24 * k + 16) (v .z) (doubles .z) (simp (length-append, length-bytes) (omega arith)))
 
   vector-back : vectorAt s at k ≡ v
   unfolding vectorAt

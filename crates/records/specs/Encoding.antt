@@ -1,8 +1,8 @@
 -- A frame's record as bytes, the inverse of reading. From document 01, "Frame records and their listing".
 use Prim.Native.Nat.{ℕ, zero, suc, _/_, _%_, _^_}
 use mathlib.Core.List.{List, [], _∷_, _++_}
-use lib.Dec.{T}
-use lib.Ieee.{Float, binary64, toBits, fits}
+use lib.Ieee.{Float, binary64, toBits}
+use Rattle.linalg.specs.Doubles.{Doubles}
 use Rattle.linalg.specs.declared.vector3.Vector3.{Vector3}
 use Rattle.records.specs.declared.frame.Frame.{Frame}
 
@@ -31,9 +31,6 @@ unfoldable pub recordBytes : Frame → List ℕ
 recordBytes f = bytes 2 193 ++ bytes 1 1 ++ vectorsBytes (vectors f)
 
 -- every entry is a double
-abbrev pub Doubles : Vector3 → Type 0
-Doubles v = T (fits binary64 (v .x)) × T (fits binary64 (v .y)) × T (fits binary64 (v .z))
-
 abbrev pub AllDoubles : List Vector3 → Type 0
 AllDoubles [] = Unit {0}
 AllDoubles (v ∷ vs) = Doubles v × AllDoubles vs

@@ -23,10 +23,3 @@ recordAt s at =
     (ask (leb 193 (left - 2)) (Stop 9)  -- Are 193 bytes there?
     (ask (eqb (getD s (at + 2) 0) 1) (Skip 8 (at + 195))  -- Is the version byte 1?
     (Accepted (frameAt s (at + 3)) (at + 195))))))
-
--- the refusal number of an answer, 0 where nothing is refused
-abbrev pub refusal : Record → ℕ
-refusal End = 0
-refusal (Stop n) = n
-refusal (Skip n next) = n
-refusal (Accepted frame next) = 0

@@ -19,32 +19,32 @@ use Rattle.theorems.specs.OneAnswer.{Refused, OneAnswer, refused-1, refu
 use Rattle.lambdatwist.specs.declared.solve.Answer.{Answer}
 use Rattle.theorems.proofs.OneAnswer.{one-answer}
 
-abbrev pub FinitePose : Pose → Type 0
-FinitePose p = T (allFinite (p .translation))
+abbrev pub FiniteTranslation : Pose → Type 0
+FiniteTranslation p = T (allFinite (p .translation))
 
-pub data FinitePoses : List Pose → Type 0 where
-  no-pose : FinitePoses []
-  finite-pose : {p : Pose} {ps : List Pose} → FinitePose p → FinitePoses ps → FinitePoses (p ∷ ps)
+pub data FiniteTranslations : List Pose → Type 0 where
+  no-pose : FiniteTranslations []
+  finite-pose : {p : Pose} {ps : List Pose} → FiniteTranslation p → FiniteTranslations ps → FiniteTranslations (p ∷ ps)
 
-zeroPose-finite : FinitePose zeroPose
+zeroPose-finite : FiniteTranslation zeroPose
 unfolding allFinite ofBits
 zeroPose-finite = tt
 
-each-finite : (l : List Pose) → ((i : ℕ) → FinitePose (getD l i zeroPose)) → FinitePoses l
+each-finite : (l : List Pose) → ((i : ℕ) → FiniteTranslation (getD l i zeroPose)) → FiniteTranslations l
 each-finite [] h = no-pose
 each-finite (p ∷ l) h = finite-pose (h 0) (each-finite l (λ i. h (suc i)))
 
-filled-finite : (n : ℕ) (l : List Pose) → slots.Filled slots.FinitePose zeroPose n l → FinitePoses l
-filled-finite n l s = each-finite l (λ i. ⊎-elim (λ below. s .held i below .translation) (λ beyond. subst⁻¹ FinitePose (s .rest i beyond) zeroPose-finite) (lt-or-ge i n))
+filled-finite : (n : ℕ) (l : List Pose) → slots.Filled slots.FinitePose zeroPose n l → FiniteTranslations l
+filled-finite n l s = each-finite l (λ i. ⊎-elim (λ below. s .held i below .translation) (λ beyond. subst⁻¹ FiniteTranslation (s .rest i beyond) zeroPose-finite) (lt-or-ge i n))
 
-refused-finite : {n : ℕ} {a : Answer} → Refused n a → FinitePoses (a .poses)
-refused-finite r = subst⁻¹ FinitePoses (r .poses) (finite-pose zeroPose-finite (finite-pose zeroPose-finite (finite-pose zeroPose-finite (finite-pose zeroPose-finite no-pose))))
+refused-finite : {n : ℕ} {a : Answer} → Refused n a → FiniteTranslations (a .poses)
+refused-finite r = subst⁻¹ FiniteTranslations (r .poses) (finite-pose zeroPose-finite (finite-pose zeroPose-finite (finite-pose zeroPose-finite (finite-pose zeroPose-finite no-pose))))
 
-answer-finite : {input : P3pInput} {a : Answer} → OneAnswer input a → FinitePoses (a .poses)
+answer-finite : {input : P3pInput} {a : Answer} → OneAnswer input a → FiniteTranslations (a .poses)
 answer-finite (refused-1 f r) = refused-finite r
 answer-finite (refused-2 f o r) = refused-finite r
 answer-finite (refused-3 f o r) = refused-finite r
 answer-finite {a} (accepted f o s) = filled-finite (a .count) (a .poses) (s .slots .poses)
 
-pub solve-finite : (world : World) (bearings : Bearings) → FinitePoses (solve world bearings .value .poses)
+pub solve-finite : (world : World) (bearings : Bearings) → FiniteTranslations (solve world bearings .value .poses)
 solve-finite world bearings = answer-finite (one-answer world bearings)

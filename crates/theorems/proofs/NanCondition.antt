@@ -1,5 +1,5 @@
--- A NaN as the condition of the first permutation is kept as best, since nothing compares greater, and passes the limit, since it is not at most anything (document 01, the second of the wrong readings).
--- No frame reaches it, so it is stated of the choice. Assumes nothing.
+-- A NaN as the condition of the first permutation is kept as best, since nothing compares greater, and passes the limit, since it is not at most anything (document 01, the second of the wrong
+-- readings). No frame was found that reaches it, so it is stated of the choice. Assumes nothing.
 use mathlib.Core.Path.{_≡_, refl}
 use mathlib.Core.Bool.{false}
 use mathlib.Core.List.{List, [], _∷_}

@@ -7,6 +7,7 @@ use lib.Dec.{T}
 use lib.Ieee.Fits.{and-l, and-r}
 use lib.Ieee.Scale.{finite}
 use Rattle.linalg.specs.Vectors.{allFinite}
+use Rattle.linalg.specs.Doubles.{Doubles}
 use Rattle.linalg.specs.declared.vector3.Vector3.{Vector3}
 use Rattle.linalg.specs.declared.pose.Pose.{Pose}
 use Rattle.linalg.specs.VectorScaling.{AtVector}
@@ -19,11 +20,11 @@ use Rattle.lambdatwist.specs.Solve.{solve}
 use Rattle.lambdatwist.specs.declared.solve.Answer.{Answer}
 use Rattle.theorems.proofs.TimesPower.{times-at, at-times}
 use Rattle.theorems.proofs.SolveScaling.{AtAnswer, solve-scales}
-use Rattle.theorems.proofs.FiniteTranslation.{FinitePoses, no-pose, finite-pose, solve-finite}
+use Rattle.theorems.proofs.FiniteTranslation.{FiniteTranslations, no-pose, finite-pose, solve-finite}
 
 module _ (k : ℤ) where
   -- ---- from the statement's hypotheses to the calculus of degrees
-  vector-at : {v v' : Vector3} → rule.Doubles v → rule.Doubles v' → rule.TimesVector k v v' → AtVector k (pos 1) v v'
+  vector-at : {v v' : Vector3} → Doubles v → Doubles v' → rule.TimesVector k v v' → AtVector k (pos 1) v v'
   vector-at {v} {v'} d d' h = record {
     x = times-at k (v .x) (v' .x) (d .x) (d' .x) (h .x);
     y = times-at k (v .y) (v' .y) (d .y) (d' .y) (h .y);
@@ -44,11 +45,11 @@ module _ (k : ℤ) where
         z = at-times k (v .z) (v' .z) (and-r (finite (v .x) && finite (v .y)) (finite (v .z)) f) (h .z);
       }
 
-  poses-alike : {ps ps' : List Pose} → FinitePoses ps → AtPoses k ps ps' → rule.AlikePoses k ps ps'
+  poses-alike : {ps ps' : List Pose} → FiniteTranslations ps → AtPoses k ps ps' → rule.AlikePoses k ps ps'
   poses-alike no-pose no-poses = rule.no-places
   poses-alike (finite-pose f fs) (more-poses h hs) = rule.next-place (record { rotation = h .rotation; translation = vector-times f (h .translation) }) (poses-alike fs hs)
 
-  answer-alike : {a a' : Answer} → FinitePoses (a .poses) → AtAnswer k a a' → rule.Alike k a a'
+  answer-alike : {a a' : Answer} → FiniteTranslations (a .poses) → AtAnswer k a a' → rule.Alike k a a'
   answer-alike f h = record { refusal = h .refusal; count = h .count; poses = poses-alike f (h .poses); updates = h .updates }
 
 pub scaling-rule : ScalingRule

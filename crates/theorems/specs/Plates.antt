@@ -1,4 +1,5 @@
--- A real plate, seen: three targets in metres and the bearings to them; the same plate in counts of 4,096 to the metre; and the plate at 2 ^ -600 of its size, where squared edges vanish.
+-- A real plate, seen: three targets in metres and the bearings to them; the same plate in counts of 4,096 to the metre; and the plate at 2 ^ -600 of its size, where squared edges vanish. The two
+-- units are the mission's.
 use Rattle.ieee754.specs.Literal.{double}
 use Rattle.linalg.specs.Vectors.{vector}
 use Rattle.p3p_common.specs.declared.input.World.{World}

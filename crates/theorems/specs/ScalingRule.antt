@@ -4,7 +4,8 @@ use mathlib.Core.List.{List, [], _∷_}
 use Prim.Native.Nat.{_*_}
 use lib.IntN.{ℤ}
 use lib.Dec.{T}
-use lib.Ieee.{Float, nan, inf, fin, binary64, up, down, fits}
+use lib.Ieee.{Float, nan, inf, fin, up, down}
+use Rattle.linalg.specs.Doubles.{Doubles}
 use Rattle.linalg.specs.declared.vector3.Vector3.{Vector3}
 use Rattle.linalg.specs.declared.pose.Pose.{Pose}
 use Rattle.p3p_common.specs.declared.input.World.{World}
@@ -31,11 +32,6 @@ pub record TimesWorld (k : ℤ) (w w' : World) : Type 0 where
   pub p2 : TimesVector k (w .p2) (w' .p2)
 
 -- the numbers are doubles
-pub record Doubles (v : Vector3) : Type 0 where
-  pub x : T (fits binary64 (v .x))
-  pub y : T (fits binary64 (v .y))
-  pub z : T (fits binary64 (v .z))
-
 pub record DoubleWorld (w : World) : Type 0 where
   pub p0 : Doubles (w .p0)
   pub p1 : Doubles (w .p1)

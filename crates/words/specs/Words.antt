@@ -1,4 +1,4 @@
--- A 64-bit word out of a list of bytes, most significant byte first. Past the end of the list the bytes are 0.
+-- A 64-bit word out of a list of bytes, most significant byte first. Past the end of the list the bytes are 0. The files that src/lib.rt describes are made of such words.
 use Prim.Native.Nat.{ℕ, _+_, _*_}
 use mathlib.Core.List.{List}
 use lib.ListN.{getD}

@@ -1,18 +1,14 @@
 -- `listing_run::record::put_found` meets its contract. Assumes nothing.
 use borrow.Author.Needs.{needs}
 use native.Mathlib.Omega.{arith}
-use Prim.Native.Nat.{ℕ, _+_, _≤_}
+use Prim.Native.Nat.{_+_, _≤_}
 use mathlib.Core.Path.{refl}
-use mathlib.Core.List.{List, []}
 use lib.ListN.{length}
-use Rattle.listing.specs.Bytes.{Stored}
+use Rattle.listing.proofs.Storing.{none}
 use Rattle.listing.proofs.Writing.{stored}
 use Rattle.listing_run.specs.RecordLines.{recordLines, following, waits, turnLines, turnCourse}
 use Rattle.listing_run.proofs.record.put_found.Statement.{statement}
 use Rattle.listing_run.proofs.record.put_found.Tie as tie
-
-nothing : (l : List ℕ) (at : ℕ) → Stored l at [] at l
-nothing l at = record { next-at = omega arith; holds = refl }
 
 room : (c : tie.Start) → c .args .at + 320 ≤ length (c .args .out .now)
 room c = omega (arith, c .pre)
@@ -45,7 +41,7 @@ unfolding recordLines following waits turnLines turnCourse
 returns-2 c =
     let w = c .before in
     let f = w .before .before in
-    rw (f .found .given .1, ← w .waits .ensures, c .if2 .taken) (nothing _ _, (omega arith, refl))
+    rw (f .found .given .1, ← w .waits .ensures, c .if2 .taken) (none _ _, (omega arith, refl))
 
 put-stop-requires : tie.Need-put-stop-requires
 put-stop-requires c κs = search needs
@@ -64,7 +60,7 @@ put-frame-requires c κs = search needs
 
 returns-3 : tie.Need-returns-3
 unfolding recordLines following waits turnLines turnCourse
-returns-3 c = rw (c .before .enum-told .given .1, c .if1 .left) (nothing _ _, (omega arith, refl))
+returns-3 c = rw (c .before .enum-told .given .1, c .if1 .left) (none _ _, (omega arith, refl))
 
 same-length-2 : tie.Need-same-length-2
 same-length-2 c = search needs

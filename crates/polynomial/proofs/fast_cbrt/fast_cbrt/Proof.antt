@@ -1,10 +1,8 @@
 -- `polynomial::fast_cbrt::fast_cbrt` meets its contract. Assumes nothing.
-use mathlib.Core.Path.{_≡_}
-use mathlib.Core.Bool.{Bool, true, false, not, true≢false}
-use lib.Dec.{T}
-use lib.Ieee.{Float, nan, inf, fin, isNan}
-use lib.Ieee.Scale.{finite}
 use borrow.Author.Needs.{needs}
+use borrow.Author.Tests.{not-false}
+use Rattle.ieee754.proofs.Reading.{finite-not-nan}
+use Rattle.ieee754.proofs.Order.{answered}
 use Rattle.polynomial.specs.FastCbrt.{fastCbrt}
 use Rattle.polynomial.proofs.fast_cbrt.fast_cbrt.Statement.{statement}
 use Rattle.polynomial.proofs.fast_cbrt.fast_cbrt.Tie as tie
@@ -40,15 +38,8 @@ returns-3 c =
     let e1 = e2 .before .before .before in
     rw (e1 .if1 .left, ← e2 .before .before .abs .ensures, ← e2 .before .is-finite .ensures, e2 .if2 .left, e3 .if3 .taken, ← c .cbrt2 .ensures)
 
-finite-number : (x : Float) (b : Bool) → b ≡ finite x → not b ≡ false → T (not (isNan x))
-unfolding isNan
-finite-number nan true e h = absurd (true≢false e)
-finite-number nan false e h = absurd (true≢false h)
-finite-number (inf s) b e h = tt
-finite-number (fin s m e) b i h = tt
-
 cbrt-steps-requires : tie.Need-cbrt-steps-requires
-cbrt-steps-requires c κs = finite-number _ _ (c .before .before .is-finite .ensures) (c .before .if2 .left)
+cbrt-steps-requires c κs = finite-not-nan _ (answered (c .before .before .is-finite .ensures) (not-false _ (c .before .if2 .left)))
 
 returns-4 : tie.Need-returns-4
 unfolding fastCbrt
