@@ -100,7 +100,7 @@ pub fn write(folder: &Path) -> Result<(), String> {
             summary(function.name, &records)
         );
     }
-    println!("\n- seed {SEED:016x}");
+    println!("\n- seed 0x{SEED:016x}");
     println!("- scaled frames: {}, each answer exactly scaled", scaled_exactly()?);
     kinds();
     Ok(())
