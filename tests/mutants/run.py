@@ -411,8 +411,10 @@ def table(root):
         text.append(f"| {kind} | " + " | ".join(str(total.get((kind, v), 0)) for v in ("fact", "shape", "survived", "no verdict")) + " |")
     same = sum(s[4].startswith("equivalent:") for s in survivors)
     tested = sum(s[4].startswith("equivalent for the caller:") for s in survivors)
+    outside = sum(s[4].startswith("outside the contracts:") for s in survivors)
     text += ["", f"Of the {len(survivors)} survivors {same} compute the same, {tested} change a private function's answer within its contract, which leaves it open and whose caller tests it,",
-             f"and {len(survivors) - same - tested} have no reason given. The reasons (reasons.txt) are arguments by hand.", "",
+             f"{outside} change what is read or written, of which no contract can speak, and are found by the stored runs (crates/poses_runs), and {len(survivors) - same - tested - outside} have no reason given.",
+             "The reasons (reasons.txt) are given by hand.", "",
              "By the prover's words, and by whether an input was found at which the changed function answers otherwise (witness.py: random inputs, an interpreter",
              "that is not the prover's; not tried where the function has a `requires`). Where one was found, the refused fact is false, whatever the words.", "",
              "| words | mutants | an input differs | no such input found | not tried |", "|---|---|---|---|---|"]
@@ -464,4 +466,5 @@ def main():
         table(root)
 
 
-main()
+if __name__ == "__main__":
+    main()

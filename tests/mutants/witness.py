@@ -202,7 +202,11 @@ class Parser:
                 name = self.take()
                 out = ("method", out, name, self.arguments()) if self.sees("(") else ("field", out, name)
             elif self.passes("["):
-                out = ("index", out, self.expression())
+                low = None if self.sees("..") else self.expression()
+                if self.passes(".."):
+                    out = ("part", out, low, None if self.sees("]") else self.expression())
+                else:
+                    out = ("index", out, low)
                 self.expect("]")
             else:
                 return out
@@ -420,6 +424,14 @@ class Machine:
         if not 0 <= at < len(xs):
             raise Trap("index")
         return xs[at]
+
+    def on_part(self, env, e, low, high):
+        xs = held(self.run(e, env))
+        first = 0 if low is None else self.run(low, env)
+        last = len(xs) if high is None else self.run(high, env)
+        if not 0 <= first <= last <= len(xs):
+            raise Trap("index")
+        return xs[first:last]
 
     def on_array(self, env, es):
         return [taken(held(self.run(e, env))) for e in es]

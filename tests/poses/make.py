@@ -98,6 +98,8 @@ def runs(frames):
         ("buffer", *whole(filling)),
         ("buffer_and_byte", *stopped(filling, b"\0", 9)),
         ("thousand", *whole(frames[-1000:])),
+        # a folder opens and cannot be read: a read that fails ends the run
+        (".", None, "poses v1\n"),
     ]
 
 
@@ -106,7 +108,8 @@ def files(frames):
     made = runs(frames)
     yield "stdout", "".join(f"{name}\n{text}" for name, _, text in made).encode()
     for name, content, _ in made:
-        yield os.path.join("data", name), content
+        if content is not None:
+            yield os.path.join("data", name), content
 
 
 def store(checking):

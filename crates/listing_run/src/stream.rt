@@ -17,7 +17,7 @@ pub enum Filling {
 }
 
 // Reads once into `input`, of which `filled` bytes are filled already.
-pub fn fill(fd: i32, input: &mut [u8], filled: usize) -> Filling
+pub(crate) fn fill(fd: i32, input: &mut [u8], filled: usize) -> Filling
     ensures { λ r. ⌜ Fills (length (now (input .entry))) filled r ⌝ }
     ensures { λ r. ⌜ take filled (now (input .exit)) ≡ take filled (now (input .entry)) ⌝ }
 {
@@ -39,7 +39,7 @@ pub fn fill(fd: i32, input: &mut [u8], filled: usize) -> Filling
 }
 
 // Writes the first `n` bytes of `out`, and answers whether all were written.
-pub fn flush(out: &[u8], n: usize) -> bool
+pub(crate) fn flush(out: &[u8], n: usize) -> bool
     ensures { λ r. ⌜ (length (now (out .entry)) < n → r ≡ false) ⌝ }
 {
     if out.len() < n {

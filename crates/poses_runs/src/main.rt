@@ -28,4 +28,6 @@ fn main() {
     list(b"buffer");
     list(b"buffer_and_byte");
     list(b"thousand");
+    // a folder, from which a read fails
+    list(b".");
 }
