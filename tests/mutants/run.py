@@ -200,7 +200,7 @@ def read(said, mutants, crate):
             m.said = (shape or facts or own)[0][2]
         elif state.startswith("no proof") and "`search` does not close" in state:
             m.verdict, m.said = "fact", "a goal is not proved"
-        elif state.startswith("no proof"):
+        elif state.startswith("no proof") and "it calls" not in state:
             m.verdict, m.said = "shape", "no proof is made by itself"
         elif state.startswith("could not tell"):
             m.verdict, m.said = "no verdict", state
