@@ -414,6 +414,8 @@ class Machine:
         if target in self.world.consts:
             kind, value = self.world.consts[target]
             return float(value.replace("_", "")) if kind == "f64" else int(value.replace("_", ""), 0)
+        if len(path) == 1:
+            raise Outside()  # a constant of a library outside
         return Variant(file.named(path[:-1], owner), path[-1], [])
 
     def on_field(self, env, e, name):
