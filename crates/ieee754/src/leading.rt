@@ -1,6 +1,6 @@
 // The rounded sum of a product and an addend by the leading word of each, where these decide it.
 //
-// What the words leave out moves their sum by less than two of its last digits. Where all numbers so near to it round
+// What the words leave out moves their sum by less than two units of its last place. Where all numbers so near to it round
 // alike, that is the answer; elsewhere all digits are added (`add_scaled`). Nothing here branches on the signs or on the
 // order of the exponents, which no predictor foresees.
 ghost use mathlib.Core.Path.{_≡_};

@@ -1,4 +1,4 @@
--- What a turn of the run leads to. What is read, and whether reading and writing succeed, is left open; nothing else is. From document 01, "Frame records and their listing".
+-- What a turn of the run leads to: the state, the lines put, and what is kept of the input. What the calls of C read and write, and whether they succeed, is left open. From document 01, "Frame records and their listing".
 use Prim.Native.Nat.{ℕ, _+_, _%_, _^_, _≤_, _<_, min}
 use mathlib.Core.Path.{_≡_}
 use mathlib.Core.Bool.{true, false}

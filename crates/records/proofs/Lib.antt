@@ -1,4 +1,5 @@
 -- The laws of this crate, in reading order.
 pub mod BigEndian
 pub mod Answers
+pub mod RecordNumbers
 pub mod RoundTrip

@@ -23,3 +23,10 @@ recordAt s at =
     (ask (leb 193 (left - 2)) (Stop 9)  -- Are 193 bytes there?
     (ask (eqb (getD s (at + 2) 0) 1) (Skip 8 (at + 195))  -- Is the version byte 1?
     (Accepted (frameAt s (at + 3)) (at + 195))))))
+
+-- a record's number, 0 where nothing is refused
+abbrev pub number : Record → ℕ
+number End = 0
+number (Stop n) = n
+number (Skip n next) = n
+number (Accepted frame next) = 0
