@@ -7,7 +7,7 @@ cd "$(dirname "$0")/../.."
 : "${1:?usage: run.sh SOURCES}"
 rt staticlib exports | tail -1
 library=target/staticlib/libexports.a
-frames=crates/lambdatwist_vectors/data/frame.bin
+frames=crates/vectors/data/rust/frame.bin
 out=target/bench/solve
 mkdir -p "$out"
 for program in stack repeat; do

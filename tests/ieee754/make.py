@@ -1,5 +1,5 @@
 #!/usr/bin/env python3
-"""Writes the test vectors of the single operations: crates/ieee754_vectors/data, a file for each operation.
+"""Writes the test vectors of the single operations: crates/vectors/data/exact, a file for each operation.
 
     python3 tests/ieee754/make.py           write the files
     python3 tests/ieee754/make.py --check   say whether the files are those that this script makes
@@ -19,7 +19,7 @@ from fused import fma_arguments
 from roots import cbrt_arguments, sqrt_arguments
 from values import GRID, GRID_OF_THREE, SEED, Random
 
-DATA = os.path.join(os.path.dirname(os.path.abspath(__file__)), "..", "..", "crates", "ieee754_vectors", "data")
+DATA = os.path.join(os.path.dirname(os.path.abspath(__file__)), "..", "..", "crates", "vectors", "data", "exact")
 
 
 def on_grid(count, grid):
@@ -54,7 +54,7 @@ def main(checking):
     print(f"{exact.check()} values worked by hand agree; seed {SEED:016x}")
     total = 0
     for name, operation, kinds in files(Random(SEED)):
-        content, path = encoded(operation, kinds), os.path.join(DATA, name)
+        content, path = encoded(operation, kinds), os.path.join(DATA, name + ".bin")
         total += len(content)
         counts = ", ".join(f"{kind} {len(rows)}" for kind, rows in kinds.items())
         print(f"{name} {sum(map(len, kinds.values()))}: {counts}")

@@ -22,7 +22,7 @@ only if it is refused for a fact (a goal that is not proved, two values that are
 file is asked for counts apart, under shape, and is replaced by another while there are others (up to TRIES). A private function is given
 three: what a public one returns rests on its contract too.
 
-Programs and test programs (poses, words, *_vectors, *_test) have no contracts that say what they write, and are left out.
+Programs and test programs (poses, poses_runs, words, vectors, *_test) have no contracts that say what they write, and are left out.
 reasons.txt says why a survivor is equivalent."""
 import hashlib
 import os

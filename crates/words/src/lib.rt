@@ -3,10 +3,9 @@
 ghost use mathlib.Core.Path.{_≡_};
 ghost use Prim.Native.Nat.{_+_, _<_, _≤_};
 ghost use lib.Dec.{eqb};
-ghost use lib.Ieee.{binary64, ofBits, toBits};
+ghost use lib.Ieee.{binary64, toBits};
 ghost use lib.ListN.{getD};
 ghost use Rattle.words.specs.Words.{halfAt, wordAt};
-use ieee754::bits::from_bits;
 use ieee754::bits::to_bits;
 
 pub mod report;
@@ -40,23 +39,9 @@ pub fn word(s: &[u8], at: usize) -> u64
     half(s, at, 0) * 0x1_0000_0000 + half(s, at, 4)
 }
 
-// The double of a bit pattern, a NaN for every NaN's.
-pub fn float(bits: u64) -> f64
-    ensures { λ r. ⌜ r ≡ ofBits binary64 bits ⌝ }
-{
-    from_bits(bits)
-}
-
-// The bit pattern of a double, 7ff8000000000000 for a NaN.
-pub fn pattern(x: f64) -> u64
-    ensures { λ r. ⌜ r ≡ toBits binary64 x ⌝ }
-{
-    to_bits(x)
-}
-
 // Whether x has the bit pattern w.
 pub fn agrees(x: f64, w: u64) -> bool
     ensures { λ r. ⌜ r ≡ eqb (toBits binary64 x) w ⌝ }
 {
-    pattern(x) == w
+    to_bits(x) == w
 }

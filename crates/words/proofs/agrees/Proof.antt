@@ -3,11 +3,11 @@ use borrow.Author.Needs.{needs}
 use Rattle.words.proofs.agrees.Statement.{statement}
 use Rattle.words.proofs.agrees.Tie as tie
 
-pattern-requires : tie.Need-pattern-requires
-pattern-requires c κs = search needs
+to-bits-requires : tie.Need-to-bits-requires
+to-bits-requires c κs = search needs
 
 returns : tie.Need-returns
-returns c = rw (c .pattern .ensures)
+returns c = rw (c .to-bits .ensures)
 
 pub agrees-spec : {M : Type 1} → statement M
-agrees-spec = tie.close (tie.spec pattern-requires returns)
+agrees-spec = tie.close (tie.spec to-bits-requires returns)

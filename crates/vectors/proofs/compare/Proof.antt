@@ -1,16 +1,16 @@
--- `ieee754_vectors::compare` is safe and ends: no more records differ than were read. Assumes nothing.
+-- `vectors::compare` is safe and ends: no more records differ than were read. Assumes nothing.
 use borrow.Author.Needs.{needs}
 use Prim.Native.Nat.{_≤_, _-_}
 use mathlib.Core.Logic.{⊎-elim}
 use native.Mathlib.Omega.{arith}
-use Rattle.ieee754_vectors.proofs.compare.Statement.{statement}
-use Rattle.ieee754_vectors.proofs.compare.Tie as tie
+use Rattle.vectors.proofs.compare.Statement.{statement}
+use Rattle.vectors.proofs.compare.Tie as tie
 
 abbrev Inv-loop : tie.InvT-loop
-Inv-loop operation name fd compared₀ differ₀ compared differ = (differ ≤ compared) × (compared ≤ 18446744073709551615)
+Inv-loop subject path fd compared₀ differ₀ compared differ = (differ ≤ compared) × (compared ≤ 18446744073709551615)
 
 abbrev μ-loop : tie.MeasureT-loop
-μ-loop operation name fd compared₀ differ₀ compared differ = 18446744073709551615 - compared
+μ-loop subject path fd compared₀ differ₀ compared differ = 18446744073709551615 - compared
 
 open-read-requires : tie.Need-open-read-requires Inv-loop μ-loop
 open-read-requires c κs = search needs

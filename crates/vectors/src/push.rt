@@ -1,25 +1,23 @@
 // Whether a push gives a record's answer: the count, the pose where one was pushed, and the other slots as they were.
 ghost use Prim.Native.Nat.{_≤_};
+use crate::record::input;
 use crate::record::matrix_agrees;
 use crate::record::matrix_at;
 use crate::record::narrow;
 use crate::record::vector_agrees;
 use crate::record::vector_at;
+use ieee754::bits::from_bits;
 use linalg::matrix3::Matrix3;
 use linalg::pose::Pose;
 use linalg::vector3::Vector3;
-use p3p_common::input::Bearings;
-use p3p_common::input::P3pInput;
-use p3p_common::input::World;
 use p3p_common::push_pose::push_pose;
 use p3p_common::solutions::Solutions;
 use words::agrees;
-use words::float;
 use words::word;
 
 // A pose of twelve equal entries, by which a slot is known again.
 fn marker(bits: u64) -> Pose {
-    let x = float(bits);
+    let x = from_bits(bits);
     let v = Vector3 { x, y: x, z: x };
     let rotation = Matrix3::from_columns(v, v, v);
     Pose {
@@ -54,7 +52,7 @@ fn marked(count: usize) -> Solutions {
 }
 
 // Whether slot `mark - 1` holds the pose that the record says was pushed there, and else its mark.
-fn slot_holds(s: &[u8; 368], mark: u64, pose: Pose, updates: u32) -> bool
+fn slot_holds(s: &[u8; 632], mark: u64, pose: Pose, updates: u32) -> bool
     requires { ⌜ mark ≤ 4 ⌝ }
 {
     if word(s, 256) == mark {
@@ -67,26 +65,13 @@ fn slot_holds(s: &[u8; 368], mark: u64, pose: Pose, updates: u32) -> bool
     updates as u64 == mark && is_marker(pose, mark)
 }
 
-fn input_at(s: &[u8; 368]) -> P3pInput {
-    let p0 = vector_at(s, 0);
-    let p1 = vector_at(s, 24);
-    let p2 = vector_at(s, 48);
-    let f0 = vector_at(s, 72);
-    let f1 = vector_at(s, 96);
-    let f2 = vector_at(s, 120);
-    P3pInput {
-        world: World { p0, p1, p2 },
-        bearings: Bearings { f0, f1, f2 },
-    }
-}
-
 // World points, bearings, the matrix, the translation, the updates and the count; the count, the updates and the pose.
-pub fn push_holds(s: &[u8; 368]) -> bool {
+pub fn push_holds(s: &[u8; 632]) -> bool {
     let before = marked(narrow(word(s, 248)) as usize);
     let matrix = matrix_at(s, 144);
     let translation = vector_at(s, 216);
     let after = push_pose(
-        input_at(s),
+        input(s),
         before,
         matrix,
         translation,

@@ -1,9 +1,9 @@
--- `ieee754_vectors::step` is safe: a record is at most as long as the array that it is read into. Assumes nothing.
+-- `vectors::step` is safe: a record is at most as long as the array that it is read into. Assumes nothing.
 use borrow.Author.Needs.{needs}
 use mathlib.Core.Path.{sym}
 use lib.Seq.{length-take-le}
-use Rattle.ieee754_vectors.proofs.step.Statement.{statement}
-use Rattle.ieee754_vectors.proofs.step.Tie as tie
+use Rattle.vectors.proofs.step.Statement.{statement}
+use Rattle.vectors.proofs.step.Tie as tie
 
 length-requires : tie.Need-length-requires
 length-requires c κs = search needs
