@@ -1,11 +1,11 @@
 // The choice: the count, four slots of twelve words (the rotation, the translation), the target and the bearing, then the
 // refusal number, 0 where nothing is refused, the place from 1 and the score.
 ghost use Prim.Native.Nat.{_≤_};
-use choice::choose::Choice;
-use choice::choose::choose;
 use crate::record::matrix_at;
 use crate::record::narrow;
 use crate::record::vector_at;
+use choice::choose::Choice;
+use choice::choose::choose;
 use linalg::pose::Pose;
 use words::agrees;
 use words::word;

@@ -102,7 +102,10 @@ fn main() {
     compare(Subject::Single(Operation::Max), b"exact/max.bin");
     compare(Subject::Single(Operation::Clamp), b"exact/clamp.bin");
     compare(Subject::Single(Operation::IsFinite), b"exact/is_finite.bin");
-    compare(Subject::Single(Operation::TotalOrder), b"exact/total_order.bin");
+    compare(
+        Subject::Single(Operation::TotalOrder),
+        b"exact/total_order.bin",
+    );
     compare(Subject::Single(Operation::TotalCmp), b"exact/total_cmp.bin");
     compare(Subject::Single(Operation::Sqrt), b"exact/sqrt.bin");
     compare(Subject::Single(Operation::Cbrt), b"exact/cbrt.bin");

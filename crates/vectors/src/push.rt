@@ -70,13 +70,7 @@ pub fn push_holds(s: &[u8; 632]) -> bool {
     let before = marked(narrow(word(s, 248)) as usize);
     let matrix = matrix_at(s, 144);
     let translation = vector_at(s, 216);
-    let after = push_pose(
-        input(s),
-        before,
-        matrix,
-        translation,
-        narrow(word(s, 240)),
-    );
+    let after = push_pose(input(s), before, matrix, translation, narrow(word(s, 240)));
     let poses = after.poses;
     let updates = after.updates;
     after.count as u64 == word(s, 256)

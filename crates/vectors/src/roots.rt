@@ -38,7 +38,11 @@ fn quadratic_holds(s: &[u8; 632]) -> bool {
 
 fn cubic_holds(s: &[u8; 632]) -> bool {
     let number = word(s, 24);
-    let answer = polished_cubic_root(from_bits(word(s, 0)), from_bits(word(s, 8)), from_bits(word(s, 16)));
+    let answer = polished_cubic_root(
+        from_bits(word(s, 0)),
+        from_bits(word(s, 8)),
+        from_bits(word(s, 16)),
+    );
     match answer {
         Roots::Two(_, _) => false,
         Roots::One(x) => number == 0 && agrees(x, word(s, 32)),

@@ -78,7 +78,10 @@ fn row_crosses_holds(s: &[u8; 632]) -> bool {
 
 fn condition_holds(s: &[u8; 632]) -> bool {
     let frame = input(s);
-    agrees(leading_cubic_condition(frame.world, frame.bearings), word(s, 144))
+    agrees(
+        leading_cubic_condition(frame.world, frame.bearings),
+        word(s, 144),
+    )
 }
 
 // Whether the function gives the record's answer.
