@@ -58,7 +58,7 @@ Goes size Read state put turn = Reads size (state .filled) (state .next) (state 
 Goes size (Next next) state put (More after) = Counted state next put after
 Goes size (Next next) state put Over = ⊥
 Goes size Closed state put (More after) = ⊥
-Goes size Closed state put Over = Unit {0}
+Goes size Closed state put Over = (at : ℕ) × put at
 
 -- one turn, of a buffer `input` of which so much as the state says has been read, and of a listing that stands in `out` before it and in `out'` after
 abbrev pub Steps : (input out out' : List ℕ) → State → Turn → Type 0

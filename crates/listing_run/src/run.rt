@@ -1,6 +1,6 @@
 // The run: records are listed one after another, what waits is written, and the input is read on, as each turn asks for.
 ghost use mathlib.Core.Path.{_≡_};
-ghost use Prim.Native.Nat.{min};
+ghost use Prim.Native.Nat.{_%_, _≤_, min};
 ghost use lib.ListN.{length, take};
 ghost use Rattle.listing_run.specs.Goes.{Writes, Reads, Steps};
 use crate::record::Course;
@@ -127,7 +127,10 @@ fn step(fd: i32, input: &mut [u8], out: &mut [u8], state: State) -> Turn
 }
 
 // A proved loop has to end, and nothing says that the input does: turns are counted down from a number that no run uses up.
-pub(crate) fn run(fd: i32, input: &mut [u8], out: &mut [u8]) {
+// A record never lies across the input's end, and a frame's lines always fit the listing's buffer.
+pub(crate) fn run(fd: i32, input: &mut [u8], out: &mut [u8])
+    requires { ⌜ (length (now input) % 195 ≡ 0) × (1600 ≤ length (now out)) ⌝ }
+{
     let at = put_header(out, 0);
     let mut state = State {
         filled: 0,

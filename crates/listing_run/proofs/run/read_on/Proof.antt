@@ -2,8 +2,8 @@
 use borrow.Author.Needs.{needs}
 use Prim.Native.Nat.{ℕ, _≤_, _<_}
 use native.Mathlib.Nat.{le-refl, le-of-lt, not-le-of-lt}
-use mathlib.Core.Path.{refl, subst}
-use mathlib.Core.Bool.{true, false, false≢true}
+use mathlib.Core.Path.{_≡_, refl, subst}
+use mathlib.Core.Bool.{Bool, true, false, false≢true}
 use lib.ListN.{length}
 use denote.Ref.{now}
 use Rattle.listing_run.specs.Goes.{Fetched, Fills}
@@ -11,11 +11,9 @@ use Rattle.listing_run.specs.declared.stream.Filling.{Filling}
 use Rattle.listing_run.proofs.run.read_on.Statement.{statement}
 use Rattle.listing_run.proofs.run.read_on.Tie as tie
 
-added : (size filled next count n : ℕ) → next < size → (filled ≤ n) × (n ≤ size) → Fetched size filled next count record { filled = n; next = next; at = 0; listed = count; ended = false }
-added size filled next count n l h = record { again = λ g. absurd (not-le-of-lt l g); on = λ _. (refl, h .0, h .1, λ e. absurd (false≢true e)); at = refl; listed = refl }
-
-ended : (size filled next count : ℕ) → next < size → filled < size → Fetched size filled next count record { filled = filled; next = next; at = 0; listed = count; ended = true }
-ended size filled next count l h = record { again = λ g. absurd (not-le-of-lt l g); on = λ _. (refl, le-refl filled, le-of-lt h, λ _. refl); at = refl; listed = refl }
+fetched : (size filled next count n : ℕ) (b : Bool) → next < size → filled ≤ n → n ≤ size → (b ≡ true → n ≡ filled)
+    → Fetched size filled next count record { filled = n; next = next; at = 0; listed = count; ended = b }
+fetched size filled next count n b l from to same = record { again = λ g. absurd (not-le-of-lt l g); on = λ _. (refl, from, to, same); at = refl; listed = refl }
 
 returns : tie.Need-returns
 returns c = search needs
@@ -40,7 +38,8 @@ returns-2 c =
     let f = c .before .before .before .before .before in
     let s = f .before .before .before .before in
     let size = length (now (s .args .input)) in
-    (added size (s .args .filled) (s .args .next) (s .args .listed) (c .before .filling .given .0 .0) (f .before .before .if1 .left) (subst (λ (r : Filling). Fills size (s .args .filled) r) (c .before .filling .given .1) (f .fill .ensures .0)), f .fill .ensures .1)
+    let more = subst (λ (r : Filling). Fills size (s .args .filled) r) (c .before .filling .given .1) (f .fill .ensures .0) in
+    (fetched size (s .args .filled) (s .args .next) (s .args .listed) (c .before .filling .given .0 .0) false (f .before .before .if1 .left) (more .0) (more .1) (λ e. absurd (false≢true e)), f .fill .ensures .1)
 
 same-length-2 : tie.Need-same-length-2
 same-length-2 c = search needs
@@ -50,7 +49,8 @@ returns-3 c =
     let f = c .before .before .before .before in
     let s = f .before .before .before .before in
     let size = length (now (s .args .input)) in
-    (ended size (s .args .filled) (s .args .next) (s .args .listed) (f .before .before .if1 .left) (subst (λ (r : Filling). Fills size (s .args .filled) r) (c .enum-told .given .1) (f .fill .ensures .0)), f .fill .ensures .1)
+    let room = subst (λ (r : Filling). Fills size (s .args .filled) r) (c .enum-told .given .1) (f .fill .ensures .0) in
+    (fetched size (s .args .filled) (s .args .next) (s .args .listed) (s .args .filled) true (f .before .before .if1 .left) (le-refl (s .args .filled)) (le-of-lt room) (λ _. refl), f .fill .ensures .1)
 
 same-length-3 : tie.Need-same-length-3
 same-length-3 c = search needs

@@ -2,13 +2,13 @@
 use borrow.Author.Needs.{needs}
 use native.Mathlib.Omega.{arith}
 use native.Mathlib.Nat.{min-le-right}
-use Prim.Native.Nat.{min}
+use Prim.Native.Nat.{_+_, _%_, _^_, min}
 use mathlib.Core.Path.{_≡_, refl}
 use lib.ListN.{length, take, length-take}
 use denote.Ref.{now}
 use Rattle.records.specs.Record.{recordAt}
-use Rattle.listing.specs.Lines.{roomy}
-use Rattle.listing_run.specs.RecordLines.{courseOf}
+use Rattle.listing.specs.Lines.{roomy, Written}
+use Rattle.listing_run.specs.RecordLines.{turnLines, courseOf}
 use Rattle.listing_run.proofs.run.step.Statement.{statement}
 use Rattle.listing_run.proofs.run.step.Tie as tie
 
@@ -19,6 +19,13 @@ course-is : (p : tie.After-put-record)
     → p .put-record .result .1 ≡ courseOf (roomy 1600 (now (start p .args .out)) (start p .args .state .at)) (start p .args .state .ended)
     (recordAt (take (min (start p .args .state .filled) (length (now (start p .args .input)))) (now (start p .args .input))) (start p .args .state .next))
 course-is p = rw (← p .before .before .before .least .ensures) (p .put-record .ensures .1)
+
+put : (p : tie.After-put-record)
+    → Written 1600 (now (start p .args .out)) (start p .args .state .at)
+    (turnLines (start p .args .state .ended) (start p .args .state .listed) ((start p .args .state .listed + 1) % 2 ^ 64)
+    (recordAt (take (min (start p .args .state .filled) (length (now (start p .args .input)))) (now (start p .args .input))) (start p .args .state .next)))
+    (p .put-record .result .0) (p .put-record .last .1 .1 .1 .0)
+put p = rw (← p .before .before .before .before .wrapping-add-u64 .ensures, ← p .before .before .before .least .ensures) (p .put-record .ensures .0)
 
 wrapping-add-u64-requires : tie.Need-wrapping-add-u64-requires
 wrapping-add-u64-requires c κs = search needs
@@ -102,7 +109,7 @@ returns-4 : tie.Need-returns-4
 returns-4 c =
     let f = c .before in
     let p = f .before .before .before .before in
-    rw (← course-is p, f .course .given .1) (record { filled = refl; begins = refl; at = rw (← p .before .before .before .before .wrapping-add-u64 .ensures, ← p .before .before .before .least .ensures) (p .put-record .ensures .0); listed = p .before .before .before .before .wrapping-add-u64 .ensures; ended = refl }, refl)
+    rw (← course-is p, f .course .given .1) (record { filled = refl; begins = refl; at = put p; listed = p .before .before .before .before .wrapping-add-u64 .ensures; ended = refl }, refl)
 
 same-length-9 : tie.Need-same-length-9
 same-length-9 c = search needs
@@ -113,7 +120,8 @@ same-length-10 c = search needs
 returns-5 : tie.Need-returns-5
 returns-5 c =
     let t = c .before .before in
-    rw (← course-is (t .before .before .before .before), t .enum-told3 .given .1) (tt, refl)
+    let p = t .before .before .before .before in
+    rw (← course-is p, t .enum-told3 .given .1) ((p .put-record .result .0, put p), refl)
 
 pub step-spec : {M : Type 1} → statement M
 step-spec =
