@@ -5,7 +5,7 @@ use mathlib.Core.List.{List}
 use native.Mathlib.Numerals.{add-one}
 use native.Mathlib.Omega.{arith}
 use lib.ListN.{length, getD, take, drop, length-take, drop-of-length-le}
-use lib.Seq.{drop-cons, getD-take}
+use lib.Seq.{slice-cons}
 use Rattle.linalg.specs.declared.vector3.Vector3.{Vector3}
 use Rattle.linalg.specs.declared.pose.Pose.{Pose}
 use Rattle.choice.specs.Score.{score}
@@ -21,4 +21,4 @@ module _ (poses : List Pose) (n at : ℕ) (target bearing : Vector3) (best : Cho
       → chooseAmong (drop (at + 1) (take n poses)) (at + 1) target bearing (better best (at + 1) (score (getD poses at d) target bearing .value)) .value
       ≡ chooseAmong (drop at (take n poses)) at target bearing best .value
   unfolding chooseAmong
-  turns-go d h fits = let inside : at < length (take n poses) = simp length-take (omega arith) in rw (drop-cons (take n poses) at d, getD-take, add-one at)
+  turns-go d h fits = rw (slice-cons at n poses d h fits, add-one at)

@@ -1,7 +1,7 @@
 -- The loop over the depth candidates at one slot: a turn is made there, or the candidates are at an end. Assumes nothing.
 use mathlib.Core.Path.{_≡_}
 use mathlib.Core.List.{List, [], _∷_}
-use Prim.Native.Nat.{ℕ, _+_, _≤_, _<_}
+use Prim.Native.Nat.{ℕ, _+_, _≤_, _<_, min}
 use native.Mathlib.Numerals.{add-one}
 use native.Mathlib.Omega.{arith}
 use lib.ListN.{length, getD, take, drop, length-map, length-take, drop-of-length-le}
@@ -20,19 +20,15 @@ use denote.Struct.Laws as struct
 use Rattle.depths.proofs.candidates.Candidates as candidates
 use Rattle.depths.proofs.candidates.Candidates.Laws as candidates-laws
 
-module _ (view : View) (edges : SquaredEdges) (cosines : Cosines) (inverse : Matrix3) (d : Vector3) (count : ℕ) (depths : List Vector3) (at : ℕ) (output : Solutions) where
-  pub turns-stop : count ≤ at → output ≡ poseTurns view edges cosines inverse (drop at (take count depths)) output .value
+module _ (view : View) (edges : SquaredEdges) (cosines : Cosines) (inverse : Matrix3) (count : ℕ) (depths : List Vector3) (at : ℕ) (output : Solutions) where
+  pub turns-end : min count (length depths) ≤ at → output ≡ poseTurns view edges cosines inverse (drop at (take count depths)) output .value
   unfolding poseTurns
-  turns-stop h = let short : length (take count depths) ≤ at = simp length-take (omega arith) in rw (drop-of-length-le (take count depths) {i = at} short)
+  turns-end h = let short : length (take count depths) ≤ at = simp length-take h in rw (drop-of-length-le (take count depths) {i = at} short)
 
-  pub turns-end : length depths ≤ at → output ≡ poseTurns view edges cosines inverse (drop at (take count depths)) output .value
-  unfolding poseTurns
-  turns-end h = let short : length (take count depths) ≤ at = simp length-take (omega arith) in rw (drop-of-length-le (take count depths) {i = at} short)
-
-  pub turns-go : at < count → at < length depths
+  pub turns-go : (d : Vector3) → at < count → at < length depths
       → poseTurns view edges cosines inverse (drop (at + 1) (take count depths)) (poseTurn view edges cosines inverse output (getD depths at d) .value) .value ≡ poseTurns view edges cosines inverse (drop at (take count depths)) output .value
   unfolding poseTurns
-  turns-go h g = let inside : at < length (take count depths) = simp length-take (omega arith) in rw (drop-cons (take count depths) at d, getD-take, add-one at)
+  turns-go d h g = let inside : at < length (take count depths) = simp length-take (omega arith) in rw (drop-cons (take count depths) at d, getD-take, add-one at)
 
 -- a struct of candidates has four slots
 pub four-slots : (found : Candidates) → Is (row candidates.the-type) found (struct.val candidates.the-type candidates-laws.the-laws found ∷ []) → length (found .depths) ≡ 4

@@ -1,8 +1,7 @@
 -- The ordered solve by what its stages give: an ordering that is unusable is refused where no retry is left, and else retried; a usable one goes on to the cubic. Assumes nothing.
-use mathlib.Core.Path.{_≡_, refl}
+use mathlib.Core.Path.{_≡_}
 use mathlib.Core.Bool.{true, false}
-use Prim.Native.Nat.{ℕ, zero, suc, _+_, _-_, _<_}
-use native.Mathlib.Omega.{arith}
+use Prim.Native.Nat.{ℕ, zero, suc}
 use Rattle.p3p_common.specs.declared.refine_depths.SquaredEdges.{SquaredEdges}
 use Rattle.p3p_common.specs.declared.refine_depths.Cosines.{Cosines}
 use Rattle.depths.specs.Edges.{edgeVectors, squaredEdges}
@@ -30,13 +29,3 @@ module _ (view : View) {vectors : EdgeVectors} {edges : SquaredEdges} {m : Cosin
   unfolding solveOrdered orderedOr
   usable zero h = rw (← e₀, ← e₁, ← e₂, ← e₃, ← e₄, ← e₅, h)
   usable (suc n) h = rw (← e₀, ← e₁, ← e₂, ← e₃, ← e₄, ← e₅, h)
-
--- ---- the allowance
-pub one-less : (n : ℕ) → (n ≡ 0 → ⊥) → n ≡ suc (n - 1)
-one-less zero h = absurd (h refl)
-one-less (suc n) h = omega arith
-
--- 2 * n for the ordered solve, and one more for the retry
-pub retry-falls : (n : ℕ) → (n ≡ 0 → ⊥) → (n - 1) + (n - 1) + 1 < n + n
-retry-falls zero h = absurd (h refl)
-retry-falls (suc n) h = omega arith

@@ -3,7 +3,7 @@
 use Prim.Native.Nat.{ℕ, zero, suc, _+_, _-_, _*_, _%_, _^_, _<_}
 use mathlib.Core.Path.{_≡_, refl, sym, ap, _∙_}
 use mathlib.Core.List.{List, [], _∷_, _++_, append-assoc}
-use native.Mathlib.Nat.{pow-suc, mod-one, mod-eq-of-lt, pow-le-pow-right, mul-comm, zero-lt-suc, add-zero, zero-add, le-of-suc-le-suc}
+use native.Mathlib.Nat.{pow-suc, mod-one, mod-eq-of-lt, one-le-pow, mul-comm, zero-lt-suc, add-zero, zero-add, le-of-suc-le-suc}
 use native.Mathlib.Omega.{arith}
 use lib.Arith.{mod-mul}
 use lib.Dec.{T, lit<}
@@ -27,16 +27,13 @@ unfolding bytes
 length-bytes zero n = refl
 length-bytes (suc k) n = ap suc (length-bytes k n)
 
-pow-pos : (k : ℕ) → 0 < 256 ^ k
-pow-pos k = pow-le-pow-right (zero-lt-suc 255) {i = 0} {j = k} (omega arith)
-
 -- k bytes hold a number up to 256 ^ k
 pub bytes-value : (k n : ℕ) → bigEndian (bytes k n) ≡ n % 256 ^ k
 unfolding bytes bigEndian
 bytes-value zero n = sym (mod-one n)
 bytes-value (suc k) n =
     rw (length-bytes k n, bytes-value k n)
-    (sym (mod-mul n {m = 256} {c = 256 ^ k} (zero-lt-suc 255) (pow-pos k)) ∙ ap (λ (m : ℕ). n % m) (mul-comm 256 (256 ^ k) ∙ sym (pow-suc 256 k)))
+    (sym (mod-mul n {m = 256} {c = 256 ^ k} (zero-lt-suc 255) (one-le-pow k 256 (zero-lt-suc 255))) ∙ ap (λ (m : ℕ). n % m) (mul-comm 256 (256 ^ k) ∙ sym (pow-suc 256 k)))
 
 -- the bytes that were put between others
 part-middle : (before middle after : List ℕ) (at n : ℕ) → length before ≡ at → length middle ≡ n → part (before ++ (middle ++ after)) at n ≡ middle

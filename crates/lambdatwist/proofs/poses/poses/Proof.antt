@@ -1,12 +1,11 @@
 -- `lambdatwist::poses::poses` meets its contract: what is left of the loop gives what the whole does. Assumes nothing.
 use borrow.Author.Needs.{needs}
 use native.Mathlib.Omega.{arith}
-use Prim.Native.Nat.{_-_, _≤_}
+use Prim.Native.Nat.{_-_, _≤_, min}
 use mathlib.Core.Path.{_≡_, refl, _∙_}
 use lib.ListN.{length, take, drop}
-use Rattle.linalg.specs.Vectors.{zeros}
 use Rattle.lambdatwist.specs.Poses.{poseTurns, poses}
-use Rattle.lambdatwist.proofs.PoseTurns.{turns-go, turns-stop, turns-end, four-slots}
+use Rattle.lambdatwist.proofs.PoseTurns.{turns-go, turns-end, four-slots}
 use Rattle.lambdatwist.proofs.poses.poses.Statement.{statement}
 use Rattle.lambdatwist.proofs.poses.poses.Tie as tie
 
@@ -27,7 +26,8 @@ returns : tie.Need-returns Inv-loop μ-loop
 unfolding poses
 returns c =
     let loop = c .before .before .loop in
-    rw (← c .before .before .before .empty .ensures) (turns-stop _ _ _ _ zeros _ _ (loop .at) (loop .output) (c .if1 .taken) ∙ loop .inv .1)
+    let found = c .before .before .before .before .before .args .found in
+    rw (← c .before .before .before .empty .ensures) (turns-end _ _ _ _ (found .count) (found .depths) (loop .at) (loop .output) (omega (arith, c .if1 .taken)) ∙ loop .inv .1)
 
 mul-pose-turn : tie.Need-mul-pose-turn Inv-loop μ-loop
 mul-pose-turn c = search needs
@@ -49,7 +49,7 @@ loop-again c =
     let start = c .before .before .before .before .before .before .before in
     let loop = c .before .before .before .before .loop in
     let four = four-slots (start .args .found) (start .good .1 .1 .1 .1 .0) in
-    (search needs, rw (c .pose-turn .ensures) (turns-go _ _ _ _ _ _ _ (loop .at) (loop .output) (c .before .before .if1 .left) (omega (arith, c .before .before .before .loop-test .taken, four)) ∙ loop .inv .1))
+    (search needs, rw (c .pose-turn .ensures) (turns-go _ _ _ _ _ _ (loop .at) (loop .output) _ (c .before .before .if1 .left) (omega (arith, c .before .before .before .loop-test .taken, four)) ∙ loop .inv .1))
 
 returns-2 : tie.Need-returns-2 Inv-loop μ-loop
 unfolding poses
@@ -57,8 +57,8 @@ returns-2 c =
     let loop = c .before .loop in
     let start = c .before .before .before .before in
     let four = four-slots (start .args .found) (start .good .1 .1 .1 .1 .0) in
-    let past : length (start .args .found .depths) ≤ loop .at = omega (arith, c .loop-test .left, four) in
-    rw (← c .before .before .empty .ensures) (turns-end _ _ _ _ zeros (start .args .found .count) (start .args .found .depths) (loop .at) (loop .output) past ∙ loop .inv .1)
+    let past : min (start .args .found .count) (length (start .args .found .depths)) ≤ loop .at = omega (arith, c .loop-test .left, four) in
+    rw (← c .before .before .empty .ensures) (turns-end _ _ _ _ (start .args .found .count) (start .args .found .depths) (loop .at) (loop .output) past ∙ loop .inv .1)
 
 pub poses-spec : {M : Type 1} → statement M
 poses-spec =

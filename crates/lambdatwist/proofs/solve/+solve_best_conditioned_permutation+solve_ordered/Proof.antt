@@ -8,7 +8,7 @@ use native.Mathlib.Omega.{arith}
 use borrow.Fn.Kinds.{In}
 use borrow.Fn.PlainCycle.{Measures, is, falls, and}
 use Rattle.lambdatwist.specs.Solve.{solveBestConditionedPermutation, bestOr, solveOrdered}
-use Rattle.lambdatwist.proofs.Retries.{out-of-retries, retried, usable, one-less, retry-falls}
+use Rattle.lambdatwist.proofs.Retries.{out-of-retries, retried, usable}
 use Rattle.lambdatwist.proofs.solve.solve_best_conditioned_permutation.Reads as best
 use Rattle.lambdatwist.proofs.solve.solve_best_conditioned_permutation.Kinds as best-kinds
 use Rattle.lambdatwist.proofs.solve.+solve_best_conditioned_permutation+solve_ordered.Lts-solve_best_conditioned_permutation as best-lts
@@ -105,10 +105,10 @@ ordered-sub-solve-best-conditioned-permutation : (t : ℕ) → ordered-lts.Need-
 ordered-sub-solve-best-conditioned-permutation t c = pos-of-ne-zero (c .if2 .left)
 
 ordered-solve-best-conditioned-permutation-requires : (t : ℕ) → ordered-lts.Need-solve-best-conditioned-permutation-requires (ordered-calls t) (ordered-at t) ordered.Post
-ordered-solve-best-conditioned-permutation-requires t c κs = (subst (λ (j : ℕ). c .before .before .before .before .before .before .before .before .before .args .retries - 1 + (c .before .before .before .before .before .before .before .before .before .args .retries - 1) + 1 < j) (c .before .before .before .before .before .before .before .before .before .pre .0) (retry-falls (c .before .before .before .before .before .before .before .before .before .args .retries) (c .if2 .left)), tt)
+ordered-solve-best-conditioned-permutation-requires t c κs = (subst (λ (j : ℕ). c .before .before .before .before .before .before .before .before .before .args .retries - 1 + (c .before .before .before .before .before .before .before .before .before .args .retries - 1) + 1 < j) (c .before .before .before .before .before .before .before .before .before .pre .0) (omega (arith, pos-of-ne-zero (c .if2 .left))), tt)
 
 ordered-returns-2 : (t : ℕ) → ordered-lts.Need-returns-2 (ordered-calls t) (ordered-at t) ordered.Post
-ordered-returns-2 t c = c .solve-best-conditioned-permutation .ensures ∙ retried (c .before .before .before .before .before .before .before .before .before .before .args .view) (c .before .before .before .before .before .before .before .before .before .edge-vectors .ensures) (c .before .before .before .before .before .before .before .before .squared-edges .ensures) (c .before .before .before .before .before .before .before .cosines .ensures) (c .before .before .before .before .before .before .squared-sines .ensures) (c .before .before .before .before .before .bearing-factors .ensures) (c .before .before .before .before .cubic-coefficients .ensures) (c .before .before .before .before .before .before .before .before .before .before .args .retries - 1) (sym (c .before .before .before .is-unusable .ensures) ∙ c .before .before .if1 .taken) ∙ ap (λ (n : ℕ). solveOrdered n (c .before .before .before .before .before .before .before .before .before .before .args .view) .value) (sym (one-less (c .before .before .before .before .before .before .before .before .before .before .args .retries) (c .before .if2 .left)))
+ordered-returns-2 t c = c .solve-best-conditioned-permutation .ensures ∙ retried (c .before .before .before .before .before .before .before .before .before .before .args .view) (c .before .before .before .before .before .before .before .before .before .edge-vectors .ensures) (c .before .before .before .before .before .before .before .before .squared-edges .ensures) (c .before .before .before .before .before .before .before .cosines .ensures) (c .before .before .before .before .before .before .squared-sines .ensures) (c .before .before .before .before .before .bearing-factors .ensures) (c .before .before .before .before .cubic-coefficients .ensures) (c .before .before .before .before .before .before .before .before .before .before .args .retries - 1) (sym (c .before .before .before .is-unusable .ensures) ∙ c .before .before .if1 .taken) ∙ ap (λ (n : ℕ). solveOrdered n (c .before .before .before .before .before .before .before .before .before .before .args .view) .value) (omega (arith, pos-of-ne-zero (c .before .if2 .left)))
 
 ordered-solve-cubic-requires : (t : ℕ) → ordered-lts.Need-solve-cubic-requires (ordered-calls t) (ordered-at t) ordered.Post
 ordered-solve-cubic-requires t c κs = search needs

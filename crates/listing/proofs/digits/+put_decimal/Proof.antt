@@ -38,100 +38,41 @@ abbrev put-decimal-below : ℕ → In 1 put-decimal-kinds.ps
 put-decimal-below t =
     and 1 put-decimal-kinds.ps (falls 1 put-decimal-kinds.ps _<_ μ-put-decimal t) put-decimal.Pre
 
-put-decimal-glyph-requires : (t : ℕ) → put-decimal-lts.Need-glyph-requires (
-  glyph-reads.Asked,
-  glyph-reads.Learnt,
-  put-byte-reads.Asked,
-  put-byte-reads.Learnt,
-  put-decimal-below t,
-  put-decimal.Post,
-) (put-decimal-at t) put-decimal.Post
+-- what the calls ask and tell: the two callees, and this function at smaller numbers
+abbrev put-decimal-calls : ℕ → put-decimal-lts.Claims
+put-decimal-calls t = (glyph-reads.Asked, glyph-reads.Learnt, put-byte-reads.Asked, put-byte-reads.Learnt, put-decimal-below t, put-decimal.Post)
+
+put-decimal-glyph-requires : (t : ℕ) → put-decimal-lts.Need-glyph-requires (put-decimal-calls t) (put-decimal-at t) put-decimal.Post
 put-decimal-glyph-requires t c κs = omega arith
 
-put-decimal-put-byte-requires : (t : ℕ) → put-decimal-lts.Need-put-byte-requires (
-  glyph-reads.Asked,
-  glyph-reads.Learnt,
-  put-byte-reads.Asked,
-  put-byte-reads.Learnt,
-  put-decimal-below t,
-  put-decimal.Post,
-) (put-decimal-at t) put-decimal.Post
+put-decimal-put-byte-requires : (t : ℕ) → put-decimal-lts.Need-put-byte-requires (put-decimal-calls t) (put-decimal-at t) put-decimal.Post
 put-decimal-put-byte-requires t c κs = omega arith
 
-put-decimal-same-length : (t : ℕ) → put-decimal-lts.Need-same-length (
-  glyph-reads.Asked,
-  glyph-reads.Learnt,
-  put-byte-reads.Asked,
-  put-byte-reads.Learnt,
-  put-decimal-below t,
-  put-decimal.Post,
-) (put-decimal-at t) put-decimal.Post
+put-decimal-same-length : (t : ℕ) → put-decimal-lts.Need-same-length (put-decimal-calls t) (put-decimal-at t) put-decimal.Post
 put-decimal-same-length t c = c .before .before .put-byte .kept .0
 
-put-decimal-returns : (t : ℕ) → put-decimal-lts.Need-returns (
-  glyph-reads.Asked,
-  glyph-reads.Learnt,
-  put-byte-reads.Asked,
-  put-byte-reads.Learnt,
-  put-decimal-below t,
-  put-decimal.Post,
-) (put-decimal-at t) put-decimal.Post
+put-decimal-returns : (t : ℕ) → put-decimal-lts.Need-returns (put-decimal-calls t) (put-decimal-at t) put-decimal.Post
 put-decimal-returns t c =
     let k = c .before .before in
     let a = k .before .before .before .before .before .args in
     spelt-out (a .n) (stored-as (ap (λ (g : ℕ). g ∷ []) (k .before .glyph .ensures) ∙ sym (decimal-one (a .n) (k .before .before .before .if1 .taken))) (k .put-byte .ensures))
 
-put-decimal-put-decimal-requires : (t : ℕ) → put-decimal-lts.Need-put-decimal-requires (
-  glyph-reads.Asked,
-  glyph-reads.Learnt,
-  put-byte-reads.Asked,
-  put-byte-reads.Learnt,
-  put-decimal-below t,
-  put-decimal.Post,
-) (put-decimal-at t) put-decimal.Post
+put-decimal-put-decimal-requires : (t : ℕ) → put-decimal-lts.Need-put-decimal-requires (put-decimal-calls t) (put-decimal-at t) put-decimal.Post
 put-decimal-put-decimal-requires t c κs = (omega (arith, c .before .before .before .pre .0), omega arith)
 
-put-decimal-glyph-requires-2 : (t : ℕ) → put-decimal-lts.Need-glyph-requires-2 (
-  glyph-reads.Asked,
-  glyph-reads.Learnt,
-  put-byte-reads.Asked,
-  put-byte-reads.Learnt,
-  put-decimal-below t,
-  put-decimal.Post,
-) (put-decimal-at t) put-decimal.Post
+put-decimal-glyph-requires-2 : (t : ℕ) → put-decimal-lts.Need-glyph-requires-2 (put-decimal-calls t) (put-decimal-at t) put-decimal.Post
 put-decimal-glyph-requires-2 t c κs = omega arith
 
-put-decimal-put-byte-requires-2 : (t : ℕ) → put-decimal-lts.Need-put-byte-requires-2 (
-  glyph-reads.Asked,
-  glyph-reads.Learnt,
-  put-byte-reads.Asked,
-  put-byte-reads.Learnt,
-  put-decimal-below t,
-  put-decimal.Post,
-) (put-decimal-at t) put-decimal.Post
+put-decimal-put-byte-requires-2 : (t : ℕ) → put-decimal-lts.Need-put-byte-requires-2 (put-decimal-calls t) (put-decimal-at t) put-decimal.Post
 put-decimal-put-byte-requires-2 t c κs =
     let k = c .before .before .before .before in
     let a = k .before .before .before .before in
     omega (arith, k .put-decimal .ensures .0 .next-at, k .put-decimal .kept .0, a .pre .1, decimal-room (a .args .n) (k .before .before .if1 .left) (small (a .args .n) (a .fits .n .fits)))
 
-put-decimal-same-length-2 : (t : ℕ) → put-decimal-lts.Need-same-length-2 (
-  glyph-reads.Asked,
-  glyph-reads.Learnt,
-  put-byte-reads.Asked,
-  put-byte-reads.Learnt,
-  put-decimal-below t,
-  put-decimal.Post,
-) (put-decimal-at t) put-decimal.Post
+put-decimal-same-length-2 : (t : ℕ) → put-decimal-lts.Need-same-length-2 (put-decimal-calls t) (put-decimal-at t) put-decimal.Post
 put-decimal-same-length-2 t c = c .before .before .put-byte2 .kept .0 ∙ c .before .before .before .before .before .before .before .put-decimal .kept .0
 
-put-decimal-returns-2 : (t : ℕ) → put-decimal-lts.Need-returns-2 (
-  glyph-reads.Asked,
-  glyph-reads.Learnt,
-  put-byte-reads.Asked,
-  put-byte-reads.Learnt,
-  put-decimal-below t,
-  put-decimal.Post,
-) (put-decimal-at t) put-decimal.Post
+put-decimal-returns-2 : (t : ℕ) → put-decimal-lts.Need-returns-2 (put-decimal-calls t) (put-decimal-at t) put-decimal.Post
 put-decimal-returns-2 t c =
     let k = c .before .before in
     let d = k .before .before .before .before .before in
@@ -141,14 +82,8 @@ put-decimal-returns-2 t c =
     spelt-out (a .args .n) (stored-as (digit ∙ sym whole) (then (d .put-decimal .ensures .0) (k .put-byte2 .ensures)))
 
 pub +put-decimal-spec : {M : Type 1} → statement M
-+put-decimal-spec = close μ-put-decimal λ t. put-decimal-lts.spec (
-  glyph-reads.Asked,
-  glyph-reads.Learnt,
-  put-byte-reads.Asked,
-  put-byte-reads.Learnt,
-  put-decimal-below t,
-  put-decimal.Post,
-)
++put-decimal-spec = close μ-put-decimal λ t. put-decimal-lts.spec
+    (put-decimal-calls t)
     (put-decimal-at t)
     put-decimal.Post
     (put-decimal-glyph-requires t)
