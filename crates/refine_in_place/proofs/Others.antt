@@ -1,6 +1,8 @@
 -- The parameters after the depths, which both functions of this crate and the form by value below them take alike: the squared edges, the cosines and the allowance, all by value.
 --     Others, of      three arguments that have their types' values, and how a function has them from its own arguments
 --     args, vals      what they are in the logic, and their machine values
+--     stayed, gone    at exit they are still owned, plain data of which nothing is said: what a walk's end asks of them, for any number of lifetimes
+--     spelt, tells    their machine values are those of `vals`
 --     had-others      what they own is had for nothing, since it is plain data: so a walk never carries it, and makes it where it is asked
 use mathlib.Core.Path.{refl}
 use Prim.Native.Nat.{ℕ, _<_, _^_}
@@ -12,10 +14,15 @@ use prog.Wp.{Heap}
 use ghost.Atoms.{Atoms}
 use types.Kit.{Goal, _$_, Step, step, Given, Item, ‵, fjoin}
 use denote.RattleType.{RattleType, owns}
-use denote.Laws.{Is}
-use denote.Plain.{uint-makes}
+use denote.Laws.{Is, Ises, Spells, Tellss}
+use denote.Plain.{uint-vals, uint-tells, uint-makes}
 use denote.Builtin.{u32}
+use denote.Signature.{Slot, plain}
 use denote.Steps.{owned, nothing}
+use denote.Struct.Laws as LL
+use denote.Triple.End.{all}
+use denote.Triple.Walked.{Stays, stay-none, AllGo, goes-none}
+use denote.Exit.{yes}
 use Rattle.p3p_common.specs.declared.refine_depths.SquaredEdges.{SquaredEdges}
 use Rattle.p3p_common.specs.declared.refine_depths.Cosines.{Cosines}
 use Rattle.refine_in_place.proofs.Loan.{Row, val, Fit, had}
@@ -43,6 +50,25 @@ vals p = (val EdgesS (p .edges) ∷ [], (val CosinesS (p .cosines) ∷ [], (vint
 
 abbrev pub rows : List RattleType
 rows = Row EdgesS ∷ Row CosinesS ∷ u32 ∷ []
+
+abbrev pub spelt : Spells rows
+spelt = (LL.vals (EdgesS .type) (EdgesS .laws), (LL.vals (CosinesS .type) (CosinesS .laws), (uint-vals w32, tt)))
+
+abbrev pub tells : Tellss rows (Ises rows) spelt
+tells = (LL.tells (EdgesS .type) (EdgesS .laws), (LL.tells (CosinesS .type) (CosinesS .laws), (uint-tells w32, tt)))
+
+module _ (n : ℕ) where
+  abbrev pub slots : List (Slot n)
+  slots = plain (λ _. Row EdgesS) ∷ plain (λ _. Row CosinesS) ∷ plain (λ _. u32) ∷ []
+
+  abbrev pub stayed : Stays slots (all yes slots)
+  stayed = (stay-none (λ _. Row EdgesS) yes, (stay-none (λ _. Row CosinesS) yes, (stay-none (λ _. u32) yes, tt)))
+
+  pub gone : {M : Type 1} (𝓤 : URA M) (H : Heap 𝓤) (A : Atoms 𝓤) (W : Given 𝓤 H A) → AllGo 𝓤 H A W n slots (all yes slots) stayed
+  gone 𝓤 H A W = (
+    goes-none 𝓤 H A W n (λ _. Row EdgesS) yes (λ κs x f. refl),
+    (goes-none 𝓤 H A W n (λ _. Row CosinesS) yes (λ κs x f. refl), (goes-none 𝓤 H A W n (λ _. u32) yes (λ κs x f. refl), tt)),
+  )
 
 module _ {M : Type 1} {𝓤 : URA M} {H : Heap 𝓤} {A : Atoms 𝓤} {K : Type 0} {W : Given 𝓤 H A} {Γ : List (Item 𝓤)} {G : Goal 𝓤 H} where
   pub had-others : K → (p : Others) → Step K W (‵ (owns rows (args p) (vals p)) ∷ Γ) G Γ G

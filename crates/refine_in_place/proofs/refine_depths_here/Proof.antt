@@ -16,7 +16,7 @@ use base.Logic.{SProp, ent, sep, guard, emp, via, fst∗, id⊢}
 use base.Fml.{GName, ftrue, fat, flft, fres}
 use prog.Memory.{Memory}
 use prog.Routine.{Routine}
-use prog.Wp.{Heap, Calls, Loops, WpFn, Tables}
+use prog.Wp.{Heap, Calls, Loops, WpFn}
 use ghost.Atoms.{Atoms, sem}
 use contract.Monad.{Fun, fact}
 use contract.Running.{givenOf, tables, tablesOf}
@@ -24,7 +24,7 @@ use types.Kit.{Given, ‵, raw, given, _⊛_, some, later, _$_, _∵_, !, qed, b
 use types.Run.{look, init, forget, stop, from, load, addr, and-then, no-more, of-opd, assigns, land, returns, enter, alloc1, alloc0, params1, pass1, pass0, free1, free0}
 use types.Part.{agg}
 use types.Tokens.{lft-new, lft-end}
-use sound.WpLaws.{FmC, fmOf, WpFn-mono}
+use sound.WpLaws.{FmC}
 use denote.Laws.{Is, shows}
 use denote.Plain.{uint-vals, uint-tells}
 use denote.Builtin.{u32}
@@ -35,16 +35,16 @@ use denote.Triple.Statement.{Contract, Triple}
 use denote.Triple.Call.{calls-at}
 use denote.Triple.Clauses.{ensured, lasts}
 use denote.Triple.Entry.{onEntry}
-use denote.Triple.Spec.{Meets, tripleOf}
+use denote.Triple.Spec.{tripleOf}
 use denote.Triple.Table.{entered, cited}
-use denote.Triple.Walked.{says, Stays, stay-none, walkOf, AllGo, goes-none, Walks, ends-at, walked, walk-meets}
+use denote.Triple.Walked.{says, Stays, stay-none, walkOf, AllGo, goes-none, Walks, ends-at, walked}
 use denote.Exit.{yes}
 use Rattle.p3p_common.specs.RefineDepths.{refineDepths}
 use Rattle.linalg.specs.declared.vector3.Vector3.{Vector3}
 use Rattle.p3p_common.specs.declared.refine_depths.Refined.{Refined}
-use Rattle.refine_in_place.proofs.Loan.{Row, val, Fit, ref, typed, had, lends-local, local-back}
+use Rattle.refine_in_place.proofs.Loan.{meets, Row, val, Fit, ref, typed, had, lends-local, local-back}
 use Rattle.refine_in_place.proofs.Structs.{VectorS, EdgesS, CosinesS, RefinedS, refined-fits}
-use Rattle.refine_in_place.proofs.Others.{Others, Args as OtherArgs, args as others, of, vals, had-others}
+use Rattle.refine_in_place.proofs.Others.{Others, Args as OtherArgs, args as others, of, vals, spelt, tells, stayed as others-stayed, gone as others-gone, had-others}
 use Rattle.refine_in_place.proofs.refine_depths_in_place as in-place
 use Rattle.refine_in_place.proofs.refine_depths_in_place.Symbol as in-place-def
 use Rattle.refine_in_place.proofs.refine_depths_in_place.Symbol.{name as #in-place}
@@ -56,7 +56,7 @@ use Rattle.refine_in_place.proofs.refine_depths_here.Code as code
 
 -- what the function still has of each parameter at exit: plain data, of which nothing is said
 abbrev stayed : Stays (f.ended .signature .params) (f.ended .kept)
-stayed = (stay-none (λ _. Row VectorS) yes, (stay-none (λ _. Row EdgesS) yes, (stay-none (λ _. Row CosinesS) yes, (stay-none (λ _. u32) yes, tt))))
+stayed = (stay-none (λ _. Row VectorS) yes, others-stayed 0)
 
 -- the contract of `refine_depths_in_place`, which the proof cites
 abbrev InPlace : {M : Type 1} (𝓤 : URA M) (H : Heap 𝓤) (A : Atoms 𝓤) (mem : Memory → SProp 𝓤) (run : Routine → Fun 𝓤) → Contract 𝓤
@@ -174,32 +174,24 @@ module _ {M : Type 1} (𝓤 : URA M) (H : Heap 𝓤) (A : Atoms 𝓤) (W : Given
         move ! (0 ∷ 7 ∷ []) $ free1 ! $ move ! (4 ∷ 5 ∷ []) $ free1 ! $ move ! (2 ∷ 3 ∷ []) $ free1 ! $ free1 ! $ free0 ! $
         by ! (exits (refined-fits out depths-fit (ret .1))))))))))))))))))
 
--- ---- from the walk to the contract: the same for every function, but for the names, the parameters' types and the callees
+-- ---- from the walk to the contract
 module _ {M : Type 1} (𝓤 : URA M) (H : Heap 𝓤) (A : Atoms 𝓤) (W : Given 𝓤 H A) (mem : Memory → SProp 𝓤) (run : Routine → Fun 𝓤) where
   here-walks : (C : Calls 𝓤 H) (Λ : Loops 𝓤 H) → FmC 𝓤 H (W .laws) C → Triple 𝓤 (C #in-place) (InPlace 𝓤 H A mem run) → Walks 𝓤 H A f.ended stayed (WpFn 𝓤 H C Λ code.function) (f.clauses 𝓤 H A mem run)
   here-walks C Λ fm known =
       walked 𝓤 H A f.ended stayed (f.clauses 𝓤 H A mem run) (WpFn 𝓤 H C Λ code.function)
-      (λ κs. (LL.vals (VectorS .type) (VectorS .laws), (LL.vals (EdgesS .type) (EdgesS .laws), (LL.vals (CosinesS .type) (CosinesS .laws), (uint-vals w32, tt)))))
-      (λ κs. (LL.tells (VectorS .type) (VectorS .laws), (LL.tells (EdgesS .type) (EdgesS .laws), (LL.tells (CosinesS .type) (CosinesS .laws), (uint-tells w32, tt)))))
+      (λ κs. (LL.vals (VectorS .type) (VectorS .laws), spelt))
+      (λ κs. (LL.tells (VectorS .type) (VectorS .laws), tells))
       (λ κs qs bounds x _ are. via 𝓤 _ (fst∗ 𝓤 _ (emp 𝓤))
       (walk 𝓤 H A W mem run (x .0) (are .0) (of (x .1) (are .1)) C Λ fm known))
 
   gone : AllGo 𝓤 H A W 0 (f.signature .params) (f.ended .kept) stayed
-  gone = (
-    goes-none 𝓤 H A W 0 (λ _. Row VectorS) yes (λ κs x f. refl),
-    (goes-none 𝓤 H A W 0 (λ _. Row EdgesS) yes (λ κs x f. refl), (goes-none 𝓤 H A W 0 (λ _. Row CosinesS) yes (λ κs x f. refl), (goes-none 𝓤 H A W 0 (λ _. u32) yes (λ κs x f. refl), tt))),
-  )
-
-here-meets : {M : Type 1} (𝓤 : URA M) (H : Heap 𝓤) (A : Atoms 𝓤) → Given 𝓤 H A → (mem : Memory → SProp 𝓤) (run : Routine → Fun 𝓤) (𝓣 : Tables 𝓤 H)
-    → Triple 𝓤 (𝓣 .C #in-place) (InPlace 𝓤 H A mem run) → Meets 𝓤 H A f.signature (WpFn 𝓤 H (𝓣 .C) (𝓣 .Λ) code.function) (f.spec 𝓤 H A mem run)
-here-meets 𝓤 H A W mem run 𝓣 known =
-    walk-meets 𝓤 H A f.ended stayed W (gone 𝓤 H A W mem run) (f.clauses 𝓤 H A mem run) (WpFn 𝓤 H (𝓣 .C) (𝓣 .Λ) code.function) (WpFn-mono 𝓤 H (W .laws) 𝓣 code.function)
-    (here-walks 𝓤 H A W mem run (𝓣 .C) (𝓣 .Λ) (fmOf 𝓤 H (W .laws) 𝓣) known)
+  gone = (goes-none 𝓤 H A W 0 (λ _. Row VectorS) yes (λ κs x f. refl), others-gone 0 𝓤 H A W)
 
 pub refine-depths-here-spec : {M : Type 1} → stated.statement M
 unfolding code.routine tablesOf
 refine-depths-here-spec 𝓤 H 𝓜 𝓖 𝓡 =
     entered 𝓤 H (tripleOf 𝓤 H (𝓖 .A) f.signature (f.spec 𝓤 H (𝓖 .A) (𝓜 .mem) (𝓡 .run)))
     (tables 𝓤 H 𝓜 𝓡 code.env .C) (tables 𝓤 H 𝓜 𝓡 code.env .Λ) #here code.function (code.unfolded 𝓤 H 𝓜 𝓡)
-    (here-meets 𝓤 H (𝓖 .A) (givenOf 𝓤 H 𝓜 𝓖) (𝓜 .mem) (𝓡 .run) (tablesOf 𝓤 H 𝓜 (tables 𝓤 H 𝓜 𝓡 code.env))
+    (meets 𝓤 H (𝓖 .A) (givenOf 𝓤 H 𝓜 𝓖) f.ended stayed (gone 𝓤 H (𝓖 .A) (givenOf 𝓤 H 𝓜 𝓖) (𝓜 .mem) (𝓡 .run)) (f.clauses 𝓤 H (𝓖 .A) (𝓜 .mem) (𝓡 .run)) code.function
+    #in-place (InPlace 𝓤 H (𝓖 .A) (𝓜 .mem) (𝓡 .run)) (here-walks 𝓤 H (𝓖 .A) (givenOf 𝓤 H 𝓜 𝓖) (𝓜 .mem) (𝓡 .run)) (tablesOf 𝓤 H 𝓜 (tables 𝓤 H 𝓜 𝓡 code.env))
     (cited 𝓤 H (InPlace 𝓤 H (𝓖 .A) (𝓜 .mem) (𝓡 .run)) 𝓜 𝓡 code.env #in-place in-place-def.routine code.calls-refine-in-place·refine-depths-in-place (in-place-thm.met 𝓤 H 𝓜 𝓖 𝓡)))

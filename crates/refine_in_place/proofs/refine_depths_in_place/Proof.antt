@@ -16,14 +16,14 @@ use base.Logic.{SProp, ent, emp, via, fst∗, snd∗, exE, id⊢}
 use base.Fml.{GName, Lft, Share, ftrue, fat, flft, fobs, fbor}
 use prog.Memory.{Memory}
 use prog.Routine.{Routine}
-use prog.Wp.{Heap, Calls, Loops, WpFn, Tables}
+use prog.Wp.{Heap, Calls, Loops, WpFn}
 use ghost.Atoms.{Atoms, sem}
 use contract.Monad.{Fun, fact}
 use contract.Running.{givenOf, tables, tablesOf}
 use types.Kit.{Given, ‵, raw, _⊛_, ⋆, some, later, _$_, _∵_, !, qed, by, move, keep, drop, use0, use1, split, join, pick, rewrite, fsplit, fsplit3, fjoin, fjoin3, feqI, check, suffices, frame, await, updating, now as at-once, done}
 use types.Run.{look, look-raw, init, store-raw, forget, stop, hop, fld, from, load, and-then, no-more, of-opd, assigns, land, returns, enter, alloc1, alloc0, params1, pass1, pass0, free1, free0}
 use types.Part.{whole, sub, look-in}
-use sound.WpLaws.{FmC, fmOf, WpFn-mono}
+use sound.WpLaws.{FmC}
 use denote.RattleType.{owns}
 use denote.Laws.{Is, shows}
 use denote.Plain.{uint-vals, uint-tells, uint-makes}
@@ -36,16 +36,16 @@ use denote.Triple.Statement.{Contract, Triple}
 use denote.Triple.Call.{calls-at}
 use denote.Triple.Clauses.{ensured, lasts}
 use denote.Triple.Entry.{onEntry}
-use denote.Triple.Spec.{Meets, tripleOf}
+use denote.Triple.Spec.{tripleOf}
 use denote.Triple.Table.{entered, cited}
-use denote.Triple.Walked.{says, Stays, stay-ref, stay-none, walkOf, AllGo, goes-none, goes-ref, Walks, ends-at, walked, walk-meets}
+use denote.Triple.Walked.{says, Stays, stay-ref, stay-none, walkOf, AllGo, goes-none, goes-ref, Walks, ends-at, walked}
 use denote.Exit.{yes}
 use Rattle.p3p_common.specs.RefineDepths.{refineDepths}
 use Rattle.linalg.specs.declared.vector3.Vector3.{Vector3}
 use Rattle.p3p_common.specs.declared.refine_depths.Refined.{Refined}
-use Rattle.refine_in_place.proofs.Loan.{Row, val, Fit, Mir, ref, Held, returned, typed, had, opens-lent, closes-lent}
+use Rattle.refine_in_place.proofs.Loan.{meets, Row, val, Fit, Mir, ref, Held, returned, typed, had, opens-lent, closes-lent}
 use Rattle.refine_in_place.proofs.Structs.{VectorS, EdgesS, CosinesS, RefinedS, depths-fit, updates-fit}
-use Rattle.refine_in_place.proofs.Others.{Others, Args as OtherArgs, args as others, of, vals, rows, had-others}
+use Rattle.refine_in_place.proofs.Others.{Others, Args as OtherArgs, args as others, of, vals, rows, spelt, tells, stayed as others-stayed, gone as others-gone, had-others}
 use Rattle.p3p_common.proofs.refine_depths.refine_depths as core
 use Rattle.p3p_common.proofs.refine_depths.refine_depths.Symbol as core-def
 use Rattle.p3p_common.proofs.refine_depths.refine_depths.Symbol.{name as #core}
@@ -57,7 +57,7 @@ use Rattle.refine_in_place.proofs.refine_depths_in_place.Code as code
 
 -- what the function still has of each parameter at exit: the `&mut`, still owned, and plain data, of which nothing is said
 abbrev stayed : Stays (f.ended .signature .params) (f.ended .kept)
-stayed = (stay-ref (0 ∷ []) tt (plain (λ _. Row VectorS)), (stay-none (λ _. Row EdgesS) yes, (stay-none (λ _. Row CosinesS) yes, (stay-none (λ _. u32) yes, tt))))
+stayed = (stay-ref (0 ∷ []) tt (plain (λ _. Row VectorS)), others-stayed 1)
 
 -- the contract of `refine_depths`, which the proof cites
 abbrev Core : {M : Type 1} (𝓤 : URA M) (H : Heap 𝓤) (A : Atoms 𝓤) (mem : Memory → SProp 𝓤) (run : Routine → Fun 𝓤) → Contract 𝓤
@@ -169,32 +169,24 @@ module _ {M : Type 1} (𝓤 : URA M) (H : Heap 𝓤) (A : Atoms 𝓤) (W : Given
         move ! (7 ∷ 8 ∷ []) $ free1 ! $ move ! (5 ∷ 6 ∷ []) $ free1 ! $ move ! (3 ∷ 4 ∷ []) $ free1 ! $ free0 ! $
         by ! (exits (ret .1)))))))))))))
 
--- ---- from the walk to the contract: the same for every function, but for the names, the parameters' types and the callees
+-- ---- from the walk to the contract
 module _ {M : Type 1} (𝓤 : URA M) (H : Heap 𝓤) (A : Atoms 𝓤) (W : Given 𝓤 H A) (mem : Memory → SProp 𝓤) (run : Routine → Fun 𝓤) where
   in-place-walks : (C : Calls 𝓤 H) (Λ : Loops 𝓤 H) → FmC 𝓤 H (W .laws) C → Triple 𝓤 (C #core) (Core 𝓤 H A mem run) → Walks 𝓤 H A f.ended stayed (WpFn 𝓤 H C Λ code.function) (f.clauses 𝓤 H A mem run)
   in-place-walks C Λ fm known =
       walked 𝓤 H A f.ended stayed (f.clauses 𝓤 H A mem run) (WpFn 𝓤 H C Λ code.function)
-      (λ κs. (ptr-vals, (LL.vals (EdgesS .type) (EdgesS .laws), (LL.vals (CosinesS .type) (CosinesS .laws), (uint-vals w32, tt)))))
-      (λ κs. (mut-tells (named 0) (κs .0) (Row VectorS), (LL.tells (EdgesS .type) (EdgesS .laws), (LL.tells (CosinesS .type) (CosinesS .laws), (uint-tells w32, tt)))))
+      (λ κs. (ptr-vals, spelt))
+      (λ κs. (mut-tells (named 0) (κs .0) (Row VectorS), tells))
       (λ κs qs bounds x _ are. via 𝓤 _ (fst∗ 𝓤 _ (emp 𝓤))
       (walk 𝓤 H A W mem run (κs .0) (qs .0) (x .0 .ptr .0) (x .0 .ptr .1) (x .0 .name) (x .0 .now) (of (x .1) (are .1)) C Λ fm known))
 
   gone : AllGo 𝓤 H A W 1 (f.signature .params) (f.ended .kept) stayed
-  gone = (
-    goes-ref 𝓤 H A W 1 0 tt (plain (λ _. Row VectorS)),
-    (goes-none 𝓤 H A W 1 (λ _. Row EdgesS) yes (λ κs x f. refl), (goes-none 𝓤 H A W 1 (λ _. Row CosinesS) yes (λ κs x f. refl), (goes-none 𝓤 H A W 1 (λ _. u32) yes (λ κs x f. refl), tt))),
-  )
-
-in-place-meets : {M : Type 1} (𝓤 : URA M) (H : Heap 𝓤) (A : Atoms 𝓤) → Given 𝓤 H A → (mem : Memory → SProp 𝓤) (run : Routine → Fun 𝓤) (𝓣 : Tables 𝓤 H)
-    → Triple 𝓤 (𝓣 .C #core) (Core 𝓤 H A mem run) → Meets 𝓤 H A f.signature (WpFn 𝓤 H (𝓣 .C) (𝓣 .Λ) code.function) (f.spec 𝓤 H A mem run)
-in-place-meets 𝓤 H A W mem run 𝓣 known =
-    walk-meets 𝓤 H A f.ended stayed W (gone 𝓤 H A W mem run) (f.clauses 𝓤 H A mem run) (WpFn 𝓤 H (𝓣 .C) (𝓣 .Λ) code.function) (WpFn-mono 𝓤 H (W .laws) 𝓣 code.function)
-    (in-place-walks 𝓤 H A W mem run (𝓣 .C) (𝓣 .Λ) (fmOf 𝓤 H (W .laws) 𝓣) known)
+  gone = (goes-ref 𝓤 H A W 1 0 tt (plain (λ _. Row VectorS)), others-gone 1 𝓤 H A W)
 
 pub refine-depths-in-place-spec : {M : Type 1} → stated.statement M
 unfolding code.routine tablesOf
 refine-depths-in-place-spec 𝓤 H 𝓜 𝓖 𝓡 =
     entered 𝓤 H (tripleOf 𝓤 H (𝓖 .A) f.signature (f.spec 𝓤 H (𝓖 .A) (𝓜 .mem) (𝓡 .run)))
     (tables 𝓤 H 𝓜 𝓡 code.env .C) (tables 𝓤 H 𝓜 𝓡 code.env .Λ) #in-place code.function (code.unfolded 𝓤 H 𝓜 𝓡)
-    (in-place-meets 𝓤 H (𝓖 .A) (givenOf 𝓤 H 𝓜 𝓖) (𝓜 .mem) (𝓡 .run) (tablesOf 𝓤 H 𝓜 (tables 𝓤 H 𝓜 𝓡 code.env))
+    (meets 𝓤 H (𝓖 .A) (givenOf 𝓤 H 𝓜 𝓖) f.ended stayed (gone 𝓤 H (𝓖 .A) (givenOf 𝓤 H 𝓜 𝓖) (𝓜 .mem) (𝓡 .run)) (f.clauses 𝓤 H (𝓖 .A) (𝓜 .mem) (𝓡 .run)) code.function
+    #core (Core 𝓤 H (𝓖 .A) (𝓜 .mem) (𝓡 .run)) (in-place-walks 𝓤 H (𝓖 .A) (givenOf 𝓤 H 𝓜 𝓖) (𝓜 .mem) (𝓡 .run)) (tablesOf 𝓤 H 𝓜 (tables 𝓤 H 𝓜 𝓡 code.env))
     (cited 𝓤 H (Core 𝓤 H (𝓖 .A) (𝓜 .mem) (𝓡 .run)) 𝓜 𝓡 code.env #core core-def.routine code.calls-p3p-common·refine-depths·refine-depths (core-thm.met 𝓤 H 𝓜 𝓖 𝓡)))
