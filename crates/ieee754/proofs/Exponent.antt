@@ -2,10 +2,10 @@
 use Prim.Native.Nat.{ℕ, zero, suc, _+_, _-_, _*_, _/_, _%_, _^_, _≤_, _<_}
 use mathlib.Core.Path.{_≡_, sym, ap, _∙_, subst}
 use mathlib.Core.Bool.{Bool}
-use native.Mathlib.Nat.{le-trans, le-of-eq, lt-of-lt-of-le, mul-assoc, mul-comm, mul-left-comm, mul-le-mul-right, le-mul-of-pos-right, mul-pos, eq-of-mul-eq-mul-right, mod-lt, mod-eq-of-lt, div-add-mod, pow-zero, pow-suc, pow-succ'}
+use native.Mathlib.Nat.{le-trans, le-of-eq, lt-of-lt-of-le, mul-assoc, mul-comm, mul-left-comm, mul-le-mul-right, le-mul-of-pos-right, mul-pos, eq-of-mul-eq-mul-right, mod-lt, div-add-mod, pow-zero, pow-suc, pow-succ'}
 use native.Mathlib.Omega.{arith}
 use lib.Dec.{lit<}
-use lib.Pow.{pow-add, pow-pos, pow-mono, shl-lt}
+use lib.Pow.{pow-add, pow-pos, pow-mono, shl-lt, shl-exact}
 use lib.Ieee.{Float, binary64, units}
 use lib.Ieee.Exact.{HasValue}
 use Rattle.ieee754.specs.Root.{roundRoot}
@@ -19,16 +19,16 @@ use Rattle.ieee754.proofs.Reading.{times}
 moved : (p m t : ℕ) → 2 ^ 52 ≤ m → m < 2 ^ 53 → t < p → (2 ^ 52 ≤ m * 2 ^ t) × (m * 2 ^ t < 2 ^ (52 + p))
 moved p m t l h o = (le-trans l (le-mul-of-pos-right m (pow-pos t)), lt-of-lt-of-le (shl-lt 53 t h) (pow-mono (omega arith)))
 
-kept : (p m t : ℕ) → 2 ^ 52 ≤ m → m < 2 ^ 53 → t < p → p ≤ 12 → m * 2 ^ t % 2 ^ 64 ≡ m * 2 ^ t
-kept p m t l h o w = mod-eq-of-lt (lt-of-lt-of-le (moved p m t l h o .1) (pow-mono {j = 64} (omega arith)))
-
 -- so in a word it loses no digit
 module _ (p m t : ℕ) (low : 2 ^ 52 ≤ m) (high : m < 2 ^ 53) (less : t < p) (room : p ≤ 12) where
+  exact : m * 2 ^ t % 2 ^ 64 ≡ m * 2 ^ t
+  exact = shl-exact 53 t 64 high (omega arith)
+
   pub moved-range : let n = m * 2 ^ t % 2 ^ 64 in (2 ^ 52 ≤ n) × (n < 2 ^ (52 + p))
-  moved-range = subst (λ (n : ℕ). (2 ^ 52 ≤ n) × (n < 2 ^ (52 + p))) (sym (kept p m t low high less room)) (moved p m t low high less)
+  moved-range = subst (λ (n : ℕ). (2 ^ 52 ≤ n) × (n < 2 ^ (52 + p))) (sym exact) (moved p m t low high less)
 
   pub moved-nearest : {q : ℕ} → IsNearest p (m * 2 ^ t % 2 ^ 64 * 2 ^ (52 * (p - 1))) q → IsNearest p (m * 2 ^ t * 2 ^ (52 * (p - 1))) q
-  moved-nearest {q} h = subst (λ (n : ℕ). IsNearest p (n * 2 ^ (52 * (p - 1))) q) (kept p m t low high less room) h
+  moved-nearest {q} h = subst (λ (n : ℕ). IsNearest p (n * 2 ^ (52 * (p - 1))) q) exact h
 
 -- times 2 ^ (52 * (p - 1)) it has as many digits as makes 53 digits of its root
 digits-ge : (p n : ℕ) → 0 < p → 2 ^ 52 ≤ n → 2 ^ (p * 52) ≤ n * 2 ^ (52 * (p - 1))

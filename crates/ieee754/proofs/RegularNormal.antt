@@ -6,14 +6,13 @@ use Prim.Native.Nat.{ℕ, zero, suc, _+_, _-_, _*_, _/_, _^_, _≤_, _<_, compar
 use native.Mathlib.Nat.{zero-lt-suc, le-trans, le-of-eq, lt-of-le-of-lt, lt-of-lt-of-le, mul-assoc, mul-pos, mul-le-mul-left, mul-le-mul-right, mul-lt-mul-of-pos-right, lt-of-mul-lt-mul-right, le-of-mul-le-mul-right, le-mul-of-pos-right, one-mul}
 use native.Mathlib.Omega.{arith}
 use mathlib.Core.Bool.{Bool, true, false, cond, _&&_, _||_, Bool·beq, true≢false}
-use lib.Dec.{T, leb, ltb, eqb, leb→le, le→leb, lt→ltb, lit≤, eqb·suc-zero}
+use lib.Dec.{T, leb, ltb, eqb, leb→le, le→leb, lit≤, eqb·suc-zero}
 use lib.Pow.{pow-add, pow-pos, pow-mono}
 use lib.Ieee.{Float, nan, inf, fin, binary64, up, down, odd, units, round, sum, neg, add, sub, mul, div, lt, ofBits, unlike}
 use lib.Ieee.Fits.{down-pos, up-pos, and-r}
 use lib.Ieee.Exact.{HasValue, odd-sign}
 use lib.Ieee.Nearest.{nearest-ge}
-use lib.Ieee.Bits.{is-true}
-use borrow.Author.Tests.{le-ltb}
+use borrow.Author.Tests.{lt-ltb, le-ltb}
 use Rattle.ieee754.specs.Literal.{double, minPositive}
 use Rattle.ieee754.specs.Root.{root, roundRoot, sqrt, cbrt}
 use Rattle.ieee754.specs.Fma.{fma}
@@ -184,7 +183,7 @@ unfolding lt ofBits
 above-min (fin true m e) w v h = absurd (true≢false (v .0))
 above-min (fin false m e) w v h =
     let more : 1 * down e < m * up e * 2 ^ 1022 = lt-of-le-of-lt (le-of-eq (one-mul (down e))) (value-gt (down e) (m * up e) (2 ^ 1022) (2 ^ 52) (2 ^ 1074) w (down-pos e) refl (v .1) h) in
-    is-true (ltb (1 * down e) (m * up e * 2 ^ 1022)) (lt→ltb (1 * down e) (m * up e * 2 ^ 1022) more)
+    lt-ltb (1 * down e) (m * up e * 2 ^ 1022) more
 
 units-above : (q k : ℕ) → 2 ^ 52 < q * 2 ^ k → lt minPositive (units binary64 false q k) ≡ true
 unfolding units
@@ -220,7 +219,7 @@ sqrt-above (fin false (suc m) e) r =
     let one : 1 ≤ q = le-trans (pow-pos 52) (keep-least 2 (zero-lt-suc 1) a c (down-pos e) least2) in
     let root : lt minPositive (roundRoot 2 binary64 false a c) ≡ true =
     ap (λ (x : Float). lt minPositive x) (roundRoot-is 2 binary64 false a c) ∙ units-above q k (enough (part 2 a c) q (2 ^ k) (2 ^ 563) (2 ^ 52) far (keep-ge 2 (zero-lt-suc 1) a c (down-pos e) least2) one (lit≤ tt)) in
-    root ∙ sym (is-true (ltb (0 * down e) (a * 1)) (lt→ltb (0 * down e) (a * 1) (some (down e) a (mul-pos (zero-lt-suc m) (up-pos e)))))
+    root ∙ sym (lt-ltb (0 * down e) (a * 1) (some (down e) a (mul-pos (zero-lt-suc m) (up-pos e))))
   where
     times : (c a x y z : ℕ) → x * y ≡ z → c ≤ a * x → y * c ≤ a * z
     times c a x y z e h = omega (arith, mul-le-mul-right y h, ap (λ (w : ℕ). a * w) e)

@@ -3,7 +3,7 @@
 use mathlib.Core.Path.{_≡_, refl, sym, ap, _∙_, subst}
 use mathlib.Core.Logic.{⊎-elim}
 use Prim.Native.Nat.{ℕ, zero, suc, _+_, _-_, _*_, _^_, _≤_, _<_, compare, Ordering, Ordering·lt, Ordering·eq, Ordering·gt}
-use native.Mathlib.Nat.{le-trans, le-of-eq, le-of-lt, lt-of-lt-of-le, lt-of-le-of-lt, not-le-of-lt, zero-lt-suc, mul-one, mul-assoc, mul-left-comm, mul-pos, mul-le-mul-right, mul-lt-mul-of-pos-right, lt-irrefl, one-le-pow, lt-of-mul-lt-mul-right, eq-of-mul-eq-mul-right, pow-suc, pow-le-pow-left, pow-lt-pow-left, one-mul}
+use native.Mathlib.Nat.{le-trans, le-of-eq, le-of-lt, lt-of-lt-of-le, lt-of-le-of-lt, not-le-of-lt, zero-lt-suc, sub-add-cancel, mul-one, mul-assoc, mul-left-comm, mul-pos, mul-le-mul-right, mul-lt-mul-of-pos-right, lt-irrefl, one-le-pow, lt-of-mul-lt-mul-right, eq-of-mul-eq-mul-right, pow-suc, pow-le-pow-left, pow-lt-pow-left, one-mul}
 use native.Mathlib.Omega.{arith}
 use mathlib.Core.Bool.{Bool, true, false}
 use lib.IntN.{ℤ, pos, negsuc}
@@ -39,9 +39,6 @@ pub record NearestRoot (p : ℕ) (s : Bool) (a c : ℕ) (x : Float) : Type 0 whe
   pub value : HasValue x s magnitude (2 ^ 1074)
   pub nearer : (y : Float) (t : Bool) (b : ℕ) → T (fits binary64 y) → HasValue y t b (2 ^ 1074) → Nearer p a c magnitude b
 
-rest : (x y : ℕ) → x ≤ y → y ≡ y - x + x
-rest x y h = omega arith
-
 -- ---- a double is m * 2 ^ i smallest values, with m of 53 digits at most. So from 2 ^ (52 + k) of them on it is a multiple of 2 ^ k.
 pub record Whole (b : ℕ) : Type 0 where
   pub digits : ℕ
@@ -64,7 +61,7 @@ double-whole (fin s (suc m) (negsuc j)) t b F v =
     let h = fits-parts s m (negsuc j) F in
     let few : suc j ≤ 1074 = le-exponent (suc j) 1074 (h .lowest) in
     let i = 1074 - suc j in
-    let split : 2 ^ 1074 ≡ 2 ^ i * 2 ^ suc j = ap (λ (x : ℕ). 2 ^ x) (rest (suc j) 1074 few) ∙ pow-add 2 i (suc j) in
+    let split : 2 ^ 1074 ≡ 2 ^ i * 2 ^ suc j = ap (λ (x : ℕ). 2 ^ x) (sym (sub-add-cancel few)) ∙ pow-add 2 i (suc j) in
     record {
       digits = suc m;
       exponent = i;
@@ -82,7 +79,8 @@ module _ (k w : ℕ) (W : 2 ^ 52 ≤ w) (b : ℕ) (B : Whole b) where
       let i = B .exponent in
       let under : 2 ^ (52 + k) < 2 ^ (53 + i) = lt-of-le-of-lt (le-trans (le-of-eq (pow-add 2 52 k)) (le-trans h (le-of-eq (B .is)))) (lt-of-lt-of-le (mul-lt-mul-of-pos-right (B .short) (pow-pos i)) (le-of-eq (sym (pow-add 2 53 i)))) in
       let reach : 52 + k < 53 + i = ⊎-elim (λ (l : 52 + k < 53 + i). l) (λ (g : 53 + i ≤ 52 + k). absurd (not-le-of-lt under (pow-mono g))) (lt-or-ge (52 + k) (53 + i)) in
-      let split : 2 ^ i ≡ 2 ^ (i - k) * 2 ^ k = ap (λ (x : ℕ). 2 ^ x) (rest k i (omega (arith, reach))) ∙ pow-add 2 (i - k) k in
+      let few : k ≤ i = omega (arith, reach) in
+      let split : 2 ^ i ≡ 2 ^ (i - k) * 2 ^ k = ap (λ (x : ℕ). 2 ^ x) (sym (sub-add-cancel few)) ∙ pow-add 2 (i - k) k in
       (m * 2 ^ (i - k), B .is ∙ ap (λ (x : ℕ). m * x) split ∙ sym (mul-assoc m (2 ^ (i - k)) (2 ^ k)))
 
   -- no double lies strictly between w and w + 1 times 2 ^ k

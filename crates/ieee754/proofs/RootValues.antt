@@ -80,15 +80,18 @@ no-zero e a c A h = omega (arith, h, mul-pos A (down-pos e))
 no-digits : (m : ℕ) (e : ℤ) (a c : ℕ) → a ≡ 0 → 0 < c → suc m * up e * c ≡ a * down e → ⊥
 no-digits m e a c A C h = omega (arith, h, ap (λ (x : ℕ). x * down e) A, mul-pos (mul-pos (zero-lt-suc m) (up-pos e)) C)
 
+-- what gives back each zero gives back a value of 0
+by-zero : (op : Float → Float) → ((t : Bool) (e : ℤ) → fin t zero e ≡ op (fin t zero e)) → (x : Float) (s : Bool) (a c : ℕ) → a ≡ 0 → 0 < c → HasValue x s a c → x ≡ op x
+by-zero op z (fin t zero e) s a c A C v = z t e
+by-zero op z (fin t (suc m) e) s a c A C v = absurd (no-digits m e a c A C (v .1))
+
 pub sqrt-zero : (x : Float) (s : Bool) (a c : ℕ) → a ≡ 0 → 0 < c → HasValue x s a c → x ≡ sqrt x
 unfolding sqrt
-sqrt-zero (fin t zero e) s a c A C v = refl
-sqrt-zero (fin t (suc m) e) s a c A C v = absurd (no-digits m e a c A C (v .1))
+sqrt-zero = by-zero sqrt (λ t e. refl)
 
 pub cbrt-zero : (x : Float) (s : Bool) (a c : ℕ) → a ≡ 0 → 0 < c → HasValue x s a c → x ≡ cbrt x
 unfolding cbrt
-cbrt-zero (fin t zero e) s a c A C v = refl
-cbrt-zero (fin t (suc m) e) s a c A C v = absurd (no-digits m e a c A C (v .1))
+cbrt-zero = by-zero cbrt (λ t e. refl)
 
 pub sqrt-of : (x : Float) (a c : ℕ) → 0 < a → 0 < c → HasValue x false a c → sqrt x ≡ roundRoot 2 binary64 false a c
 unfolding sqrt

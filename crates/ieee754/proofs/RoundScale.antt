@@ -7,7 +7,7 @@ use native.Mathlib.Nat.{lt-irrefl, zero-lt-suc, le-trans, le-of-eq, add-zero, ad
 use native.Mathlib.Omega.{arith}
 use mathlib.Core.Bool.{Bool, true, false, _&&_, _||_}
 use lib.IntN.{ℤ, pos, negsuc, _+ℤ_, _*ℤ_, +ℤ-assoc, +ℤ-idr, +ℤ-invr}
-use lib.Dec.{T, leb, ltb, eqb, leb→le, ltb→lt, lt→ltb, eqb→eq}
+use lib.Dec.{T, leb, ltb, eqb, leb→le, ltb→lt, eqb→eq}
 use lib.Pow.{pow-add, pow-pos, pow-mono}
 use lib.Count.{trailingZeros}
 use lib.Ieee.{Float, nan, inf, fin, Format, binary64, prec, up, down, minus, nearest, odd, units, round}
@@ -15,7 +15,8 @@ use lib.Ieee.Digits.{odd-val}
 use lib.Ieee.Fits.{down-pos}
 use lib.Ieee.Exact.{HasValue}
 use lib.Ieee.Nearest.{div-same}
-use lib.Ieee.Bits.{is-true}
+use lib.Ieee.Positive.{first-pos}
+use borrow.Author.Tests.{lt-ltb}
 use Rattle.ieee754.specs.Root.{root, roundRoot}
 use Rattle.ieee754.specs.Traced.{inRange}
 use Rattle.ieee754.specs.Scaling.{scale, moved}
@@ -92,10 +93,6 @@ moved-is : (t : ℤ) (m : ℕ) (e : ℤ) → 0 < m → moved t m e ≡ e +ℤ t
 moved-is t zero e h = absurd (lt-irrefl 0 h)
 moved-is t (suc m) e h = refl
 
-first-pos : (m x y : ℕ) → m * x ≡ y → 0 < y → 0 < m
-first-pos zero x y h p = omega arith
-first-pos (suc m) x y h p = zero-lt-suc m
-
 odd-scale : (d : ℕ) (s : Bool) (q k l t : ℕ) → odd d s q (k + t) l ≡ scale (pos t) (odd d s q k l)
 unfolding odd scale
 odd-scale d s zero k l t = refl
@@ -103,13 +100,13 @@ odd-scale d s (suc q) k l t =
     let z = trailingZeros d (suc q) in
     let m = suc q / 2 ^ z in
     let e = minus (k + z) l in
-    let M : 0 < m = first-pos m (up e * 2 ^ l) (suc q * 2 ^ k * down e) (sym (mul-assoc m (up e) (2 ^ l)) ∙ odd-val d s (suc q) k l) (mul-pos (mul-pos (zero-lt-suc q) (pow-pos k)) (down-pos e)) in
+    let M : 0 < m = first-pos m (up e) (first-pos (m * up e) (2 ^ l) (subst (λ (x : ℕ). 0 < x) (sym (odd-val d s (suc q) k l)) (mul-pos (mul-pos (zero-lt-suc q) (pow-pos k)) (down-pos e)))) in
     ap (λ (x : ℤ). fin s m x) (ap (λ (x : ℕ). minus x l) (add-right-comm k t z) ∙ minus-add (k + z) t l ∙ sym (moved-is (pos t) m e M))
 
 -- ---- in range, `roundRoot` hands `odd` what it keeps
 pub units-odd : (s : Bool) (q k : ℕ) → q * 2 ^ k < 2 ^ 2098 → units binary64 s q k ≡ odd 54 s q k 1074
 unfolding units
-units-odd s q k h = rw (is-true (ltb (q * 2 ^ k) (2 ^ 2098)) (lt→ltb (q * 2 ^ k) (2 ^ 2098) h))
+units-odd s q k h = rw (lt-ltb (q * 2 ^ k) (2 ^ 2098) h)
 
 -- the range's two ends, in units
 most-units : (p a c M : ℕ) → a < c * M ^ p → a * 2 ^ (p * 1074) < c * (M * 2 ^ 1074) ^ p

@@ -3,7 +3,7 @@
 use mathlib.Core.Path.{_≡_, refl, sym, ap, ap₂, _∙_, subst}
 use mathlib.Core.Logic.{⊎-elim}
 use Prim.Native.Nat.{ℕ, suc, _+_, _-_, _*_, _/_, _%_, _^_, _≤_, _<_}
-use native.Mathlib.Nat.{le-of-lt, add-comm, add-mul, suc-mul, mul-assoc, mul-le-mul-right, mul-comm, mul-sub, mul-mod-left, mul-add-mod-self-right, zero-mod, pow-succ', div-add-mod'}
+use native.Mathlib.Nat.{le-of-lt, add-comm, add-mul, suc-mul, mul-assoc, mul-le-mul-right, mul-comm, mul-sub, mul-mod-left, mul-add-mod-self-right, zero-mod, pow-succ', dvd-of-mod-eq-zero, div-mul-cancel}
 use native.Mathlib.Omega.{arith}
 use mathlib.Core.Bool.{Bool, true, false, _&&_, Bool·beq, cond, and-true}
 use lib.Dec.{ltb}
@@ -67,9 +67,6 @@ pub data Apart (f : Format) (u e k p a : ℕ) : Type 0 where
 multiples : (a b G : ℕ) → (a * G - b * G) % G ≡ 0
 multiples a b G = ap (λ (x : ℕ). x % G) (sym (sub-mul a b G)) ∙ mul-mod-left (a - b) G
 
-multiple : (n G : ℕ) → n % G ≡ 0 → n / G * G ≡ n
-multiple n G h = omega (arith, div-add-mod' n G)
-
 -- so enough is kept in the sum, and in the difference either way round
 kept-add : (f : Format) (u e k p a : ℕ) → Apart f u e k p a → Kept f u e k (a * 2 ^ suc k + p)
 kept-add f u e k p a (fine h) = Kept.fine h
@@ -78,12 +75,12 @@ kept-add f u e k p a (far h) = Kept.long (omega (arith, jam-add k a p))
 
 kept-from : (f : Format) (u e k p a : ℕ) → Apart f u e k p a → Kept f u e k (a * 2 ^ suc k - p)
 kept-from f u e k p a (fine h) = Kept.fine h
-kept-from f u e k p a (exact h) = Kept.exact (subst (λ (x : ℕ). (a * 2 ^ suc k - x) % 2 ^ suc k ≡ 0) (multiple p (2 ^ suc k) h) (multiples a (p / 2 ^ suc k) (2 ^ suc k)))
+kept-from f u e k p a (exact h) = Kept.exact (subst (λ (x : ℕ). (a * 2 ^ suc k - x) % 2 ^ suc k ≡ 0) (div-mul-cancel (2 ^ suc k) (dvd-of-mod-eq-zero (2 ^ suc k) h)) (multiples a (p / 2 ^ suc k) (2 ^ suc k)))
 kept-from f u e k p a (far h) = Kept.long (omega (arith, jam-from k a p))
 
 kept-off : (f : Format) (u e k p a : ℕ) → Apart f u e k p a → Kept f u e k (p - a * 2 ^ suc k)
 kept-off f u e k p a (fine h) = Kept.fine h
-kept-off f u e k p a (exact h) = Kept.exact (subst (λ (x : ℕ). (x - a * 2 ^ suc k) % 2 ^ suc k ≡ 0) (multiple p (2 ^ suc k) h) (multiples (p / 2 ^ suc k) a (2 ^ suc k)))
+kept-off f u e k p a (exact h) = Kept.exact (subst (λ (x : ℕ). (x - a * 2 ^ suc k) % 2 ^ suc k ≡ 0) (div-mul-cancel (2 ^ suc k) (dvd-of-mod-eq-zero (2 ^ suc k) h)) (multiples (p / 2 ^ suc k) a (2 ^ suc k)))
 kept-off f u e k p a (far h) =
     let l = jam-below k a p .1 (omega (arith, pow-pos (suc (prec f)))) in
     Kept.exact (ap (λ (x : ℕ). x % 2 ^ suc k) (omega arith) ∙ zero-mod (2 ^ suc k))
