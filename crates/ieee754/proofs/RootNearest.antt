@@ -3,12 +3,12 @@
 use mathlib.Core.Path.{_≡_, refl, sym, ap, _∙_, subst}
 use mathlib.Core.Logic.{⊎-elim}
 use Prim.Native.Nat.{ℕ, zero, suc, _+_, _-_, _*_, _^_, _≤_, _<_, compare, Ordering, Ordering·lt, Ordering·eq, Ordering·gt}
-use native.Mathlib.Nat.{le-trans, le-of-eq, le-of-lt, lt-of-lt-of-le, lt-of-le-of-lt, not-le-of-lt, zero-lt-suc, sub-add-cancel, mul-one, mul-assoc, mul-left-comm, mul-pos, mul-le-mul-right, mul-lt-mul-of-pos-right, lt-irrefl, one-le-pow, lt-of-mul-lt-mul-right, eq-of-mul-eq-mul-right, pow-suc, pow-le-pow-left, pow-lt-pow-left, one-mul}
+use native.Mathlib.Nat.{le-trans, le-of-eq, le-of-lt, lt-of-lt-of-le, lt-of-le-of-lt, not-le-of-lt, zero-lt-suc, lt-suc-self, le-of-suc-le-suc, sub-add-cancel, mul-one, mul-assoc, mul-left-comm, mul-pos, mul-le-mul-right, mul-lt-mul-of-pos-right, lt-irrefl, one-le-pow, lt-of-mul-lt-mul-right, eq-of-mul-eq-mul-right, pow-suc, pow-le-pow-left, pow-lt-pow-left, one-mul}
 use native.Mathlib.Omega.{arith}
 use mathlib.Core.Bool.{Bool, true, false}
 use lib.IntN.{ℤ, pos, negsuc}
 use lib.Dec.{T}
-use lib.Pow.{pow-add, pow-pos, pow-mono, pow-lt}
+use lib.Pow.{pow-add, pow-pos, pow-lt, shl-lt}
 use lib.Ieee.{Float, nan, inf, fin, binary64, up, down, nearest, odd, fits}
 use lib.Ieee.Fits.{up-pos, down-pos}
 use lib.Ieee.Exact.{HasValue, odd-sign}
@@ -18,7 +18,7 @@ use Rattle.ieee754.specs.CopySign.{negative}
 use Rattle.ieee754.specs.Root.{roundRoot, sqrt, cbrt}
 use Rattle.ieee754.specs.Traced.{inRange, sqrtRegular, cbrtRegular}
 use Rattle.ieee754.proofs.Order.{lt-or-ge}
-use Rattle.ieee754.proofs.Sizes.{shl-shl}
+use Rattle.ieee754.proofs.Sizes.{shl-shl, exponent-lt}
 use Rattle.ieee754.proofs.Exponent.{odd-pow}
 use Rattle.ieee754.proofs.RootLaws.{Compared, compared, dropped-drops, root-whole}
 use Rattle.ieee754.proofs.RoundScale.{Normal, zero-or-normal, raised, drop, keep, roundRoot-odd}
@@ -59,7 +59,7 @@ double-whole (fin s (suc m) (pos j)) t b F v = record {
 }
 double-whole (fin s (suc m) (negsuc j)) t b F v =
     let h = fits-parts s m (negsuc j) F in
-    let few : suc j ≤ 1074 = le-exponent (suc j) 1074 (h .lowest) in
+    let few : suc j ≤ 1074 = le-of-suc-le-suc (exponent-lt (suc j) 1075 (h .lowest) (pow-lt (lt-suc-self 1074))) in
     let i = 1074 - suc j in
     let split : 2 ^ 1074 ≡ 2 ^ i * 2 ^ suc j = ap (λ (x : ℕ). 2 ^ x) (sym (sub-add-cancel few)) ∙ pow-add 2 i (suc j) in
     record {
@@ -68,17 +68,13 @@ double-whole (fin s (suc m) (negsuc j)) t b F v =
       short = h .short;
       is = eq-of-mul-eq-mul-right (2 ^ suc j) (pow-pos (suc j)) b (suc m * 2 ^ i) (sym (v .1) ∙ ap (λ (x : ℕ). x * 2 ^ 1074) (mul-one (suc m)) ∙ ap (λ (x : ℕ). suc m * x) split ∙ sym (mul-assoc (suc m) (2 ^ i) (2 ^ suc j)));
     }
-  where
-    le-exponent : (i j : ℕ) → 2 ^ i ≤ 2 ^ j → i ≤ j
-    le-exponent i j h = ⊎-elim (λ (l : j < i). absurd (not-le-of-lt (pow-lt l) h)) (λ (g : i ≤ j). g) (lt-or-ge j i)
 
 module _ (k w : ℕ) (W : 2 ^ 52 ≤ w) (b : ℕ) (B : Whole b) where
   multiple : 2 ^ 52 * 2 ^ k ≤ b → (j : ℕ) × (b ≡ j * 2 ^ k)
   multiple h =
       let m = B .digits in
       let i = B .exponent in
-      let under : 2 ^ (52 + k) < 2 ^ (53 + i) = lt-of-le-of-lt (le-trans (le-of-eq (pow-add 2 52 k)) (le-trans h (le-of-eq (B .is)))) (lt-of-lt-of-le (mul-lt-mul-of-pos-right (B .short) (pow-pos i)) (le-of-eq (sym (pow-add 2 53 i)))) in
-      let reach : 52 + k < 53 + i = ⊎-elim (λ (l : 52 + k < 53 + i). l) (λ (g : 53 + i ≤ 52 + k). absurd (not-le-of-lt under (pow-mono g))) (lt-or-ge (52 + k) (53 + i)) in
+      let reach : 52 + k < 53 + i = exponent-lt (52 + k) (53 + i) (le-trans (le-of-eq (pow-add 2 52 k)) h) (lt-of-le-of-lt (le-of-eq (B .is)) (shl-lt 53 i (B .short))) in
       let few : k ≤ i = omega (arith, reach) in
       let split : 2 ^ i ≡ 2 ^ (i - k) * 2 ^ k = ap (λ (x : ℕ). 2 ^ x) (sym (sub-add-cancel few)) ∙ pow-add 2 (i - k) k in
       (m * 2 ^ (i - k), B .is ∙ ap (λ (x : ℕ). m * x) split ∙ sym (mul-assoc m (2 ^ (i - k)) (2 ^ k)))

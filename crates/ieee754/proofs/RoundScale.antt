@@ -3,7 +3,7 @@
 use mathlib.Core.Path.{_≡_, refl, sym, ap, _∙_, subst}
 use mathlib.Core.Logic.{_⊎_, inl, inr}
 use Prim.Native.Nat.{ℕ, zero, suc, _+_, _-_, _*_, _/_, _^_, _≤_, _<_, compare, Ordering}
-use native.Mathlib.Nat.{lt-irrefl, zero-lt-suc, le-trans, le-of-eq, add-zero, add-right-comm, lt-of-lt-of-le, lt-of-le-of-lt, lt-of-not-le, not-le-of-lt, mul-assoc, mul-comm, mul-left-comm, mul-right-comm, mul-add, mul-pos, mul-zero, zero-mul, one-le-pow, mul-le-mul-left, mul-le-mul-right, mul-lt-mul-of-pos-left, mul-lt-mul-of-pos-right, lt-of-mul-lt-mul-right, eq-of-mul-eq-mul-right, le-of-mul-le-mul-right}
+use native.Mathlib.Nat.{lt-irrefl, zero-lt-suc, le-refl, le-trans, le-of-eq, add-zero, add-right-comm, lt-of-lt-of-le, lt-of-le-of-lt, mul-assoc, mul-comm, mul-left-comm, mul-right-comm, mul-add, mul-pos, mul-zero, zero-mul, one-le-pow, mul-le-mul-left, mul-le-mul-right, mul-lt-mul-of-pos-left, mul-lt-mul-of-pos-right, lt-of-mul-lt-mul-right, eq-of-mul-eq-mul-right, le-of-mul-le-mul-right}
 use native.Mathlib.Omega.{arith}
 use mathlib.Core.Bool.{Bool, true, false, _&&_, _||_}
 use lib.IntN.{ℤ, pos, negsuc, _+ℤ_, _*ℤ_, +ℤ-assoc, +ℤ-idr, +ℤ-invr}
@@ -20,6 +20,7 @@ use borrow.Author.Tests.{lt-ltb}
 use Rattle.ieee754.specs.Root.{root, roundRoot}
 use Rattle.ieee754.specs.Traced.{inRange}
 use Rattle.ieee754.specs.Scaling.{scale, moved}
+use Rattle.ieee754.proofs.Sizes.{exponent-lt}
 use Rattle.ieee754.proofs.RootLaws.{mul-pow, pow-mul, pow-back, Drops, dropped, dropped-drops, drops-dropped, Near, roundRoot-is, chosen-near, root-whole}
 use Rattle.ieee754.proofs.Nearest.{compare-same, compared}
 use Rattle.ieee754.proofs.RootValues.{roundRoot-same, roundRoot-one}
@@ -52,7 +53,7 @@ module _ (p q k n c E W B j : ℕ) (most : n < c * E ^ p) (gap : 2 * E + W ≡ 2
       under = pow-back p c (2 ^ (52 + k)) E (lt-of-le-of-lt (le-trans (le-of-eq (ap (λ (x : ℕ). x * c) (pow-mul 2 (52 + k) p))) l) (lt-of-lt-of-le most (le-of-eq (mul-comm c (E ^ p)))))
 
       below : 52 + k < 52 + suc j
-      below = lt-of-not-le (λ (g : 52 + suc j ≤ 52 + k). not-le-of-lt under (le-trans (omega arith) (le-trans (le-of-eq (sym top)) (pow-mono g))))
+      below = exponent-lt (52 + k) (52 + suc j) (le-refl (2 ^ (52 + k))) (lt-of-lt-of-le under (le-trans (omega arith) (le-of-eq (sym top))))
 
   in-units : (2 * q - 1) ^ p * (c * 2 ^ (p * k)) ≤ 2 ^ p * n → (2 * q - 1) * 2 ^ k < 2 * E
   in-units h =
