@@ -18,9 +18,9 @@ use Rattle.ieee754.specs.Root.{root, roundRoot, sqrt, cbrt}
 use Rattle.ieee754.specs.Fma.{fma}
 use Rattle.ieee754.specs.Traced.{Traced, _⊕_, inRange, magnitude, addRegular, mulRegular, divRegular, fmaRegular, sqrtRegular, cbrtRegular}
 use Rattle.ieee754.proofs.Order.{or-right}
-use Rattle.ieee754.proofs.RootLaws.{mul-pow, pow-mul, pow-back, dropped-drops, root-whole, roundRoot-is}
+use Rattle.ieee754.proofs.RootLaws.{pow-shift, pow-back, dropped-drops, root-whole, roundRoot-is}
 use Rattle.ieee754.proofs.RootValues.{roundRoot-one}
-use Rattle.ieee754.proofs.RoundScale.{Normal, zero-or-normal, raised, least-units, drops-least, drop, keep, roundRoot-zero, roundRoot-odd}
+use Rattle.ieee754.proofs.RoundScale.{Normal, zero-or-normal, raised, least-units, drops-least, drop, keep, roundRoot-zero, roundRoot-value}
 
 -- zero, of magnitude 2 ^ -1022 at least, infinite or NaN
 abbrev pub zeroOrNormal : Float → Bool
@@ -33,7 +33,7 @@ whole-above : (p j n c k w : ℕ) → 2 ^ (p * j) * c ≤ n → 2 ^ p * n < (2 *
 whole-above p j n c k w h l = omega (arith, pow-back p c (2 * 2 ^ j) (2 * suc w * 2 ^ k) (lt-of-le-of-lt (le-trans (le-of-eq powers) (mul-le-mul-left (2 ^ p) h)) (lt-of-lt-of-le l (le-of-eq (raised p (2 * suc w) k c)))))
   where
     powers : (2 * 2 ^ j) ^ p * c ≡ 2 ^ p * (2 ^ (p * j) * c)
-    powers = ap (λ (x : ℕ). x * c) (mul-pow 2 (2 ^ j) p ∙ ap (λ (x : ℕ). 2 ^ p * x) (pow-mul 2 j p)) ∙ mul-assoc (2 ^ p) (2 ^ (p * j)) c
+    powers = ap (λ (x : ℕ). x * c) (sym (pow-shift p 2 j)) ∙ mul-assoc (2 ^ p) (2 ^ (p * j)) c
 
 -- the whole part of the root of a / c, in units of what is dropped
 abbrev pub part : ℕ → ℕ → ℕ → ℕ
@@ -85,8 +85,7 @@ roundRoot-normal p s a c P C r = go (zero-or-normal p a c r)
     go (inr N) =
         let q = keep p a c in
         let k = drop p a c in
-        subst (λ (x : Float). T (zeroOrNormal x)) (sym (roundRoot-odd p P s a c C N))
-        (value-normal (odd 54 s q k 1074) s (q * 2 ^ k) (odd-sign 54 s q k 1074) (le-trans (keep-least p P a c C (N .least)) (le-mul-of-pos-right q (pow-pos k))))
+        value-normal (roundRoot p binary64 s a c) s (q * 2 ^ k) (roundRoot-value p P s a c C N) (le-trans (keep-least p P a c C (N .least)) (le-mul-of-pos-right q (pow-pos k)))
 
 pub round-normal : (s : Bool) (a c : ℕ) → 0 < c → T (inRange 1 a c) → T (zeroOrNormal (round binary64 s a c))
 round-normal s a c C r = subst (λ (x : Float). T (zeroOrNormal x)) (roundRoot-one binary64 s a c C) (roundRoot-normal 1 s a c (zero-lt-suc 0) C r)

@@ -1,11 +1,11 @@
 -- What `roundRoot` of Root.antt means. For a reader there are two laws. `dropped-drops`: with the k digits that it drops, the root is below 2 ^ (prec + k)
--- units, and no less than 2 ^ (prec - 1 + k) unless k is 0, so 2 ^ k units is the step of the format's values there. `roundRoot-near`: the result is q such steps,
--- and the root is no further from that than half a step. For a proof there is one, `roundRoot-at`: how to meet `roundRoot`. Assumes nothing.
-use Prim.Native.Nat.{ℕ, zero, suc, _+_, _-_, _*_, _/_, _^_, _≤_, _<_, zero-le, compare, Ordering, Ordering·lt, Ordering·eq, Ordering·gt}
+-- units, and no less than 2 ^ (prec - 1 + k) unless k is 0, so 2 ^ k units is the step of the format's values there. `kept-near`: what is kept, which
+-- is the result in such steps (`roundRoot-is`), is no further from the root than half a step. For a proof there is one, `roundRoot-at`: how to meet `roundRoot`. Assumes nothing.
+use Prim.Native.Nat.{ℕ, zero, suc, _+_, _-_, _*_, _/_, _%_, _^_, _≤_, _<_, zero-le, compare, Ordering, Ordering·lt, Ordering·eq, Ordering·gt}
 use mathlib.Core.Path.{_≡_, refl, sym, ap, _∙_, subst}
 use mathlib.Core.Logic.{_⊎_, inl, inr}
 use mathlib.Core.Bool.{Bool, true, false, not, cond}
-use native.Mathlib.Nat.{le-trans, le-of-eq, le-of-lt, lt-trans, lt-of-lt-of-le, lt-of-le-of-lt, lt-of-not-le, not-le-of-lt, zero-add, mul-one, mul-comm, mul-assoc, mul-left-comm, mul-mul-mul-comm, mul-add, suc-mul, pow-zero, pow-suc, pow-le-pow-left, mul-pos, mul-le-mul-left, mul-le-mul-right, mul-lt-mul-of-pos-left, mul-lt-mul-of-pos-right, lt-of-mul-lt-mul-right, le-of-suc-le-suc, eq-zero-or-pos, div-lt-iff-lt-mul, le-div-iff-mul-le, lt-div-mul-add}
+use native.Mathlib.Nat.{le-trans, le-of-eq, le-of-lt, lt-trans, lt-of-lt-of-le, lt-of-le-of-lt, lt-of-not-le, not-le-of-lt, zero-add, mul-one, one-mul, mul-comm, mul-assoc, mul-left-comm, mul-mul-mul-comm, mul-add, suc-mul, pow-zero, pow-suc, pow-le-pow-left, mul-pos, mul-le-mul-left, mul-le-mul-right, mul-lt-mul-of-pos-left, mul-lt-mul-of-pos-right, lt-of-mul-lt-mul-right, le-of-suc-le-suc, eq-zero-or-pos, div-lt-iff-lt-mul, le-div-iff-mul-le, lt-div-mul-add}
 use native.Mathlib.Numerals.{add-one}
 use native.Mathlib.Omega.{arith}
 use lib.Dec.{T, leb, leb→le, nleb→lt}
@@ -20,6 +20,9 @@ use Rattle.ieee754.proofs.Sizes.{size-gt}
 
 -- ---- powers
 
+pub pow-one : (x : ℕ) → x ^ 1 ≡ x
+pow-one x = pow-suc x 0 ∙ ap (λ (y : ℕ). y * x) (pow-zero x) ∙ one-mul x
+
 pub mul-pow : (a b p : ℕ) → (a * b) ^ p ≡ a ^ p * b ^ p
 mul-pow a b zero = simp (pow-zero, mul-one)
 mul-pow a b (suc p) = simp (pow-suc, mul-pow a b p, mul-mul-mul-comm)
@@ -27,6 +30,18 @@ mul-pow a b (suc p) = simp (pow-suc, mul-pow a b p, mul-mul-mul-comm)
 pub pow-mul : (b k p : ℕ) → (b ^ k) ^ p ≡ b ^ (p * k)
 pow-mul b k zero = pow-zero (b ^ k) ∙ sym (ap (λ (x : ℕ). b ^ x) (omega arith) ∙ pow-zero b)
 pow-mul b k (suc p) = pow-suc (b ^ k) p ∙ ap (λ (x : ℕ). x * b ^ k) (pow-mul b k p) ∙ sym (pow-add b (p * k) k) ∙ ap (λ (x : ℕ). b ^ x) (sym (suc-mul p k))
+
+-- a power of a number moved up by k digits
+pub pow-shift : (p x k : ℕ) → x ^ p * 2 ^ (p * k) ≡ (x * 2 ^ k) ^ p
+pow-shift p x k = ap (λ (y : ℕ). x ^ p * y) (sym (pow-mul 2 k p)) ∙ sym (mul-pow x (2 ^ k) p)
+
+-- a power of an odd number is odd
+pub odd-pow : (p w : ℕ) → (2 * w + 1) ^ p % 2 ≡ 1
+odd-pow zero w = ap (λ (x : ℕ). x % 2) (pow-zero (2 * w + 1))
+odd-pow (suc p) w = ap (λ (x : ℕ). x % 2) (pow-suc (2 * w + 1) p) ∙ step ((2 * w + 1) ^ p) (odd-pow p w)
+  where
+    step : (x : ℕ) → x % 2 ≡ 1 → x * (2 * w + 1) % 2 ≡ 1
+    step x h = omega arith
 
 zero-pow : (p : ℕ) → 0 < p → 0 ^ p ≡ 0
 zero-pow zero h = omega arith
@@ -69,9 +84,13 @@ root-is p k n P h =
 abbrev pub dropped : ℕ → Format → ℕ → ℕ → ℕ
 dropped p f n den = (size (n / den) + (p - 1)) / p - prec f
 
+-- what it keeps: the number nearest to the root of n / u, of which it finds d digits
+abbrev pub kept : ℕ → ℕ → ℕ → ℕ → ℕ
+kept p d n u = nearest (root p d (n / u)) (compare (2 ^ p * n) ((2 * root p d (n / u) + 1) ^ p * u))
+
 -- `roundRoot`, from its n, its k and its u on
 abbrev pub core : ℕ → Format → Bool → ℕ → ℕ → ℕ → Float
-core p f s n u k = units f s (nearest (root p (prec f) (n / u)) (compare (2 ^ p * n) ((2 * root p (prec f) (n / u) + 1) ^ p * u))) k
+core p f s n u k = units f s (kept p (prec f) n u) k
 
 pub roundRoot-is : (p : ℕ) (f : Format) (s : Bool) (num den : ℕ)
     → let n = num * 2 ^ (p * low f) in let k = dropped p f n den in roundRoot p f s num den ≡ core p f s n (den * 2 ^ (p * k)) k
@@ -143,7 +162,7 @@ Within p n u q = ((2 * q - 1) ^ p * u < 2 ^ p * n) × (2 ^ p * n < (2 * q + 1) ^
 abbrev pub Near : ℕ → ℕ → ℕ → ℕ → Type 0
 Near p n u q = ((2 * q - 1) ^ p * u ≤ 2 ^ p * n) × (2 ^ p * n ≤ (2 * q + 1) ^ p * u)
 
-double : (p q u : ℕ) → 2 ^ p * (q ^ p * u) ≡ (2 * q) ^ p * u
+pub double : (p q u : ℕ) → 2 ^ p * (q ^ p * u) ≡ (2 * q) ^ p * u
 double p q u = sym (mul-assoc (2 ^ p) (q ^ p) u) ∙ ap (λ (x : ℕ). x * u) (sym (mul-pow 2 q p))
 
 whole : (p n u q : ℕ) → 0 < u → IsRoot p (n / u) q → Whole p n u q
@@ -179,7 +198,7 @@ chosen-near p n u w o c r = go o c
 -- ---- the laws
 
 -- the p-th power of 2 ^ (a + k)
-split-pow : (p a k den : ℕ) → 2 ^ (p * (a + k)) * den ≡ 2 ^ (p * a) * (den * 2 ^ (p * k))
+pub split-pow : (p a k den : ℕ) → 2 ^ (p * (a + k)) * den ≡ 2 ^ (p * a) * (den * 2 ^ (p * k))
 split-pow p a k den = simp (mul-add, pow-add, mul-assoc, mul-comm, mul-left-comm)
 
 pub quotient-lt : (p : ℕ) (f : Format) (n den k : ℕ) → 0 < den → n < 2 ^ (p * (prec f + k)) * den → n / (den * 2 ^ (p * k)) < 2 ^ (p * prec f)
@@ -221,30 +240,20 @@ roundRoot-at p f s num den k N q P D e lo hi r =
     (subst (λ (n : ℕ). Drops p f n den k) (sym e) (drops-times p f N den k D lo hi))
     (subst (λ (n : ℕ). Within p n u q) (sym e) (rw up (mul-lt-mul-of-pos-right (r .above) U), rw up (mul-lt-mul-of-pos-right (r .below) U)))
 
--- Whatever the fraction, the result is a multiple of 2 ^ k units that is as near to the root as any
-pub roundRoot-near : (p : ℕ) (f : Format) (s : Bool) (num den : ℕ) → 0 < p → 0 < den
-    → let n = num * 2 ^ (p * low f) in
-    let k = dropped p f n den in
-    (q : ℕ) × (roundRoot p f s num den ≡ units f s q k) × Near p n (den * 2 ^ (p * k)) q
-roundRoot-near p f s num den P D =
-    let n = num * 2 ^ (p * low f) in
+-- Whatever the fraction, what is kept is as near to the root as any
+pub kept-near : (p : ℕ) (f : Format) (n den : ℕ) → 0 < p → 0 < den → let u = den * 2 ^ (p * dropped p f n den) in Near p n u (kept p (prec f) n u)
+kept-near p f n den P D =
     let k = dropped p f n den in
     let u = den * 2 ^ (p * k) in
     let w = root p (prec f) (n / u) in
-    let o = compare (2 ^ p * n) ((2 * w + 1) ^ p * u) in (
-      nearest w o,
-      roundRoot-is p f s num den,
-      chosen-near p n u w o (compared (2 ^ p * n) ((2 * w + 1) ^ p * u)) (root-whole p f n den k P D (dropped-drops p f n den P D .0)),
-    )
+    let middle = (2 * w + 1) ^ p * u in
+    chosen-near p n u w (compare (2 ^ p * n) middle) (compared (2 ^ p * n) middle) (root-whole p f n den k P D (dropped-drops p f n den P D .0))
 
 -- the nearest number has the digits of the root, or is the next power of two
-doubled : (p j : ℕ) → 2 ^ p * 2 ^ (p * j) ≡ (2 * 2 ^ j) ^ p
-doubled p j = ap (λ (x : ℕ). 2 ^ p * x) (sym (pow-mul 2 j p)) ∙ sym (mul-pow 2 (2 ^ j) p)
-
 pub nearest-ge : (p j n q : ℕ) → 2 ^ (p * j) ≤ n → IsNearest p n q → 2 ^ j ≤ q
 nearest-ge p j n q h r =
-    omega (arith, base-lt p (2 * 2 ^ j) (2 * q + 1) (lt-of-le-of-lt (le-trans (le-of-eq (sym (doubled p j))) (mul-le-mul-left (2 ^ p) h)) (r .below)))
+    omega (arith, base-lt p (2 * 2 ^ j) (2 * q + 1) (lt-of-le-of-lt (le-trans (le-of-eq (sym (pow-shift p 2 j))) (mul-le-mul-left (2 ^ p) h)) (r .below)))
 
 pub nearest-le : (p j n q : ℕ) → n < 2 ^ (p * j) → IsNearest p n q → q ≤ 2 ^ j
 nearest-le p j n q h r =
-    omega (arith, base-lt p (2 * q - 1) (2 * 2 ^ j) (lt-of-lt-of-le (lt-trans (r .above) (mul-lt-mul-of-pos-left h (pow-pos p))) (le-of-eq (doubled p j))))
+    omega (arith, base-lt p (2 * q - 1) (2 * 2 ^ j) (lt-of-lt-of-le (lt-trans (r .above) (mul-lt-mul-of-pos-left h (pow-pos p))) (le-of-eq (pow-shift p 2 j))))

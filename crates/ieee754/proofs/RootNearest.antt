@@ -9,9 +9,9 @@ use mathlib.Core.Bool.{Bool, true, false}
 use lib.IntN.{ℤ, pos, negsuc}
 use lib.Dec.{T}
 use lib.Pow.{pow-add, pow-pos, pow-lt, shl-lt}
-use lib.Ieee.{Float, nan, inf, fin, binary64, up, down, nearest, odd, fits}
+use lib.Ieee.{Float, nan, inf, fin, binary64, up, down, nearest, fits}
 use lib.Ieee.Fits.{up-pos, down-pos}
-use lib.Ieee.Exact.{HasValue, odd-sign}
+use lib.Ieee.Exact.{HasValue}
 use lib.Ieee.Positive.{num, den, positive}
 use Rattle.ieee754.specs.Magnitude.{abs}
 use Rattle.ieee754.specs.CopySign.{negative}
@@ -19,9 +19,8 @@ use Rattle.ieee754.specs.Root.{roundRoot, sqrt, cbrt}
 use Rattle.ieee754.specs.Traced.{inRange, sqrtRegular, cbrtRegular}
 use Rattle.ieee754.proofs.Order.{lt-or-ge}
 use Rattle.ieee754.proofs.Sizes.{shl-shl, exponent-lt}
-use Rattle.ieee754.proofs.Exponent.{odd-pow}
-use Rattle.ieee754.proofs.RootLaws.{Compared, compared, dropped-drops, root-whole}
-use Rattle.ieee754.proofs.RoundScale.{Normal, zero-or-normal, raised, drop, keep, roundRoot-odd}
+use Rattle.ieee754.proofs.RootLaws.{odd-pow, Compared, compared, dropped-drops, root-whole}
+use Rattle.ieee754.proofs.RoundScale.{Normal, zero-or-normal, raised, drop, keep, roundRoot-value}
 use Rattle.ieee754.proofs.RegularNormal.{part, whole-least}
 use Rattle.ieee754.proofs.Fitting.{fits-parts, odd-once}
 use Rattle.ieee754.proofs.RootRegular.{sqrt-regular, cbrt-regular}
@@ -159,7 +158,7 @@ root-nearest p P s m e F R =
     let W : 2 ^ 52 ≤ w = whole-least p P a c C (N .least) in
     record {
       magnitude = keep p a c * 2 ^ k;
-      value = subst (λ (x : Float). HasValue x s (keep p a c * 2 ^ k) (2 ^ 1074)) (sym (roundRoot-odd p P s a c C N)) (odd-sign 54 s (keep p a c) k 1074);
+      value = roundRoot-value p P s a c C N;
       nearer = λ y t b G v.
           nearer-by p P a c k w b C W (double-whole y t b G v) (no-tie p P s m e w k F W) (root-whole p binary64 n c k P C (dropped-drops p binary64 n c P C .0))
           (compare (2 ^ p * n) ((2 * w + 1) ^ p * u)) (compared (2 ^ p * n) ((2 * w + 1) ^ p * u));
