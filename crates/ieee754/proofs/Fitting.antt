@@ -18,7 +18,8 @@ use Rattle.ieee754.specs.Maximum.{max}
 use Rattle.ieee754.specs.Clamp.{raised, clamp}
 use Rattle.ieee754.specs.Root.{root, roundRoot, sqrt, cbrt}
 use Rattle.ieee754.specs.Fma.{fma}
-use Rattle.ieee754.proofs.RootLaws.{pow-mul, base-lt, dropped, dropped-drops, kept, root-is, quotient-lt, roundRoot-is}
+use Rattle.ieee754.proofs.PowerLaws.{pow-mul, base-lt}
+use Rattle.ieee754.proofs.RootLaws.{dropped, dropped-drops, kept, root-is, quotient-lt, roundRoot-is}
 
 -- ---- what it takes to be a double other than zero
 pub record Parts (m : ℕ) (e : ℤ) : Type 0 where

@@ -18,9 +18,10 @@ use Rattle.ieee754.specs.Root.{root, roundRoot, sqrt, cbrt}
 use Rattle.ieee754.specs.Fma.{fma}
 use Rattle.ieee754.specs.Traced.{Traced, _⊕_, inRange, magnitude, addRegular, mulRegular, divRegular, fmaRegular, sqrtRegular, cbrtRegular}
 use Rattle.ieee754.proofs.Order.{or-right}
-use Rattle.ieee754.proofs.RootLaws.{pow-shift, pow-back, dropped-drops, root-whole, roundRoot-is}
+use Rattle.ieee754.proofs.PowerLaws.{pow-shift, raised, pow-back}
+use Rattle.ieee754.proofs.RootLaws.{dropped-drops, root-whole, roundRoot-is}
 use Rattle.ieee754.proofs.RootValues.{roundRoot-one}
-use Rattle.ieee754.proofs.RoundScale.{Normal, zero-or-normal, raised, least-units, drops-least, drop, keep, roundRoot-zero, roundRoot-value}
+use Rattle.ieee754.proofs.RoundScale.{Normal, zero-or-normal, least-units, drops-least, drop, keep, roundRoot-zero, roundRoot-value}
 
 -- zero, of magnitude 2 ^ -1022 at least, infinite or NaN
 abbrev pub zeroOrNormal : Float → Bool

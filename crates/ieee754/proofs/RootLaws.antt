@@ -1,58 +1,23 @@
 -- What `roundRoot` of Root.antt means. For a reader there are two laws. `dropped-drops`: with the k digits that it drops, the root is below 2 ^ (prec + k)
 -- units, and no less than 2 ^ (prec - 1 + k) unless k is 0, so 2 ^ k units is the step of the format's values there. `kept-near`: what is kept, which
 -- is the result in such steps (`roundRoot-is`), is no further from the root than half a step. For a proof there is one, `roundRoot-at`: how to meet `roundRoot`. Assumes nothing.
-use Prim.Native.Nat.{ℕ, zero, suc, _+_, _-_, _*_, _/_, _%_, _^_, _≤_, _<_, zero-le, compare, Ordering, Ordering·lt, Ordering·eq, Ordering·gt}
+use Prim.Native.Nat.{ℕ, zero, suc, _+_, _-_, _*_, _/_, _^_, _≤_, _<_, zero-le, compare, Ordering, Ordering·lt, Ordering·eq, Ordering·gt}
 use mathlib.Core.Path.{_≡_, refl, sym, ap, _∙_, subst}
 use mathlib.Core.Logic.{_⊎_, inl, inr}
 use mathlib.Core.Bool.{Bool, true, false, not, cond}
-use native.Mathlib.Nat.{le-trans, le-of-eq, le-of-lt, lt-trans, lt-of-lt-of-le, lt-of-le-of-lt, lt-of-not-le, not-le-of-lt, zero-add, mul-one, one-mul, mul-comm, mul-assoc, mul-left-comm, mul-mul-mul-comm, mul-add, suc-mul, pow-zero, pow-suc, pow-le-pow-left, mul-pos, mul-le-mul-left, mul-le-mul-right, mul-lt-mul-of-pos-left, mul-lt-mul-of-pos-right, lt-of-mul-lt-mul-right, le-of-suc-le-suc, eq-zero-or-pos, div-lt-iff-lt-mul, le-div-iff-mul-le, lt-div-mul-add}
+use native.Mathlib.Nat.{le-trans, le-of-eq, le-of-lt, lt-trans, lt-of-lt-of-le, lt-of-le-of-lt, zero-add, mul-assoc, suc-mul, pow-le-pow-left, mul-pos, mul-le-mul-left, mul-le-mul-right, mul-lt-mul-of-pos-left, mul-lt-mul-of-pos-right, le-of-suc-le-suc, eq-zero-or-pos, div-lt-iff-lt-mul, le-div-iff-mul-le, lt-div-mul-add}
 use native.Mathlib.Numerals.{add-one}
 use native.Mathlib.Omega.{arith}
 use lib.Dec.{T, leb, leb→le, nleb→lt}
-use lib.Pow.{pow-add, pow-pos, pow-mono}
-use lib.Ieee.{Float, Format, prec, low, up, size, nearest, units}
+use lib.Pow.{pow-pos, pow-mono}
+use lib.Ieee.{Float, Format, prec, low, size, nearest, units}
 use lib.Ieee.Digits.{size-lt, size-le, size-reaches}
 use lib.Ieee.Fits.{two}
 use Rattle.ieee754.specs.Root.{rootDigits, root, roundRoot}
 use Rattle.ieee754.specs.inner.Nearest.{IsNearest}
 pub use Rattle.ieee754.proofs.Nearest.{Compared, compared}
 use Rattle.ieee754.proofs.Sizes.{size-gt}
-
--- ---- powers
-
-pub pow-one : (x : ℕ) → x ^ 1 ≡ x
-pow-one x = pow-suc x 0 ∙ ap (λ (y : ℕ). y * x) (pow-zero x) ∙ one-mul x
-
-pub mul-pow : (a b p : ℕ) → (a * b) ^ p ≡ a ^ p * b ^ p
-mul-pow a b zero = simp (pow-zero, mul-one)
-mul-pow a b (suc p) = simp (pow-suc, mul-pow a b p, mul-mul-mul-comm)
-
-pub pow-mul : (b k p : ℕ) → (b ^ k) ^ p ≡ b ^ (p * k)
-pow-mul b k zero = pow-zero (b ^ k) ∙ sym (ap (λ (x : ℕ). b ^ x) (omega arith) ∙ pow-zero b)
-pow-mul b k (suc p) = pow-suc (b ^ k) p ∙ ap (λ (x : ℕ). x * b ^ k) (pow-mul b k p) ∙ sym (pow-add b (p * k) k) ∙ ap (λ (x : ℕ). b ^ x) (sym (suc-mul p k))
-
--- a power of a number moved up by k digits
-pub pow-shift : (p x k : ℕ) → x ^ p * 2 ^ (p * k) ≡ (x * 2 ^ k) ^ p
-pow-shift p x k = ap (λ (y : ℕ). x ^ p * y) (sym (pow-mul 2 k p)) ∙ sym (mul-pow x (2 ^ k) p)
-
--- a power of an odd number is odd
-pub odd-pow : (p w : ℕ) → (2 * w + 1) ^ p % 2 ≡ 1
-odd-pow zero w = ap (λ (x : ℕ). x % 2) (pow-zero (2 * w + 1))
-odd-pow (suc p) w = ap (λ (x : ℕ). x % 2) (pow-suc (2 * w + 1) p) ∙ step ((2 * w + 1) ^ p) (odd-pow p w)
-  where
-    step : (x : ℕ) → x % 2 ≡ 1 → x * (2 * w + 1) % 2 ≡ 1
-    step x h = omega arith
-
-zero-pow : (p : ℕ) → 0 < p → 0 ^ p ≡ 0
-zero-pow zero h = omega arith
-zero-pow (suc p) h = pow-suc 0 p ∙ omega arith
-
--- a power is below another only if its base is
-pub base-lt : (p x y : ℕ) → x ^ p < y ^ p → x < y
-base-lt p x y h = lt-of-not-le (λ (g : y ≤ x). not-le-of-lt h (pow-le-pow-left g p))
-
-pub pow-back : (p u x y : ℕ) → x ^ p * u < y ^ p * u → x < y
-pow-back p u x y h = base-lt p x y (lt-of-mul-lt-mul-right u h)
+use Rattle.ieee754.proofs.PowerLaws.{pow-mul, pow-shift, double-pow, split-pow, zero-pow, base-lt, pow-back}
 
 -- ---- the whole part of a root
 
@@ -162,13 +127,10 @@ Within p n u q = ((2 * q - 1) ^ p * u < 2 ^ p * n) × (2 ^ p * n < (2 * q + 1) ^
 abbrev pub Near : ℕ → ℕ → ℕ → ℕ → Type 0
 Near p n u q = ((2 * q - 1) ^ p * u ≤ 2 ^ p * n) × (2 ^ p * n ≤ (2 * q + 1) ^ p * u)
 
-pub double : (p q u : ℕ) → 2 ^ p * (q ^ p * u) ≡ (2 * q) ^ p * u
-double p q u = sym (mul-assoc (2 ^ p) (q ^ p) u) ∙ ap (λ (x : ℕ). x * u) (sym (mul-pow 2 q p))
-
 whole : (p n u q : ℕ) → 0 < u → IsRoot p (n / u) q → Whole p n u q
 whole p n u q U r = (
-  le-trans (le-of-eq (sym (double p q u))) (mul-le-mul-left (2 ^ p) (le-div-iff-mul-le U .0 (r .0))),
-  lt-of-lt-of-le (mul-lt-mul-of-pos-left (div-lt-iff-lt-mul U .0 (r .1)) (pow-pos p)) (le-of-eq (double p (suc q) u)),
+  le-trans (le-of-eq (sym (double-pow p q u))) (mul-le-mul-left (2 ^ p) (le-div-iff-mul-le U .0 (r .0))),
+  lt-of-lt-of-le (mul-lt-mul-of-pos-left (div-lt-iff-lt-mul U .0 (r .1)) (pow-pos p)) (le-of-eq (double-pow p (suc q) u)),
 )
 
 -- only one number lies strictly within a half of the root, and it is chosen
@@ -197,10 +159,6 @@ chosen-near p n u w o c r = go o c
 
 -- ---- the laws
 
--- the p-th power of 2 ^ (a + k)
-pub split-pow : (p a k den : ℕ) → 2 ^ (p * (a + k)) * den ≡ 2 ^ (p * a) * (den * 2 ^ (p * k))
-split-pow p a k den = simp (mul-add, pow-add, mul-assoc, mul-comm, mul-left-comm)
-
 pub quotient-lt : (p : ℕ) (f : Format) (n den k : ℕ) → 0 < den → n < 2 ^ (p * (prec f + k)) * den → n / (den * 2 ^ (p * k)) < 2 ^ (p * prec f)
 quotient-lt p f n den k D h = div-lt-iff-lt-mul (mul-pos D (pow-pos (p * k))) .1 (lt-of-lt-of-le h (le-of-eq (split-pow p (prec f) k den)))
 
@@ -222,7 +180,7 @@ core-at p f s num den k q P D d h =
     ∙ ap (λ (x : ℕ). units f s x k) (chosen p n u q w (compare (2 ^ p * n) ((2 * w + 1) ^ p * u)) (compared (2 ^ p * n) ((2 * w + 1) ^ p * u)) (root-whole p f n den k P D (d .0)) h)
 
 -- where the radicand is N times the p-th power of 2 ^ k, and the root of N has all the format's digits
-pub drops-times : (p : ℕ) (f : Format) (N den k : ℕ) → 0 < den → 2 ^ (p * (prec f - 1)) ≤ N → N < 2 ^ (p * prec f) → Drops p f (N * (den * 2 ^ (p * k))) den k
+drops-times : (p : ℕ) (f : Format) (N den k : ℕ) → 0 < den → 2 ^ (p * (prec f - 1)) ≤ N → N < 2 ^ (p * prec f) → Drops p f (N * (den * 2 ^ (p * k))) den k
 drops-times p f N den k D lo hi =
     let u = den * 2 ^ (p * k) in
     (rw split-pow (mul-lt-mul-of-pos-right hi (mul-pos D (pow-pos (p * k)))), inr (rw split-pow (mul-le-mul-right u lo)))

@@ -3,7 +3,7 @@
 use mathlib.Core.Path.{_≡_, refl, sym, ap, _∙_, subst}
 use mathlib.Core.Logic.{⊎-elim}
 use Prim.Native.Nat.{ℕ, zero, suc, _+_, _-_, _*_, _^_, _≤_, _<_, compare, Ordering, Ordering·lt, Ordering·eq, Ordering·gt}
-use native.Mathlib.Nat.{le-trans, le-of-eq, le-of-lt, lt-of-lt-of-le, lt-of-le-of-lt, not-le-of-lt, zero-lt-suc, lt-suc-self, le-of-suc-le-suc, sub-add-cancel, mul-one, mul-assoc, mul-left-comm, mul-pos, mul-le-mul-right, mul-lt-mul-of-pos-right, lt-irrefl, one-le-pow, lt-of-mul-lt-mul-right, eq-of-mul-eq-mul-right, pow-suc, pow-le-pow-left, pow-lt-pow-left, one-mul}
+use native.Mathlib.Nat.{le-trans, le-of-eq, le-of-lt, lt-of-lt-of-le, lt-of-le-of-lt, not-le-of-lt, zero-lt-suc, lt-suc-self, le-of-suc-le-suc, sub-add-cancel, mul-one, mul-assoc, mul-left-comm, mul-pos, mul-le-mul-right, mul-lt-mul-of-pos-right, lt-irrefl, lt-of-mul-lt-mul-right, eq-of-mul-eq-mul-right, pow-le-pow-left, pow-lt-pow-left, one-mul}
 use native.Mathlib.Omega.{arith}
 use mathlib.Core.Bool.{Bool, true, false}
 use lib.IntN.{ℤ, pos, negsuc}
@@ -19,8 +19,9 @@ use Rattle.ieee754.specs.Root.{roundRoot, sqrt, cbrt}
 use Rattle.ieee754.specs.Traced.{inRange, sqrtRegular, cbrtRegular}
 use Rattle.ieee754.proofs.Order.{lt-or-ge}
 use Rattle.ieee754.proofs.Sizes.{shl-shl, exponent-lt}
-use Rattle.ieee754.proofs.RootLaws.{odd-pow, Compared, compared, dropped-drops, root-whole}
-use Rattle.ieee754.proofs.RoundScale.{Normal, zero-or-normal, raised, drop, keep, roundRoot-value}
+use Rattle.ieee754.proofs.PowerLaws.{raised, odd-pow, le-pow}
+use Rattle.ieee754.proofs.RootLaws.{Compared, compared, dropped-drops, root-whole}
+use Rattle.ieee754.proofs.RoundScale.{Normal, zero-or-normal, drop, keep, roundRoot-value}
 use Rattle.ieee754.proofs.RegularNormal.{part, whole-least}
 use Rattle.ieee754.proofs.Fitting.{fits-parts, odd-once}
 use Rattle.ieee754.proofs.RootRegular.{sqrt-regular, cbrt-regular}
@@ -96,16 +97,12 @@ tie-parts : (p m : ℕ) (e : ℤ) (o k : ℕ) → 2 ^ p * (m * up e * 2 ^ (p * 1
 tie-parts p m (pos x) o k h = (p + (x + p * 1074), p * k, regroup m (2 ^ p) (2 ^ x) (2 ^ (p * 1074)) (p + (x + p * 1074)) (simp pow-add) ∙ h ∙ ap (λ (y : ℕ). o * y) (one-mul (2 ^ (p * k))))
 tie-parts p m (negsuc x) o k h = (p + p * 1074, suc x + p * k, regroup m (2 ^ p) 1 (2 ^ (p * 1074)) (p + p * 1074) (pow-add 2 p (p * 1074) ∙ ap (λ (y : ℕ). 2 ^ p * y) (sym (one-mul (2 ^ (p * 1074))))) ∙ h ∙ ap (λ (y : ℕ). o * y) (sym (pow-add 2 (suc x) (p * k))))
 
-le-power : (p x : ℕ) → 0 < p → 0 < x → x ≤ x ^ p
-le-power zero x P X = absurd (lt-irrefl 0 P)
-le-power (suc p) x P X = le-trans (le-of-eq (sym (one-mul x))) (le-trans (mul-le-mul-right x (one-le-pow p x X)) (le-of-eq (sym (pow-suc x p))))
-
 no-tie : (p : ℕ) → 0 < p → (s : Bool) (m : ℕ) (e : ℤ) (w k : ℕ) → T (fits binary64 (fin s (suc m) e)) → 2 ^ 52 ≤ w → 2 ^ p * (suc m * up e * 2 ^ (p * 1074)) ≡ (2 * w + 1) ^ p * (down e * 2 ^ (p * k)) → ⊥
 no-tie p P s m e w k F W h =
     let f = fits-parts s m e F in
     let t = tie-parts p (suc m) e ((2 * w + 1) ^ p) k h in
     let same : suc m ≡ (2 * w + 1) ^ p = odd-once (suc m) ((2 * w + 1) ^ p) (t .0) (t .1) (f .odd) (odd-pow p w) (t .2) .0 in
-    let large : 2 * w + 1 ≤ (2 * w + 1) ^ p = le-power p (2 * w + 1) P (omega arith) in
+    let large : 2 * w + 1 ≤ (2 * w + 1) ^ p = le-pow p (2 * w + 1) P (omega arith) in
     omega (arith, f .short)
 
 -- ---- the root is on r's side of the middle

@@ -13,8 +13,9 @@ use lib.Ieee.Fits.{up-pos, down-pos, round-is}
 use lib.Ieee.Exact.{HasValue}
 use lib.Ieee.Nearest.{div-same}
 use Rattle.ieee754.specs.Root.{root, roundRoot, sqrt, cbrt}
-pub use Rattle.ieee754.proofs.Nearest.{compare-mul, compare-same}
-use Rattle.ieee754.proofs.RootLaws.{pow-one, dropped, dropped-drops, kept, core, roundRoot-is, root-is, quotient-lt}
+use Rattle.ieee754.proofs.Nearest.{compare-same}
+use Rattle.ieee754.proofs.PowerLaws.{pow-one}
+use Rattle.ieee754.proofs.RootLaws.{dropped, dropped-drops, kept, core, roundRoot-is, root-is, quotient-lt}
 
 -- ---- only the value of the fraction counts
 

@@ -20,7 +20,8 @@ use Rattle.ieee754.specs.Root.{roundRoot}
 use Rattle.ieee754.specs.Traced.{inRange}
 use Rattle.ieee754.specs.Scaling.{scale, moved}
 use Rattle.ieee754.proofs.Sizes.{exponent-lt}
-use Rattle.ieee754.proofs.RootLaws.{pow-mul, pow-shift, pow-back, Drops, dropped, dropped-drops, drops-dropped, kept, roundRoot-is, double, split-pow, kept-near}
+use Rattle.ieee754.proofs.PowerLaws.{pow-mul, pow-shift, raised, double-pow, split-pow, pow-back}
+use Rattle.ieee754.proofs.RootLaws.{Drops, dropped, dropped-drops, drops-dropped, kept, roundRoot-is, kept-near}
 use Rattle.ieee754.proofs.RootValues.{kept-same, roundRoot-same, roundRoot-one}
 use Rattle.ieee754.proofs.Sums.{sub-mul}
 use Rattle.ieee754.proofs.Powers.{Ratio, moved-ratio, minus-add, ℤ-once, up-negative, down-negative}
@@ -31,10 +32,6 @@ use Rattle.ieee754.proofs.Powers.{Ratio, moved-ratio, minus-add, ℤ-on
 pub record Normal (p a c : ℕ) : Type 0 where
   pub least : c ≤ a * 2 ^ (p * 1022)
   pub most : a < c * (2 ^ 1024 - 2 ^ 970) ^ p
-
--- x ^ p * (c * 2 ^ (p * k)) is (x * 2 ^ k) ^ p * c
-pub raised : (p x k c : ℕ) → x ^ p * (c * 2 ^ (p * k)) ≡ (x * 2 ^ k) ^ p * c
-raised p x k c = ap (λ (z : ℕ). x ^ p * z) (mul-comm c (2 ^ (p * k))) ∙ sym (mul-assoc (x ^ p) (2 ^ (p * k)) c) ∙ ap (λ (z : ℕ). z * c) (pow-shift p x k)
 
 -- The result is q * 2 ^ k units, with k digits dropped. By E, the range's upper end in units, q * 2 ^ k is below B, since E is half of the last unit below B.
 module _ (p q k n c E W B j : ℕ) (most : n < c * E ^ p) (gap : 2 * E + W ≡ 2 * B) (half : 2 ^ j ≡ W) (top : 2 ^ (52 + suc j) ≡ B) where
@@ -53,7 +50,7 @@ module _ (p q k n c E W B j : ℕ) (most : n < c * E ^ p) (gap : 2 * E + W ≡ 2
   in-units h =
       pow-back p c ((2 * q - 1) * 2 ^ k) (2 * E)
       (lt-of-le-of-lt (le-trans (le-of-eq (sym (raised p (2 * q - 1) k c))) h)
-      (lt-of-lt-of-le (mul-lt-mul-of-pos-left most (pow-pos p)) (le-of-eq (ap (λ (x : ℕ). 2 ^ p * x) (mul-comm c (E ^ p)) ∙ double p E c))))
+      (lt-of-lt-of-le (mul-lt-mul-of-pos-left most (pow-pos p)) (le-of-eq (ap (λ (x : ℕ). 2 ^ p * x) (mul-comm c (E ^ p)) ∙ double-pow p E c))))
 
   below-top : (k ≡ 0) ⊎ (2 ^ (p * (52 + k)) * c ≤ n) → (2 * q - 1) ^ p * (c * 2 ^ (p * k)) ≤ 2 ^ p * n → q * 2 ^ k < B
   below-top d h = omega (arith, few d, in-units h, sub-mul (2 * q) 1 (2 ^ k))

@@ -4,7 +4,7 @@ use mathlib.Core.Path.{_≡_, ap, _∙_}
 use native.Mathlib.Nat.{pow-suc}
 use native.Mathlib.Omega.{arith}
 use Rattle.ieee754.specs.inner.Nearest.{IsNearest}
-use Rattle.ieee754.proofs.RootLaws.{pow-one}
+use Rattle.ieee754.proofs.PowerLaws.{pow-one}
 
 pub square : (x : ℕ) → x ^ 2 ≡ x * x
 square x = pow-suc x 1 ∙ ap (λ (y : ℕ). y * x) (pow-one x)
