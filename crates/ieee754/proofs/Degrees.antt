@@ -52,7 +52,7 @@ lift₂ op reg law {x} {x'} {y} {y'} f g = record {
       record { scaled = ap₂ op X Y ∙ law (x .value) (y .value) (c .2) (subst₂ (λ (a b : Float). T (reg a b)) X Y (c' .2)) };
 }
 
--- a function that rounds nothing, and a test of one operand or of two: what it gives is scaled with its operand, or is the same
+-- a function of one operand that rounds nothing; and a test of one operand or of two, which comes out the same in the two runs
 at₁ : (op : Float → Float) → ((u : ℤ) (x : Float) → op (scale u x) ≡ scale u (op x)) → {k n : ℤ} {x x' : Float} → At k n x x' → At k n (op x) (op x')
 at₁ op law {k} {n} {x} f = record { scaled = ap op (f .scaled) ∙ law (n *ℤ k) x }
 

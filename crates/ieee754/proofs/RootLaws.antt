@@ -146,7 +146,7 @@ chosen p n u q w Ordering·gt c r h =
     omega (arith, pow-back p u (2 * w + 1) (2 * q + 1) (lt-trans c (h .1)), pow-back p u (2 * q - 1) (2 * suc w) (lt-trans (h .0) (r .1)))
 
 -- what is chosen is near
-pub chosen-near : (p n u w : ℕ) (o : Ordering) → Compared o (2 ^ p * n) ((2 * w + 1) ^ p * u) → Whole p n u w → Near p n u (nearest w o)
+chosen-near : (p n u w : ℕ) (o : Ordering) → Compared o (2 ^ p * n) ((2 * w + 1) ^ p * u) → Whole p n u w → Near p n u (nearest w o)
 chosen-near p n u w o c r = go o c
   where
     raise : {x y : ℕ} → x ≤ y → x ^ p * u ≤ y ^ p * u

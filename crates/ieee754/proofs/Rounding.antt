@@ -99,7 +99,7 @@ round-jam f s u e k n (exact x) =
     ap (λ (y : ℕ). round f s y (2 ^ (u + low f)))
     (sym (shl-shl (jam k n) k e (k + e) refl) ∙ ap (λ (y : ℕ). y * 2 ^ e) (jam-exact k n x))
 
--- ---- k digits are dropped of a number v of j + 1 digits and x more, if so many are 53, k, and the 1092 below the smallest value
+-- ---- k digits are dropped of a number v below 2 ^ (53 + k + 1092) that is, unless k is 0, no less than half of that; j and x are parts of the exponent
 drop-at : (v k j x : ℕ) → j + x ≡ 52 + k + 1092 → v < 2 ^ (suc j + x) → (0 < k → 2 ^ j * 2 ^ x ≤ v) → drop binary64 1092 v ≡ k
 drop-at v k j x e hi lo =
     let least : 2 ^ (52 + k) * 2 ^ 1092 ≡ 2 ^ j * 2 ^ x = sym (pow-add 2 (52 + k) 1092) ∙ ap (λ (i : ℕ). 2 ^ i) (sym e) ∙ pow-add 2 j x in
