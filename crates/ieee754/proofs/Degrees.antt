@@ -24,9 +24,7 @@ use Rattle.ieee754.proofs.Laws.{neg-scale, abs-scale, negative-scale, c
 
 -- ---- a lifted operation of one operand or of two, from its law on floats
 three : (a b c : Bool) → T (a && b && c) → T a × T b × T c
-three true true c t = (tt, tt, t)
-three true false c t = absurd t
-three false b c t = absurd t
+three a b c t = let l = and-l (a && b) c t in (and-l a b l, and-r a b l, and-r (a && b) c t)
 
 lift₁ : (op : Float → Float) (reg : Float → Bool) {k n q : ℤ}
     → ((x : Float) → T (reg x) → T (reg (scale (n *ℤ k) x)) → op (scale (n *ℤ k) x) ≡ scale (q *ℤ k) (op x))
@@ -54,6 +52,16 @@ lift₂ op reg law {x} {x'} {y} {y'} f g = record {
       record { scaled = ap₂ op X Y ∙ law (x .value) (y .value) (c .2) (subst₂ (λ (a b : Float). T (reg a b)) X Y (c' .2)) };
 }
 
+-- a function of one operand that rounds nothing; and a test of one operand or of two, which comes out the same in the two runs
+at₁ : (op : Float → Float) → ((u : ℤ) (x : Float) → op (scale u x) ≡ scale u (op x)) → {k n : ℤ} {x x' : Float} → At k n x x' → At k n (op x) (op x')
+at₁ op law {k} {n} {x} f = record { scaled = ap op (f .scaled) ∙ law (n *ℤ k) x }
+
+same₁ : {B : Type 0} (t : Float → B) → ((u : ℤ) (x : Float) → t (scale u x) ≡ t x) → {k n : ℤ} {x x' : Float} → At k n x x' → t x ≡ t x'
+same₁ t law {k} {n} {x} f = sym (ap t (f .scaled) ∙ law (n *ℤ k) x)
+
+same₂ : {B : Type 0} (t : Float → Float → B) → ((u : ℤ) (x y : Float) → t (scale u x) (scale u y) ≡ t x y) → {k n : ℤ} {x x' y y' : Float} → At k n x x' → At k n y y' → t x y ≡ t x' y'
+same₂ t law {k} {n} {x} {y = y} f g = sym (ap₂ t (f .scaled) (g .scaled) ∙ law (n *ℤ k) x y)
+
 -- ---- the rules for floats
 module _ {k : ℤ} where
   infixl 90 !_ ⊝_ √_ ∛_
@@ -76,7 +84,7 @@ module _ {k : ℤ} where
   ! h = record { results = λ r r'. h }
 
   pub ⊝_ : {n : ℤ} {x x' : Traced Float} → Scales k n x x' → Scales k n (traced.⊝_ x) (traced.⊝_ x')
-  ⊝_ {n} {x} f = record { results = λ r r'. record { scaled = ap neg (f .results r r' .scaled) ∙ neg-scale (n *ℤ k) (x .value) } }
+  ⊝ f = record { results = λ r r'. at₁ neg neg-scale (f .results r r') }
 
   pub _⊗_ : {n p : ℤ} {x x' y y' : Traced Float} → Scales k n x x' → Scales k p y y' → Scales k (n +ℤ p) (traced._⊗_ x y) (traced._⊗_ x' y')
   _⊗_ {n} {p} = lift₂ (mul binary64) mulRegular (λ a b. rw (ℤ-add-mul n p k) (mul-scale (n *ℤ k) (p *ℤ k) a b))
@@ -114,10 +122,10 @@ module _ {k : ℤ} where
 
   -- ---- functions that round nothing
   pub neg-at : {n : ℤ} {x x' : Float} → At k n x x' → At k n (neg x) (neg x')
-  neg-at {n} {x} f = record { scaled = ap neg (f .scaled) ∙ neg-scale (n *ℤ k) x }
+  neg-at = at₁ neg neg-scale
 
   pub abs-at : {n : ℤ} {x x' : Float} → At k n x x' → At k n (abs x) (abs x')
-  abs-at {n} {x} f = record { scaled = ap abs (f .scaled) ∙ abs-scale (n *ℤ k) x }
+  abs-at = at₁ abs abs-scale
 
   pub copysign-at : {n p : ℤ} {x x' y y' : Float} → At k n x x' → At k p y y' → At k n (copysign x y) (copysign x' y')
   copysign-at {n} {p} {x} {y = y} f g = record { scaled = ap₂ copysign (f .scaled) (g .scaled) ∙ copysign-scale (n *ℤ k) (p *ℤ k) x y }
@@ -130,31 +138,31 @@ module _ {k : ℤ} where
 
   -- ---- tests
   pub lt-same : {n : ℤ} {x x' y y' : Float} → At k n x x' → At k n y y' → lt x y ≡ lt x' y'
-  lt-same {n} {x} {y = y} f g = sym (ap₂ lt (f .scaled) (g .scaled) ∙ lt-scale (n *ℤ k) x y)
+  lt-same = same₂ lt lt-scale
 
   pub le-same : {n : ℤ} {x x' y y' : Float} → At k n x x' → At k n y y' → le x y ≡ le x' y'
-  le-same {n} {x} {y = y} f g = sym (ap₂ le (f .scaled) (g .scaled) ∙ le-scale (n *ℤ k) x y)
+  le-same = same₂ le le-scale
 
   pub eq-same : {n : ℤ} {x x' y y' : Float} → At k n x x' → At k n y y' → eq x y ≡ eq x' y'
-  eq-same {n} {x} {y = y} f g = sym (ap₂ eq (f .scaled) (g .scaled) ∙ eq-scale (n *ℤ k) x y)
+  eq-same = same₂ eq eq-scale
 
   pub ne-same : {n : ℤ} {x x' y y' : Float} → At k n x x' → At k n y y' → ne x y ≡ ne x' y'
-  ne-same {n} {x} {y = y} f g = sym (ap₂ ne (f .scaled) (g .scaled) ∙ ne-scale (n *ℤ k) x y)
+  ne-same = same₂ ne ne-scale
 
   pub nan-same : {n : ℤ} {x x' : Float} → At k n x x' → isNan x ≡ isNan x'
-  nan-same {n} {x} f = sym (ap isNan (f .scaled) ∙ isNan-scale (n *ℤ k) x)
+  nan-same = same₁ isNan isNan-scale
 
   pub finite-same : {n : ℤ} {x x' : Float} → At k n x x' → finite x ≡ finite x'
-  finite-same {n} {x} f = sym (ap finite (f .scaled) ∙ finite-scale (n *ℤ k) x)
+  finite-same = same₁ finite finite-scale
 
   pub negative-same : {n : ℤ} {x x' : Float} → At k n x x' → negative x ≡ negative x'
-  negative-same {n} {x} f = sym (ap negative (f .scaled) ∙ negative-scale (n *ℤ k) x)
+  negative-same = same₁ negative negative-scale
 
   pub order-same : {n : ℤ} {x x' y y' : Float} → At k n x x' → At k n y y' → totalOrder x y ≡ totalOrder x' y'
-  order-same {n} {x} {y = y} f g = sym (ap₂ totalOrder (f .scaled) (g .scaled) ∙ totalOrder-scale (n *ℤ k) x y)
+  order-same = same₂ totalOrder totalOrder-scale
 
   pub total-same : {n : ℤ} {x x' y y' : Float} → At k n x x' → At k n y y' → totalCmp x y ≡ totalCmp x' y'
-  total-same {n} {x} {y = y} f g = sym (ap₂ totalCmp (f .scaled) (g .scaled) ∙ totalCmp-scale (n *ℤ k) x y)
+  total-same = same₂ totalCmp totalCmp-scale
 
 -- ---- the rules for control, with results in any relation
 

@@ -1,15 +1,15 @@
 -- The root of a significand times a power of two: its digits and its exponent, said once for every degree p. Assumes nothing.
-use Prim.Native.Nat.{ℕ, zero, suc, _+_, _-_, _*_, _/_, _%_, _^_, _≤_, _<_}
+use Prim.Native.Nat.{ℕ, _+_, _-_, _*_, _/_, _%_, _^_, _≤_, _<_}
 use mathlib.Core.Path.{_≡_, sym, ap, _∙_, subst}
 use mathlib.Core.Bool.{Bool}
-use native.Mathlib.Nat.{le-trans, le-of-eq, lt-of-lt-of-le, mul-assoc, mul-comm, mul-left-comm, mul-le-mul-right, le-mul-of-pos-right, mul-pos, eq-of-mul-eq-mul-right, mod-lt, mod-eq-of-lt, div-add-mod, pow-zero, pow-suc, pow-succ'}
+use native.Mathlib.Nat.{le-trans, le-of-eq, lt-of-lt-of-le, mul-assoc, mul-comm, mul-left-comm, mul-le-mul-right, le-mul-of-pos-right, mul-pos, mod-lt, div-add-mod}
 use native.Mathlib.Omega.{arith}
 use lib.Dec.{lit<}
-use lib.Pow.{pow-add, pow-pos, pow-mono, shl-lt}
+use lib.Pow.{pow-add, pow-pos, pow-mono, shl-lt, shl-exact}
 use lib.Ieee.{Float, binary64, units}
 use lib.Ieee.Exact.{HasValue}
 use Rattle.ieee754.specs.Root.{roundRoot}
-use Rattle.ieee754.proofs.RootLaws.{dropped, drops-dropped, drops-times, roundRoot-at, nearest-ge, nearest-le}
+use Rattle.ieee754.proofs.RootLaws.{roundRoot-at, nearest-ge, nearest-le}
 use Rattle.ieee754.specs.inner.Nearest.{IsNearest}
 use Rattle.ieee754.specs.inner.Normal.{IsNormal}
 use Rattle.ieee754.specs.declared.normal.Scaled.{Scaled}
@@ -19,16 +19,16 @@ use Rattle.ieee754.proofs.Reading.{times}
 moved : (p m t : ℕ) → 2 ^ 52 ≤ m → m < 2 ^ 53 → t < p → (2 ^ 52 ≤ m * 2 ^ t) × (m * 2 ^ t < 2 ^ (52 + p))
 moved p m t l h o = (le-trans l (le-mul-of-pos-right m (pow-pos t)), lt-of-lt-of-le (shl-lt 53 t h) (pow-mono (omega arith)))
 
-kept : (p m t : ℕ) → 2 ^ 52 ≤ m → m < 2 ^ 53 → t < p → p ≤ 12 → m * 2 ^ t % 2 ^ 64 ≡ m * 2 ^ t
-kept p m t l h o w = mod-eq-of-lt (lt-of-lt-of-le (moved p m t l h o .1) (pow-mono {j = 64} (omega arith)))
-
 -- so in a word it loses no digit
 module _ (p m t : ℕ) (low : 2 ^ 52 ≤ m) (high : m < 2 ^ 53) (less : t < p) (room : p ≤ 12) where
+  exact : m * 2 ^ t % 2 ^ 64 ≡ m * 2 ^ t
+  exact = shl-exact 53 t 64 high (omega arith)
+
   pub moved-range : let n = m * 2 ^ t % 2 ^ 64 in (2 ^ 52 ≤ n) × (n < 2 ^ (52 + p))
-  moved-range = subst (λ (n : ℕ). (2 ^ 52 ≤ n) × (n < 2 ^ (52 + p))) (sym (kept p m t low high less room)) (moved p m t low high less)
+  moved-range = subst (λ (n : ℕ). (2 ^ 52 ≤ n) × (n < 2 ^ (52 + p))) (sym exact) (moved p m t low high less)
 
   pub moved-nearest : {q : ℕ} → IsNearest p (m * 2 ^ t % 2 ^ 64 * 2 ^ (52 * (p - 1))) q → IsNearest p (m * 2 ^ t * 2 ^ (52 * (p - 1))) q
-  moved-nearest {q} h = subst (λ (n : ℕ). IsNearest p (n * 2 ^ (52 * (p - 1))) q) (kept p m t low high less room) h
+  moved-nearest {q} h = subst (λ (n : ℕ). IsNearest p (n * 2 ^ (52 * (p - 1))) q) exact h
 
 -- times 2 ^ (52 * (p - 1)) it has as many digits as makes 53 digits of its root
 digits-ge : (p n : ℕ) → 0 < p → 2 ^ 52 ≤ n → 2 ^ (p * 52) ≤ n * 2 ^ (52 * (p - 1))
@@ -40,18 +40,6 @@ digits-lt : (p n : ℕ) → 0 < p → n < 2 ^ (52 + p) → n * 2 ^ (52 * (p - 1)
 digits-lt p n P h =
     let e : 52 + p + 52 * (p - 1) ≡ p * 53 = omega arith in
     lt-of-lt-of-le (shl-lt (52 + p) (52 * (p - 1)) h) (le-of-eq (ap (λ (x : ℕ). 2 ^ x) e))
-
--- a power of an odd number is odd
-pub odd-pow : (p w : ℕ) → (2 * w + 1) ^ p % 2 ≡ 1
-odd-pow zero w = ap (λ (x : ℕ). x % 2) (pow-zero (2 * w + 1))
-odd-pow (suc p) w = ap (λ (x : ℕ). x % 2) (pow-suc (2 * w + 1) p) ∙ step ((2 * w + 1) ^ p) (odd-pow p w)
-  where
-    step : (x : ℕ) → x % 2 ≡ 1 → x * (2 * w + 1) % 2 ≡ 1
-    step x h = omega arith
-
-odd-even : (p w n : ℕ) → 0 < p → 2 ^ p * n ≡ (2 * w + 1) ^ p → ⊥
-odd-even zero w n P h = omega arith
-odd-even (suc p) w n P h = omega (arith, odd-pow (suc p) w, ap (λ (x : ℕ). x * n) (pow-succ' 2 p), mul-assoc 2 (2 ^ p) n)
 
 regroup : (m a b c d h k : ℕ) → a * b ≡ c * d → m * a * (b * (h * k)) ≡ m * c * h * (k * d)
 regroup m a b c d h k e = simp (mul-assoc, mul-comm, mul-left-comm) (simp (mul-assoc, mul-comm, mul-left-comm) at (ap (λ (z : ℕ). m * (h * k) * z) e))
@@ -85,17 +73,6 @@ module _ (p bias m e : ℕ) (P : 0 < p) (gap : p * 1074 ≡ bias + (52 * (p - 1)
   radicand =
       ap (λ (x : ℕ). m * 2 ^ e * x) (ap (λ (x : ℕ). 2 ^ x) gap ∙ pow-add 2 bias (52 * (p - 1) + 1126) ∙ ap (λ (x : ℕ). 2 ^ bias * x) (pow-add 2 (52 * (p - 1)) 1126))
       ∙ regroup m (2 ^ e) (2 ^ bias) (2 ^ ((e + bias) % p)) (2 ^ (p * ((e + bias) / p))) (2 ^ (52 * (p - 1))) (2 ^ 1126) split
-
-  -- No root of a double is half way between two doubles: the test that `roundRoot` makes never finds the two sides equal
-  pub no-tie : (w : ℕ) → let N = m * 2 ^ e * 2 ^ (p * 1074) in 2 ^ p * N ≡ (2 * w + 1) ^ p * (2 ^ 1126 * 2 ^ (p * dropped p binary64 N (2 ^ 1126))) → ⊥
-  no-tie w h =
-      let u = 2 ^ 1126 * 2 ^ (p * k) in
-      let d : dropped p binary64 (n * u) (2 ^ 1126) ≡ k = drops-dropped p binary64 (n * u) (2 ^ 1126) k P (lit< tt) (drops-times p binary64 n (2 ^ 1126) k (lit< tt) ge lt) in
-      odd-even p w n P
-      (eq-of-mul-eq-mul-right u (mul-pos {m = 2 ^ 1126} (lit< tt) (pow-pos (p * k))) (2 ^ p * n) ((2 * w + 1) ^ p)
-      (mul-assoc (2 ^ p) n u
-      ∙ subst (λ (x : ℕ). 2 ^ p * (n * u) ≡ (2 * w + 1) ^ p * (2 ^ 1126 * 2 ^ (p * x))) d
-      (subst (λ (x : ℕ). 2 ^ p * x ≡ (2 * w + 1) ^ p * (2 ^ 1126 * 2 ^ (p * dropped p binary64 x (2 ^ 1126)))) radicand h)))
 
   -- the digits q of the root
   module _ (q : ℕ) (near : IsNearest p (m * 2 ^ ((e + bias) % p) * 2 ^ (52 * (p - 1))) q) where

@@ -8,7 +8,7 @@ use mathlib.Core.Bool.{Bool, true, false, cond, _&&_, Bool·beq}
 use lib.IntN.{ℤ}
 use lib.Dec.{T, leb, ltb, eqb, leb→le, ltb→lt, eqb→eq}
 use lib.Pow.{pow-lt}
-use lib.Ieee.{Float, nan, inf, fin, Format, binary64, prec, emax, low, top, hid, up, down, size, nearest, odd, units, round, sum, mul, lt, isNan, fits, toBits}
+use lib.Ieee.{Float, nan, inf, fin, Format, binary64, prec, emax, low, top, hid, up, down, size, odd, units, round, sum, mul, lt, isNan, fits, toBits}
 use lib.Ieee.Fits.{down-pos, and-l, and-r, odd-fits, nearest-le, round-fits, cond-fits, nan-fits, inf-fits, add-fits}
 use lib.Ieee.Nearest.{div-same}
 use lib.Ieee.Bits.{ofBits-toBits}
@@ -18,7 +18,8 @@ use Rattle.ieee754.specs.Maximum.{max}
 use Rattle.ieee754.specs.Clamp.{raised, clamp}
 use Rattle.ieee754.specs.Root.{root, roundRoot, sqrt, cbrt}
 use Rattle.ieee754.specs.Fma.{fma}
-use Rattle.ieee754.proofs.RootLaws.{pow-mul, base-lt, dropped, dropped-drops, root-is, quotient-lt, roundRoot-is}
+use Rattle.ieee754.proofs.PowerLaws.{pow-mul, base-lt}
+use Rattle.ieee754.proofs.RootLaws.{dropped, dropped-drops, kept, root-is, quotient-lt, roundRoot-is}
 
 -- ---- what it takes to be a double other than zero
 pub record Parts (m : ℕ) (e : ℤ) : Type 0 where
@@ -79,7 +80,7 @@ roundRoot-fits p f s num den P D =
     let few : n / u < 2 ^ (p * prec f) = quotient-lt p f n den k D (dropped-drops p f n den P D .0) in
     let short : w < 2 ^ prec f = base-lt p w (2 ^ prec f) (lt-of-le-of-lt (root-is p (prec f) (n / u) P few .0) (lt-of-lt-of-le few (le-of-eq (sym (pow-mul 2 (prec f) p))))) in
     subst (λ (x : Float). T (fits f x)) (sym (roundRoot-is p f s num den))
-    (units-fits f s (nearest w (compare (2 ^ p * n) ((2 * w + 1) ^ p * u))) k (le-trans (nearest-le w (compare (2 ^ p * n) ((2 * w + 1) ^ p * u))) short))
+    (units-fits f s (kept p (prec f) n u) k (le-trans (nearest-le w (compare (2 ^ p * n) ((2 * w + 1) ^ p * u))) short))
 
 pub sqrt-fits : (x : Float) → T (fits binary64 x) → T (fits binary64 (sqrt x))
 unfolding sqrt

@@ -1,6 +1,7 @@
 -- What the proofs of this crate share, from numbers and words up to rounding and roots; then the laws that crates above cite, and theorems about the definitions.
 pub mod Order
 pub mod Sizes
+pub mod PowerLaws
 pub mod Carry
 pub mod Nearest
 pub mod Jam

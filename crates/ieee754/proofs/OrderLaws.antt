@@ -11,9 +11,8 @@ use lib.Dec.{T, isLe, isEq, leb, ltb, eqb, leb→le, le→leb, ltb→lt}
 use lib.Arith.{lt→nleb}
 use lib.Ieee.{Float, nan, inf, fin, binary64, up, down, below, level, lt, eq, isNan, fits, ofBits}
 use lib.Ieee.Fits.{down-pos}
-use lib.Ieee.Bits.{is-true, is-false}
 use lib.Ieee.Positive.{through}
-use borrow.Author.Tests.{lt-ltb, le-ltb}
+use borrow.Author.Tests.{lt-ltb, le-ltb, lt-leb, le-leb}
 use Rattle.ieee754.specs.Literal.{double}
 use Rattle.ieee754.specs.TotalOrder.{totalOrder, totalCmp}
 use Rattle.ieee754.specs.declared.total_cmp.Order.the-variants.{Less, Equal, Greater}
@@ -46,9 +45,9 @@ asked-is true (suc a) false b = ap (λ (x : Bool). x || (eqb (suc a) b && eqb (s
 asked-is true a true b = go (compare a b) (compared a b)
   where
     go : (o : Ordering) → Compared o a b → ltb b a || (isEq o && true && true) ≡ leb b a
-    go Ordering·lt h = ap (λ (x : Bool). x || false) (le-ltb b a (le-of-lt h)) ∙ sym (is-false (leb b a) (lt→nleb b a h))
-    go Ordering·eq h = ap (λ (x : Bool). x || true) (le-ltb b a (le-of-eq h)) ∙ sym (is-true (leb b a) (le→leb b a (le-of-eq (sym h))))
-    go Ordering·gt h = ap (λ (x : Bool). x || false) (lt-ltb b a h) ∙ sym (is-true (leb b a) (le→leb b a (le-of-lt h)))
+    go Ordering·lt h = ap (λ (x : Bool). x || false) (le-ltb b a (le-of-lt h)) ∙ sym (lt-leb b a h)
+    go Ordering·eq h = ap (λ (x : Bool). x || true) (le-ltb b a (le-of-eq h)) ∙ sym (le-leb b a (le-of-eq (sym h)))
+    go Ordering·gt h = ap (λ (x : Bool). x || false) (lt-ltb b a h) ∙ sym (le-leb b a (le-of-lt h))
 
 order-fin : (s : Bool) (m : ℕ) (e : ℤ) (t : Bool) (n : ℕ) (d : ℤ) → totalOrder (fin s m e) (fin t n d) ≡ signed s (m * up e * down d) t (n * up d * down e)
 unfolding totalOrder lt eq isNan

@@ -7,15 +7,14 @@ use mathlib.Core.Logic.{⊎-elim}
 use mathlib.Core.Bool.{Bool, cond}
 use native.Mathlib.Nat.{le-refl, le-trans, le-of-eq, lt-of-le-of-lt, lt-of-lt-of-le, eq-or-lt-of-le, add-assoc, suc-mul, mul-le-mul-right, lt-of-mul-lt-mul-right, le-of-mul-le-mul-right, two-pow-succ, mul-div-cancel}
 use native.Mathlib.Omega.{arith}
-use lib.Dec.{ltb, lt→ltb}
-use lib.Arith.{le→nltb}
 use lib.Pow.{pow-add, pow-pos, pow-mono, pow-lt, shl-lt}
 use lib.Count.{trailingZeros}
 use lib.IntN.{ℤ, pos}
 use lib.Ieee.{fin, inf, Format, prec, emax, low, hid, ones, top, down, minus, size, odd, units, ofBits, toBits}
 use lib.Ieee.Digits.{Equals, odd-val}
 use lib.Ieee.Fits.{two, reach, two-le-pos, down-pos, odd-fits, inf-fits}
-use lib.Ieee.Bits.{is-true, is-false, ofBits-toBits}
+use lib.Ieee.Bits.{ofBits-toBits}
+use borrow.Author.Tests.{lt-ltb, le-ltb}
 use Rattle.ieee754.proofs.Order.{lt-or-ge}
 use Rattle.ieee754.proofs.Sizes.{size-drop}
 
@@ -105,7 +104,7 @@ module _ (f : Format) (q k : ℕ) (short : q ≤ 2 ^ prec f) (full : 0 < k → h
       let v = odd (suc (prec f)) s q k (low f) in
       let o = under h in
       sym
-      (ap (λ (b : Bool). cond b v (inf s)) (is-true (ltb (q * 2 ^ k) (2 ^ (low f + suc (emax f)))) (lt→ltb (q * 2 ^ k) (2 ^ (low f + suc (emax f))) o))
+      (ap (λ (b : Bool). cond b v (inf s)) (lt-ltb (q * 2 ^ k) (2 ^ (low f + suc (emax f))) o)
       ∙ sym (ofBits-toBits f v (odd-fits f (suc (prec f)) s q k (lt-of-le-of-lt short (pow-lt (le-refl (suc (prec f))))) short o))
       ∙ ap (ofBits f) (toBits-odd f (suc (prec f)) s q k ∙ ap (λ (x : ℕ). cond s (top f) 0 + x) (fields f q k short full)))
 
@@ -113,4 +112,4 @@ module _ (f : Format) (q k : ℕ) (short : q ≤ 2 ^ prec f) (full : 0 < k → h
   unfolding units toBits
   units-infinite s h =
       ofBits-toBits f (inf s) (inf-fits f s)
-      ∙ sym (ap (λ (b : Bool). cond b (odd (suc (prec f)) s q k (low f)) (inf s)) (is-false (ltb (q * 2 ^ k) (2 ^ (low f + suc (emax f)))) (le→nltb (q * 2 ^ k) (2 ^ (low f + suc (emax f))) (over h))))
+      ∙ sym (ap (λ (b : Bool). cond b (odd (suc (prec f)) s q k (low f)) (inf s)) (le-ltb (q * 2 ^ k) (2 ^ (low f + suc (emax f))) (over h)))

@@ -11,9 +11,9 @@ use lib.Ieee.{up, down, minus, below, level}
 use lib.Ieee.Digits.{minus-val}
 use lib.Ieee.Fits.{up-pos, down-pos}
 use Rattle.ieee754.specs.Scaling.{moved}
-use Rattle.ieee754.proofs.Order.{scaled-test}
+use Rattle.ieee754.proofs.Order.{scaled-test, cross-test}
 use Rattle.ieee754.proofs.Nearest.{compare-mul}
-use Rattle.ieee754.proofs.Sums.{sub-mul}
+use Rattle.ieee754.proofs.Sums.{cross-sub}
 
 -- ---- exponents
 pub +ℤ-right-comm : (x y z : ℤ) → x +ℤ y +ℤ z ≡ x +ℤ z +ℤ y
@@ -107,19 +107,17 @@ module _ {t : ℤ} {x y c x' y' c' : ℕ} (p : Ratio t x c x' c') (q : Ratio t y
   ratio-add = record { den = p .den; den' = p .den'; cross = omega arith }
 
   pub ratio-sub : Ratio t (x - y) c (x' - y') c'
-  ratio-sub = record { den = p .den; den' = p .den'; cross = sub-mul x' y' (c * down t) ∙ ap₂ (λ (m n : ℕ). m - n) (p .cross) (q .cross) ∙ sym (sub-mul x y (c' * up t)) }
+  ratio-sub = record { den = p .den; den' = p .den'; cross = cross-sub x' y' (c' * up t) x y (c * down t) (p .cross) (q .cross) }
 
-  before : 0 < c * down t
-  before = mul-pos (p .den) (down-pos t)
-
-  after : 0 < c' * up t
-  after = mul-pos (p .den') (up-pos t)
+  -- a test that sees only the ratio of two numbers
+  ratio-test : (r : ℕ → ℕ → Bool) → ((a b e : ℕ) → 0 < e → r (a * e) (b * e) ≡ r a b) → r x' y' ≡ r x y
+  ratio-test r scaled = cross-test r scaled x' y' (c' * up t) x y (c * down t) (mul-pos (p .den') (up-pos t)) (mul-pos (p .den) (down-pos t)) (p .cross) (q .cross)
 
   pub ratio-lt : ltb x' y' ≡ ltb x y
-  ratio-lt = sym (scaled-test x' y' (c * down t) before) ∙ ap₂ ltb (p .cross) (q .cross) ∙ scaled-test x y (c' * up t) after
+  ratio-lt = ratio-test ltb scaled-test
 
   pub ratio-eq : eqb x' y' ≡ eqb x y
-  ratio-eq = sym (ap isEq (compare-mul x' y' (c * down t) before)) ∙ ap₂ eqb (p .cross) (q .cross) ∙ ap isEq (compare-mul x y (c' * up t) after)
+  ratio-eq = ratio-test eqb (λ a b e E. ap isEq (compare-mul a b e E))
 
 -- the two tests of `lib.Ieee`, ±x < ±y and ±x = ±y
 module _ {t : ℤ} {x y c x' y' c' : ℕ} (p : Ratio t x c x' c') (q : Ratio t y c y' c') where

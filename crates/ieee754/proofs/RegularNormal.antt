@@ -6,22 +6,22 @@ use Prim.Native.Nat.{ℕ, zero, suc, _+_, _-_, _*_, _/_, _^_, _≤_, _<_, compar
 use native.Mathlib.Nat.{zero-lt-suc, le-trans, le-of-eq, lt-of-le-of-lt, lt-of-lt-of-le, mul-assoc, mul-pos, mul-le-mul-left, mul-le-mul-right, mul-lt-mul-of-pos-right, lt-of-mul-lt-mul-right, le-of-mul-le-mul-right, le-mul-of-pos-right, one-mul}
 use native.Mathlib.Omega.{arith}
 use mathlib.Core.Bool.{Bool, true, false, cond, _&&_, _||_, Bool·beq, true≢false}
-use lib.Dec.{T, leb, ltb, eqb, leb→le, le→leb, lt→ltb, lit≤, eqb·suc-zero}
+use lib.Dec.{T, leb, ltb, eqb, leb→le, le→leb, lit≤, eqb·suc-zero}
 use lib.Pow.{pow-add, pow-pos, pow-mono}
 use lib.Ieee.{Float, nan, inf, fin, binary64, up, down, odd, units, round, sum, neg, add, sub, mul, div, lt, ofBits, unlike}
 use lib.Ieee.Fits.{down-pos, up-pos, and-r}
 use lib.Ieee.Exact.{HasValue, odd-sign}
 use lib.Ieee.Nearest.{nearest-ge}
-use lib.Ieee.Bits.{is-true}
-use borrow.Author.Tests.{le-ltb}
+use borrow.Author.Tests.{lt-ltb, le-ltb}
 use Rattle.ieee754.specs.Literal.{double, minPositive}
 use Rattle.ieee754.specs.Root.{root, roundRoot, sqrt, cbrt}
 use Rattle.ieee754.specs.Fma.{fma}
 use Rattle.ieee754.specs.Traced.{Traced, _⊕_, inRange, magnitude, addRegular, mulRegular, divRegular, fmaRegular, sqrtRegular, cbrtRegular}
 use Rattle.ieee754.proofs.Order.{or-right}
-use Rattle.ieee754.proofs.RootLaws.{mul-pow, pow-mul, pow-back, dropped-drops, root-whole, roundRoot-is}
+use Rattle.ieee754.proofs.PowerLaws.{pow-shift, raised, pow-back}
+use Rattle.ieee754.proofs.RootLaws.{dropped-drops, root-whole, roundRoot-is}
 use Rattle.ieee754.proofs.RootValues.{roundRoot-one}
-use Rattle.ieee754.proofs.RoundScale.{Normal, zero-or-normal, raised, least-units, drops-least, drop, keep, roundRoot-zero, roundRoot-odd}
+use Rattle.ieee754.proofs.RoundScale.{Normal, zero-or-normal, least-units, drops-least, drop, keep, roundRoot-zero, roundRoot-value}
 
 -- zero, of magnitude 2 ^ -1022 at least, infinite or NaN
 abbrev pub zeroOrNormal : Float → Bool
@@ -34,7 +34,7 @@ whole-above : (p j n c k w : ℕ) → 2 ^ (p * j) * c ≤ n → 2 ^ p * n < (2 *
 whole-above p j n c k w h l = omega (arith, pow-back p c (2 * 2 ^ j) (2 * suc w * 2 ^ k) (lt-of-le-of-lt (le-trans (le-of-eq powers) (mul-le-mul-left (2 ^ p) h)) (lt-of-lt-of-le l (le-of-eq (raised p (2 * suc w) k c)))))
   where
     powers : (2 * 2 ^ j) ^ p * c ≡ 2 ^ p * (2 ^ (p * j) * c)
-    powers = ap (λ (x : ℕ). x * c) (mul-pow 2 (2 ^ j) p ∙ ap (λ (x : ℕ). 2 ^ p * x) (pow-mul 2 j p)) ∙ mul-assoc (2 ^ p) (2 ^ (p * j)) c
+    powers = ap (λ (x : ℕ). x * c) (sym (pow-shift p 2 j)) ∙ mul-assoc (2 ^ p) (2 ^ (p * j)) c
 
 -- the whole part of the root of a / c, in units of what is dropped
 abbrev pub part : ℕ → ℕ → ℕ → ℕ
@@ -86,8 +86,7 @@ roundRoot-normal p s a c P C r = go (zero-or-normal p a c r)
     go (inr N) =
         let q = keep p a c in
         let k = drop p a c in
-        subst (λ (x : Float). T (zeroOrNormal x)) (sym (roundRoot-odd p P s a c C N))
-        (value-normal (odd 54 s q k 1074) s (q * 2 ^ k) (odd-sign 54 s q k 1074) (le-trans (keep-least p P a c C (N .least)) (le-mul-of-pos-right q (pow-pos k))))
+        value-normal (roundRoot p binary64 s a c) s (q * 2 ^ k) (roundRoot-value p P s a c C N) (le-trans (keep-least p P a c C (N .least)) (le-mul-of-pos-right q (pow-pos k)))
 
 pub round-normal : (s : Bool) (a c : ℕ) → 0 < c → T (inRange 1 a c) → T (zeroOrNormal (round binary64 s a c))
 round-normal s a c C r = subst (λ (x : Float). T (zeroOrNormal x)) (roundRoot-one binary64 s a c C) (roundRoot-normal 1 s a c (zero-lt-suc 0) C r)
@@ -184,7 +183,7 @@ unfolding lt ofBits
 above-min (fin true m e) w v h = absurd (true≢false (v .0))
 above-min (fin false m e) w v h =
     let more : 1 * down e < m * up e * 2 ^ 1022 = lt-of-le-of-lt (le-of-eq (one-mul (down e))) (value-gt (down e) (m * up e) (2 ^ 1022) (2 ^ 52) (2 ^ 1074) w (down-pos e) refl (v .1) h) in
-    is-true (ltb (1 * down e) (m * up e * 2 ^ 1022)) (lt→ltb (1 * down e) (m * up e * 2 ^ 1022) more)
+    lt-ltb (1 * down e) (m * up e * 2 ^ 1022) more
 
 units-above : (q k : ℕ) → 2 ^ 52 < q * 2 ^ k → lt minPositive (units binary64 false q k) ≡ true
 unfolding units
@@ -220,7 +219,7 @@ sqrt-above (fin false (suc m) e) r =
     let one : 1 ≤ q = le-trans (pow-pos 52) (keep-least 2 (zero-lt-suc 1) a c (down-pos e) least2) in
     let root : lt minPositive (roundRoot 2 binary64 false a c) ≡ true =
     ap (λ (x : Float). lt minPositive x) (roundRoot-is 2 binary64 false a c) ∙ units-above q k (enough (part 2 a c) q (2 ^ k) (2 ^ 563) (2 ^ 52) far (keep-ge 2 (zero-lt-suc 1) a c (down-pos e) least2) one (lit≤ tt)) in
-    root ∙ sym (is-true (ltb (0 * down e) (a * 1)) (lt→ltb (0 * down e) (a * 1) (some (down e) a (mul-pos (zero-lt-suc m) (up-pos e)))))
+    root ∙ sym (lt-ltb (0 * down e) (a * 1) (some (down e) a (mul-pos (zero-lt-suc m) (up-pos e))))
   where
     times : (c a x y z : ℕ) → x * y ≡ z → c ≤ a * x → y * c ≤ a * z
     times c a x y z e h = omega (arith, mul-le-mul-right y h, ap (λ (w : ℕ). a * w) e)

@@ -1,43 +1,23 @@
 -- What `roundRoot` of Root.antt means. For a reader there are two laws. `dropped-drops`: with the k digits that it drops, the root is below 2 ^ (prec + k)
--- units, and no less than 2 ^ (prec - 1 + k) unless k is 0, so 2 ^ k units is the step of the format's values there. `roundRoot-near`: the result is q such steps,
--- and the root is no further from that than half a step. For a proof there is one, `roundRoot-at`: how to meet `roundRoot`. Assumes nothing.
+-- units, and no less than 2 ^ (prec - 1 + k) unless k is 0, so 2 ^ k units is the step of the format's values there. `kept-near`: what is kept, which
+-- is the result in such steps (`roundRoot-is`), is no further from the root than half a step. For a proof there is one, `roundRoot-at`: how to meet `roundRoot`. Assumes nothing.
 use Prim.Native.Nat.{ℕ, zero, suc, _+_, _-_, _*_, _/_, _^_, _≤_, _<_, zero-le, compare, Ordering, Ordering·lt, Ordering·eq, Ordering·gt}
 use mathlib.Core.Path.{_≡_, refl, sym, ap, _∙_, subst}
 use mathlib.Core.Logic.{_⊎_, inl, inr}
 use mathlib.Core.Bool.{Bool, true, false, not, cond}
-use native.Mathlib.Nat.{le-trans, le-of-eq, le-of-lt, lt-trans, lt-of-lt-of-le, lt-of-le-of-lt, lt-of-not-le, not-le-of-lt, zero-add, mul-one, mul-comm, mul-assoc, mul-left-comm, mul-mul-mul-comm, mul-add, suc-mul, pow-zero, pow-suc, pow-le-pow-left, mul-pos, mul-le-mul-left, mul-le-mul-right, mul-lt-mul-of-pos-left, mul-lt-mul-of-pos-right, lt-of-mul-lt-mul-right, le-of-suc-le-suc, eq-zero-or-pos, div-lt-iff-lt-mul, le-div-iff-mul-le, lt-div-mul-add}
+use native.Mathlib.Nat.{le-trans, le-of-eq, le-of-lt, lt-trans, lt-of-lt-of-le, lt-of-le-of-lt, zero-add, mul-assoc, suc-mul, pow-le-pow-left, mul-pos, mul-le-mul-left, mul-le-mul-right, mul-lt-mul-of-pos-left, mul-lt-mul-of-pos-right, le-of-suc-le-suc, eq-zero-or-pos, div-lt-iff-lt-mul, le-div-iff-mul-le, lt-div-mul-add}
 use native.Mathlib.Numerals.{add-one}
 use native.Mathlib.Omega.{arith}
 use lib.Dec.{T, leb, leb→le, nleb→lt}
-use lib.Pow.{pow-add, pow-pos, pow-mono}
-use lib.Ieee.{Float, Format, prec, low, up, size, nearest, units}
+use lib.Pow.{pow-pos, pow-mono}
+use lib.Ieee.{Float, Format, prec, low, size, nearest, units}
 use lib.Ieee.Digits.{size-lt, size-le, size-reaches}
 use lib.Ieee.Fits.{two}
 use Rattle.ieee754.specs.Root.{rootDigits, root, roundRoot}
 use Rattle.ieee754.specs.inner.Nearest.{IsNearest}
 pub use Rattle.ieee754.proofs.Nearest.{Compared, compared}
 use Rattle.ieee754.proofs.Sizes.{size-gt}
-
--- ---- powers
-
-pub mul-pow : (a b p : ℕ) → (a * b) ^ p ≡ a ^ p * b ^ p
-mul-pow a b zero = simp (pow-zero, mul-one)
-mul-pow a b (suc p) = simp (pow-suc, mul-pow a b p, mul-mul-mul-comm)
-
-pub pow-mul : (b k p : ℕ) → (b ^ k) ^ p ≡ b ^ (p * k)
-pow-mul b k zero = pow-zero (b ^ k) ∙ sym (ap (λ (x : ℕ). b ^ x) (omega arith) ∙ pow-zero b)
-pow-mul b k (suc p) = pow-suc (b ^ k) p ∙ ap (λ (x : ℕ). x * b ^ k) (pow-mul b k p) ∙ sym (pow-add b (p * k) k) ∙ ap (λ (x : ℕ). b ^ x) (sym (suc-mul p k))
-
-zero-pow : (p : ℕ) → 0 < p → 0 ^ p ≡ 0
-zero-pow zero h = omega arith
-zero-pow (suc p) h = pow-suc 0 p ∙ omega arith
-
--- a power is below another only if its base is
-pub base-lt : (p x y : ℕ) → x ^ p < y ^ p → x < y
-base-lt p x y h = lt-of-not-le (λ (g : y ≤ x). not-le-of-lt h (pow-le-pow-left g p))
-
-pub pow-back : (p u x y : ℕ) → x ^ p * u < y ^ p * u → x < y
-pow-back p u x y h = base-lt p x y (lt-of-mul-lt-mul-right u h)
+use Rattle.ieee754.proofs.PowerLaws.{pow-mul, pow-shift, double-pow, split-pow, zero-pow, base-lt, pow-back}
 
 -- ---- the whole part of a root
 
@@ -69,9 +49,13 @@ root-is p k n P h =
 abbrev pub dropped : ℕ → Format → ℕ → ℕ → ℕ
 dropped p f n den = (size (n / den) + (p - 1)) / p - prec f
 
+-- what it keeps: the number nearest to the root of n / u, of which it finds d digits
+abbrev pub kept : ℕ → ℕ → ℕ → ℕ → ℕ
+kept p d n u = nearest (root p d (n / u)) (compare (2 ^ p * n) ((2 * root p d (n / u) + 1) ^ p * u))
+
 -- `roundRoot`, from its n, its k and its u on
 abbrev pub core : ℕ → Format → Bool → ℕ → ℕ → ℕ → Float
-core p f s n u k = units f s (nearest (root p (prec f) (n / u)) (compare (2 ^ p * n) ((2 * root p (prec f) (n / u) + 1) ^ p * u))) k
+core p f s n u k = units f s (kept p (prec f) n u) k
 
 pub roundRoot-is : (p : ℕ) (f : Format) (s : Bool) (num den : ℕ)
     → let n = num * 2 ^ (p * low f) in let k = dropped p f n den in roundRoot p f s num den ≡ core p f s n (den * 2 ^ (p * k)) k
@@ -143,13 +127,10 @@ Within p n u q = ((2 * q - 1) ^ p * u < 2 ^ p * n) × (2 ^ p * n < (2 * q + 1) ^
 abbrev pub Near : ℕ → ℕ → ℕ → ℕ → Type 0
 Near p n u q = ((2 * q - 1) ^ p * u ≤ 2 ^ p * n) × (2 ^ p * n ≤ (2 * q + 1) ^ p * u)
 
-double : (p q u : ℕ) → 2 ^ p * (q ^ p * u) ≡ (2 * q) ^ p * u
-double p q u = sym (mul-assoc (2 ^ p) (q ^ p) u) ∙ ap (λ (x : ℕ). x * u) (sym (mul-pow 2 q p))
-
 whole : (p n u q : ℕ) → 0 < u → IsRoot p (n / u) q → Whole p n u q
 whole p n u q U r = (
-  le-trans (le-of-eq (sym (double p q u))) (mul-le-mul-left (2 ^ p) (le-div-iff-mul-le U .0 (r .0))),
-  lt-of-lt-of-le (mul-lt-mul-of-pos-left (div-lt-iff-lt-mul U .0 (r .1)) (pow-pos p)) (le-of-eq (double p (suc q) u)),
+  le-trans (le-of-eq (sym (double-pow p q u))) (mul-le-mul-left (2 ^ p) (le-div-iff-mul-le U .0 (r .0))),
+  lt-of-lt-of-le (mul-lt-mul-of-pos-left (div-lt-iff-lt-mul U .0 (r .1)) (pow-pos p)) (le-of-eq (double-pow p (suc q) u)),
 )
 
 -- only one number lies strictly within a half of the root, and it is chosen
@@ -165,7 +146,7 @@ chosen p n u q w Ordering·gt c r h =
     omega (arith, pow-back p u (2 * w + 1) (2 * q + 1) (lt-trans c (h .1)), pow-back p u (2 * q - 1) (2 * suc w) (lt-trans (h .0) (r .1)))
 
 -- what is chosen is near
-pub chosen-near : (p n u w : ℕ) (o : Ordering) → Compared o (2 ^ p * n) ((2 * w + 1) ^ p * u) → Whole p n u w → Near p n u (nearest w o)
+chosen-near : (p n u w : ℕ) (o : Ordering) → Compared o (2 ^ p * n) ((2 * w + 1) ^ p * u) → Whole p n u w → Near p n u (nearest w o)
 chosen-near p n u w o c r = go o c
   where
     raise : {x y : ℕ} → x ≤ y → x ^ p * u ≤ y ^ p * u
@@ -177,10 +158,6 @@ chosen-near p n u w o c r = go o c
     go Ordering·gt c = (le-trans (raise (omega arith)) (le-of-lt c), le-trans (le-of-lt (r .1)) (raise (omega arith)))
 
 -- ---- the laws
-
--- the p-th power of 2 ^ (a + k)
-split-pow : (p a k den : ℕ) → 2 ^ (p * (a + k)) * den ≡ 2 ^ (p * a) * (den * 2 ^ (p * k))
-split-pow p a k den = simp (mul-add, pow-add, mul-assoc, mul-comm, mul-left-comm)
 
 pub quotient-lt : (p : ℕ) (f : Format) (n den k : ℕ) → 0 < den → n < 2 ^ (p * (prec f + k)) * den → n / (den * 2 ^ (p * k)) < 2 ^ (p * prec f)
 quotient-lt p f n den k D h = div-lt-iff-lt-mul (mul-pos D (pow-pos (p * k))) .1 (lt-of-lt-of-le h (le-of-eq (split-pow p (prec f) k den)))
@@ -203,7 +180,7 @@ core-at p f s num den k q P D d h =
     ∙ ap (λ (x : ℕ). units f s x k) (chosen p n u q w (compare (2 ^ p * n) ((2 * w + 1) ^ p * u)) (compared (2 ^ p * n) ((2 * w + 1) ^ p * u)) (root-whole p f n den k P D (d .0)) h)
 
 -- where the radicand is N times the p-th power of 2 ^ k, and the root of N has all the format's digits
-pub drops-times : (p : ℕ) (f : Format) (N den k : ℕ) → 0 < den → 2 ^ (p * (prec f - 1)) ≤ N → N < 2 ^ (p * prec f) → Drops p f (N * (den * 2 ^ (p * k))) den k
+drops-times : (p : ℕ) (f : Format) (N den k : ℕ) → 0 < den → 2 ^ (p * (prec f - 1)) ≤ N → N < 2 ^ (p * prec f) → Drops p f (N * (den * 2 ^ (p * k))) den k
 drops-times p f N den k D lo hi =
     let u = den * 2 ^ (p * k) in
     (rw split-pow (mul-lt-mul-of-pos-right hi (mul-pos D (pow-pos (p * k)))), inr (rw split-pow (mul-le-mul-right u lo)))
@@ -221,30 +198,20 @@ roundRoot-at p f s num den k N q P D e lo hi r =
     (subst (λ (n : ℕ). Drops p f n den k) (sym e) (drops-times p f N den k D lo hi))
     (subst (λ (n : ℕ). Within p n u q) (sym e) (rw up (mul-lt-mul-of-pos-right (r .above) U), rw up (mul-lt-mul-of-pos-right (r .below) U)))
 
--- Whatever the fraction, the result is a multiple of 2 ^ k units that is as near to the root as any
-pub roundRoot-near : (p : ℕ) (f : Format) (s : Bool) (num den : ℕ) → 0 < p → 0 < den
-    → let n = num * 2 ^ (p * low f) in
-    let k = dropped p f n den in
-    (q : ℕ) × (roundRoot p f s num den ≡ units f s q k) × Near p n (den * 2 ^ (p * k)) q
-roundRoot-near p f s num den P D =
-    let n = num * 2 ^ (p * low f) in
+-- Whatever the fraction, what is kept is as near to the root as any
+pub kept-near : (p : ℕ) (f : Format) (n den : ℕ) → 0 < p → 0 < den → let u = den * 2 ^ (p * dropped p f n den) in Near p n u (kept p (prec f) n u)
+kept-near p f n den P D =
     let k = dropped p f n den in
     let u = den * 2 ^ (p * k) in
     let w = root p (prec f) (n / u) in
-    let o = compare (2 ^ p * n) ((2 * w + 1) ^ p * u) in (
-      nearest w o,
-      roundRoot-is p f s num den,
-      chosen-near p n u w o (compared (2 ^ p * n) ((2 * w + 1) ^ p * u)) (root-whole p f n den k P D (dropped-drops p f n den P D .0)),
-    )
+    let middle = (2 * w + 1) ^ p * u in
+    chosen-near p n u w (compare (2 ^ p * n) middle) (compared (2 ^ p * n) middle) (root-whole p f n den k P D (dropped-drops p f n den P D .0))
 
 -- the nearest number has the digits of the root, or is the next power of two
-doubled : (p j : ℕ) → 2 ^ p * 2 ^ (p * j) ≡ (2 * 2 ^ j) ^ p
-doubled p j = ap (λ (x : ℕ). 2 ^ p * x) (sym (pow-mul 2 j p)) ∙ sym (mul-pow 2 (2 ^ j) p)
-
 pub nearest-ge : (p j n q : ℕ) → 2 ^ (p * j) ≤ n → IsNearest p n q → 2 ^ j ≤ q
 nearest-ge p j n q h r =
-    omega (arith, base-lt p (2 * 2 ^ j) (2 * q + 1) (lt-of-le-of-lt (le-trans (le-of-eq (sym (doubled p j))) (mul-le-mul-left (2 ^ p) h)) (r .below)))
+    omega (arith, base-lt p (2 * 2 ^ j) (2 * q + 1) (lt-of-le-of-lt (le-trans (le-of-eq (sym (pow-shift p 2 j))) (mul-le-mul-left (2 ^ p) h)) (r .below)))
 
 pub nearest-le : (p j n q : ℕ) → n < 2 ^ (p * j) → IsNearest p n q → q ≤ 2 ^ j
 nearest-le p j n q h r =
-    omega (arith, base-lt p (2 * q - 1) (2 * 2 ^ j) (lt-of-lt-of-le (lt-trans (r .above) (mul-lt-mul-of-pos-left h (pow-pos p))) (le-of-eq (doubled p j))))
+    omega (arith, base-lt p (2 * q - 1) (2 * 2 ^ j) (lt-of-lt-of-le (lt-trans (r .above) (mul-lt-mul-of-pos-left h (pow-pos p))) (le-of-eq (pow-shift p 2 j))))

@@ -3,25 +3,25 @@
 use mathlib.Core.Path.{_≡_, refl, sym, ap, _∙_, subst}
 use mathlib.Core.Logic.{⊎-elim}
 use Prim.Native.Nat.{ℕ, zero, suc, _+_, _-_, _*_, _^_, _≤_, _<_, compare, Ordering, Ordering·lt, Ordering·eq, Ordering·gt}
-use native.Mathlib.Nat.{le-trans, le-of-eq, le-of-lt, lt-of-lt-of-le, lt-of-le-of-lt, not-le-of-lt, zero-lt-suc, mul-one, mul-assoc, mul-left-comm, mul-pos, mul-le-mul-right, mul-lt-mul-of-pos-right, lt-irrefl, one-le-pow, lt-of-mul-lt-mul-right, eq-of-mul-eq-mul-right, pow-suc, pow-le-pow-left, pow-lt-pow-left, one-mul}
+use native.Mathlib.Nat.{le-trans, le-of-eq, le-of-lt, lt-of-lt-of-le, lt-of-le-of-lt, not-le-of-lt, zero-lt-suc, lt-suc-self, le-of-suc-le-suc, sub-add-cancel, mul-one, mul-assoc, mul-left-comm, mul-pos, mul-le-mul-right, mul-lt-mul-of-pos-right, lt-irrefl, lt-of-mul-lt-mul-right, eq-of-mul-eq-mul-right, pow-le-pow-left, pow-lt-pow-left, one-mul}
 use native.Mathlib.Omega.{arith}
 use mathlib.Core.Bool.{Bool, true, false}
 use lib.IntN.{ℤ, pos, negsuc}
 use lib.Dec.{T}
-use lib.Pow.{pow-add, pow-pos, pow-mono, pow-lt}
-use lib.Ieee.{Float, nan, inf, fin, binary64, up, down, nearest, odd, fits}
+use lib.Pow.{pow-add, pow-pos, pow-lt, shl-lt}
+use lib.Ieee.{Float, nan, inf, fin, binary64, up, down, nearest, fits}
 use lib.Ieee.Fits.{up-pos, down-pos}
-use lib.Ieee.Exact.{HasValue, odd-sign}
+use lib.Ieee.Exact.{HasValue}
 use lib.Ieee.Positive.{num, den, positive}
 use Rattle.ieee754.specs.Magnitude.{abs}
 use Rattle.ieee754.specs.CopySign.{negative}
 use Rattle.ieee754.specs.Root.{roundRoot, sqrt, cbrt}
 use Rattle.ieee754.specs.Traced.{inRange, sqrtRegular, cbrtRegular}
 use Rattle.ieee754.proofs.Order.{lt-or-ge}
-use Rattle.ieee754.proofs.Sizes.{shl-shl}
-use Rattle.ieee754.proofs.Exponent.{odd-pow}
+use Rattle.ieee754.proofs.Sizes.{shl-shl, exponent-lt}
+use Rattle.ieee754.proofs.PowerLaws.{raised, odd-pow, le-pow}
 use Rattle.ieee754.proofs.RootLaws.{Compared, compared, dropped-drops, root-whole}
-use Rattle.ieee754.proofs.RoundScale.{Normal, zero-or-normal, raised, drop, keep, roundRoot-odd}
+use Rattle.ieee754.proofs.RoundScale.{Normal, zero-or-normal, drop, keep, roundRoot-value}
 use Rattle.ieee754.proofs.RegularNormal.{part, whole-least}
 use Rattle.ieee754.proofs.Fitting.{fits-parts, odd-once}
 use Rattle.ieee754.proofs.RootRegular.{sqrt-regular, cbrt-regular}
@@ -38,9 +38,6 @@ pub record NearestRoot (p : ℕ) (s : Bool) (a c : ℕ) (x : Float) : Type 0 whe
   pub magnitude : ℕ
   pub value : HasValue x s magnitude (2 ^ 1074)
   pub nearer : (y : Float) (t : Bool) (b : ℕ) → T (fits binary64 y) → HasValue y t b (2 ^ 1074) → Nearer p a c magnitude b
-
-rest : (x y : ℕ) → x ≤ y → y ≡ y - x + x
-rest x y h = omega arith
 
 -- ---- a double is m * 2 ^ i smallest values, with m of 53 digits at most. So from 2 ^ (52 + k) of them on it is a multiple of 2 ^ k.
 pub record Whole (b : ℕ) : Type 0 where
@@ -62,27 +59,24 @@ double-whole (fin s (suc m) (pos j)) t b F v = record {
 }
 double-whole (fin s (suc m) (negsuc j)) t b F v =
     let h = fits-parts s m (negsuc j) F in
-    let few : suc j ≤ 1074 = le-exponent (suc j) 1074 (h .lowest) in
+    let few : suc j ≤ 1074 = le-of-suc-le-suc (exponent-lt (suc j) 1075 (h .lowest) (pow-lt (lt-suc-self 1074))) in
     let i = 1074 - suc j in
-    let split : 2 ^ 1074 ≡ 2 ^ i * 2 ^ suc j = ap (λ (x : ℕ). 2 ^ x) (rest (suc j) 1074 few) ∙ pow-add 2 i (suc j) in
+    let split : 2 ^ 1074 ≡ 2 ^ i * 2 ^ suc j = ap (λ (x : ℕ). 2 ^ x) (sym (sub-add-cancel few)) ∙ pow-add 2 i (suc j) in
     record {
       digits = suc m;
       exponent = i;
       short = h .short;
       is = eq-of-mul-eq-mul-right (2 ^ suc j) (pow-pos (suc j)) b (suc m * 2 ^ i) (sym (v .1) ∙ ap (λ (x : ℕ). x * 2 ^ 1074) (mul-one (suc m)) ∙ ap (λ (x : ℕ). suc m * x) split ∙ sym (mul-assoc (suc m) (2 ^ i) (2 ^ suc j)));
     }
-  where
-    le-exponent : (i j : ℕ) → 2 ^ i ≤ 2 ^ j → i ≤ j
-    le-exponent i j h = ⊎-elim (λ (l : j < i). absurd (not-le-of-lt (pow-lt l) h)) (λ (g : i ≤ j). g) (lt-or-ge j i)
 
 module _ (k w : ℕ) (W : 2 ^ 52 ≤ w) (b : ℕ) (B : Whole b) where
   multiple : 2 ^ 52 * 2 ^ k ≤ b → (j : ℕ) × (b ≡ j * 2 ^ k)
   multiple h =
       let m = B .digits in
       let i = B .exponent in
-      let under : 2 ^ (52 + k) < 2 ^ (53 + i) = lt-of-le-of-lt (le-trans (le-of-eq (pow-add 2 52 k)) (le-trans h (le-of-eq (B .is)))) (lt-of-lt-of-le (mul-lt-mul-of-pos-right (B .short) (pow-pos i)) (le-of-eq (sym (pow-add 2 53 i)))) in
-      let reach : 52 + k < 53 + i = ⊎-elim (λ (l : 52 + k < 53 + i). l) (λ (g : 53 + i ≤ 52 + k). absurd (not-le-of-lt under (pow-mono g))) (lt-or-ge (52 + k) (53 + i)) in
-      let split : 2 ^ i ≡ 2 ^ (i - k) * 2 ^ k = ap (λ (x : ℕ). 2 ^ x) (rest k i (omega (arith, reach))) ∙ pow-add 2 (i - k) k in
+      let reach : 52 + k < 53 + i = exponent-lt (52 + k) (53 + i) (le-trans (le-of-eq (pow-add 2 52 k)) h) (lt-of-le-of-lt (le-of-eq (B .is)) (shl-lt 53 i (B .short))) in
+      let few : k ≤ i = omega (arith, reach) in
+      let split : 2 ^ i ≡ 2 ^ (i - k) * 2 ^ k = ap (λ (x : ℕ). 2 ^ x) (sym (sub-add-cancel few)) ∙ pow-add 2 (i - k) k in
       (m * 2 ^ (i - k), B .is ∙ ap (λ (x : ℕ). m * x) split ∙ sym (mul-assoc m (2 ^ (i - k)) (2 ^ k)))
 
   -- no double lies strictly between w and w + 1 times 2 ^ k
@@ -103,16 +97,12 @@ tie-parts : (p m : ℕ) (e : ℤ) (o k : ℕ) → 2 ^ p * (m * up e * 2 ^ (p * 1
 tie-parts p m (pos x) o k h = (p + (x + p * 1074), p * k, regroup m (2 ^ p) (2 ^ x) (2 ^ (p * 1074)) (p + (x + p * 1074)) (simp pow-add) ∙ h ∙ ap (λ (y : ℕ). o * y) (one-mul (2 ^ (p * k))))
 tie-parts p m (negsuc x) o k h = (p + p * 1074, suc x + p * k, regroup m (2 ^ p) 1 (2 ^ (p * 1074)) (p + p * 1074) (pow-add 2 p (p * 1074) ∙ ap (λ (y : ℕ). 2 ^ p * y) (sym (one-mul (2 ^ (p * 1074))))) ∙ h ∙ ap (λ (y : ℕ). o * y) (sym (pow-add 2 (suc x) (p * k))))
 
-le-power : (p x : ℕ) → 0 < p → 0 < x → x ≤ x ^ p
-le-power zero x P X = absurd (lt-irrefl 0 P)
-le-power (suc p) x P X = le-trans (le-of-eq (sym (one-mul x))) (le-trans (mul-le-mul-right x (one-le-pow p x X)) (le-of-eq (sym (pow-suc x p))))
-
 no-tie : (p : ℕ) → 0 < p → (s : Bool) (m : ℕ) (e : ℤ) (w k : ℕ) → T (fits binary64 (fin s (suc m) e)) → 2 ^ 52 ≤ w → 2 ^ p * (suc m * up e * 2 ^ (p * 1074)) ≡ (2 * w + 1) ^ p * (down e * 2 ^ (p * k)) → ⊥
 no-tie p P s m e w k F W h =
     let f = fits-parts s m e F in
     let t = tie-parts p (suc m) e ((2 * w + 1) ^ p) k h in
     let same : suc m ≡ (2 * w + 1) ^ p = odd-once (suc m) ((2 * w + 1) ^ p) (t .0) (t .1) (f .odd) (odd-pow p w) (t .2) .0 in
-    let large : 2 * w + 1 ≤ (2 * w + 1) ^ p = le-power p (2 * w + 1) P (omega arith) in
+    let large : 2 * w + 1 ≤ (2 * w + 1) ^ p = le-pow p (2 * w + 1) P (omega arith) in
     omega (arith, f .short)
 
 -- ---- the root is on r's side of the middle
@@ -165,7 +155,7 @@ root-nearest p P s m e F R =
     let W : 2 ^ 52 ≤ w = whole-least p P a c C (N .least) in
     record {
       magnitude = keep p a c * 2 ^ k;
-      value = subst (λ (x : Float). HasValue x s (keep p a c * 2 ^ k) (2 ^ 1074)) (sym (roundRoot-odd p P s a c C N)) (odd-sign 54 s (keep p a c) k 1074);
+      value = roundRoot-value p P s a c C N;
       nearer = λ y t b G v.
           nearer-by p P a c k w b C W (double-whole y t b G v) (no-tie p P s m e w k F W) (root-whole p binary64 n c k P C (dropped-drops p binary64 n c P C .0))
           (compare (2 ^ p * n) ((2 * w + 1) ^ p * u)) (compared (2 ^ p * n) ((2 * w + 1) ^ p * u));

@@ -3,7 +3,7 @@
 use Prim.Native.Nat.{ℕ, zero, suc, _+_, _-_, _*_, _/_, _%_, _^_, _<_, compare, compare·suc-suc, Ordering}
 use mathlib.Core.Path.{_≡_, refl, sym, ap, _∙_}
 use mathlib.Core.Bool.{Bool, true, false, not, cond, true≢false, false≢true}
-use native.Mathlib.Nat.{add-zero, add-suc, mul-assoc, mul-right-comm, one-mul, zero-lt-suc, pow-zero, pow-suc, mul-pos, div-add-mod', div-one}
+use native.Mathlib.Nat.{add-zero, add-suc, mul-assoc, mul-right-comm, one-mul, zero-lt-suc, mul-pos, div-add-mod', div-one}
 use native.Mathlib.Omega.{arith}
 use lib.Dec.{ltb}
 use lib.Pow.{pow-pos}
@@ -13,10 +13,17 @@ use lib.Ieee.Fits.{up-pos, down-pos, round-is}
 use lib.Ieee.Exact.{HasValue}
 use lib.Ieee.Nearest.{div-same}
 use Rattle.ieee754.specs.Root.{root, roundRoot, sqrt, cbrt}
-pub use Rattle.ieee754.proofs.Nearest.{compare-mul, compare-same}
-use Rattle.ieee754.proofs.RootLaws.{dropped, dropped-drops, core, roundRoot-is, root-is, quotient-lt}
+use Rattle.ieee754.proofs.Nearest.{compare-same}
+use Rattle.ieee754.proofs.PowerLaws.{pow-one}
+use Rattle.ieee754.proofs.RootLaws.{dropped, dropped-drops, kept, core, roundRoot-is, root-is, quotient-lt}
 
 -- ---- only the value of the fraction counts
+
+-- equal fractions keep the same number
+pub kept-same : (p d n u m v : ℕ) → 0 < u → 0 < v → n * v ≡ m * u → kept p d n u ≡ kept p d m v
+kept-same p d n u m v U W e =
+    let q = root p d (m / v) in
+    ap (λ (z : ℕ). nearest (root p d z) (compare (2 ^ p * n) ((2 * root p d z + 1) ^ p * u))) (div-same n u m v U W e) ∙ ap (nearest q) (compare-same (2 ^ p) ((2 * q + 1) ^ p) n u m v U W e)
 
 pub roundRoot-same : (p : ℕ) (f : Format) (s : Bool) (a b c d : ℕ) → 0 < b → 0 < d → a * d ≡ c * b → roundRoot p f s a b ≡ roundRoot p f s c d
 roundRoot-same p f s a b c d B D e =
@@ -28,17 +35,12 @@ roundRoot-same p f s a b c d B D e =
     let X : 0 < x = mul-pos B (pow-pos (p * k)) in
     let Y : 0 < y = mul-pos D (pow-pos (p * k)) in
     let g : a * l * y ≡ c * l * x = sym (mul-assoc (a * l) d (2 ^ (p * k))) ∙ ap (λ (z : ℕ). z * 2 ^ (p * k)) h ∙ mul-assoc (c * l) b (2 ^ (p * k)) in
-    let q = root p (prec f) (c * l / y) in
     roundRoot-is p f s a b
     ∙ ap (λ (z : ℕ). core p f s (a * l) (b * 2 ^ (p * z)) z) (ap (λ (z : ℕ). (size z + (p - 1)) / p - prec f) (div-same (a * l) b (c * l) d B D h))
-    ∙ ap (λ (z : ℕ). units f s (nearest (root p (prec f) z) (compare (2 ^ p * (a * l)) ((2 * root p (prec f) z + 1) ^ p * x))) k) (div-same (a * l) x (c * l) y X Y g)
-    ∙ ap (λ (o : Ordering). units f s (nearest q o) k) (compare-same (2 ^ p) ((2 * q + 1) ^ p) (a * l) x (c * l) y X Y g)
+    ∙ ap (λ (z : ℕ). units f s z k) (kept-same p (prec f) (a * l) x (c * l) y X Y g)
     ∙ sym (roundRoot-is p f s c d)
 
 -- ---- at the degree 1 it is `round`
-
-pow-one : (x : ℕ) → x ^ 1 ≡ x
-pow-one x = pow-suc x 0 ∙ ap (λ (y : ℕ). y * x) (pow-zero x) ∙ one-mul x
 
 root-one : (k n : ℕ) → n < 2 ^ (1 * k) → root 1 k n ≡ n
 root-one k n h = omega (arith, simp pow-one at (root-is 1 k n (zero-lt-suc 0) h))
@@ -80,15 +82,18 @@ no-zero e a c A h = omega (arith, h, mul-pos A (down-pos e))
 no-digits : (m : ℕ) (e : ℤ) (a c : ℕ) → a ≡ 0 → 0 < c → suc m * up e * c ≡ a * down e → ⊥
 no-digits m e a c A C h = omega (arith, h, ap (λ (x : ℕ). x * down e) A, mul-pos (mul-pos (zero-lt-suc m) (up-pos e)) C)
 
+-- what gives back each zero gives back a value of 0
+by-zero : (op : Float → Float) → ((t : Bool) (e : ℤ) → fin t zero e ≡ op (fin t zero e)) → (x : Float) (s : Bool) (a c : ℕ) → a ≡ 0 → 0 < c → HasValue x s a c → x ≡ op x
+by-zero op z (fin t zero e) s a c A C v = z t e
+by-zero op z (fin t (suc m) e) s a c A C v = absurd (no-digits m e a c A C (v .1))
+
 pub sqrt-zero : (x : Float) (s : Bool) (a c : ℕ) → a ≡ 0 → 0 < c → HasValue x s a c → x ≡ sqrt x
 unfolding sqrt
-sqrt-zero (fin t zero e) s a c A C v = refl
-sqrt-zero (fin t (suc m) e) s a c A C v = absurd (no-digits m e a c A C (v .1))
+sqrt-zero = by-zero sqrt (λ t e. refl)
 
 pub cbrt-zero : (x : Float) (s : Bool) (a c : ℕ) → a ≡ 0 → 0 < c → HasValue x s a c → x ≡ cbrt x
 unfolding cbrt
-cbrt-zero (fin t zero e) s a c A C v = refl
-cbrt-zero (fin t (suc m) e) s a c A C v = absurd (no-digits m e a c A C (v .1))
+cbrt-zero = by-zero cbrt (λ t e. refl)
 
 pub sqrt-of : (x : Float) (a c : ℕ) → 0 < a → 0 < c → HasValue x false a c → sqrt x ≡ roundRoot 2 binary64 false a c
 unfolding sqrt
@@ -128,8 +133,7 @@ unfolding roundRoot
 roundRoot-neg p f s num den =
     let n = num * 2 ^ (p * low f) in
     let k = dropped p f n den in
-    let q = root p (prec f) (n / (den * 2 ^ (p * k))) in
-    units-neg f s (nearest q (compare (2 ^ p * n) ((2 * q + 1) ^ p * (den * 2 ^ (p * k))))) k
+    units-neg f s (kept p (prec f) n (den * 2 ^ (p * k))) k
 
 pub cbrt-neg : (x : Float) → cbrt (neg x) ≡ neg (cbrt x)
 unfolding cbrt neg

@@ -2,26 +2,27 @@
 -- in range (`inRange` of specs/Traced). At p = 1 it is a law of lib.Ieee's `round` (`round-scale`). All the laws on operations follow from these two. Assumes nothing.
 use mathlib.Core.Path.{_≡_, refl, sym, ap, _∙_, subst}
 use mathlib.Core.Logic.{_⊎_, inl, inr}
-use Prim.Native.Nat.{ℕ, zero, suc, _+_, _-_, _*_, _/_, _^_, _≤_, _<_, compare, Ordering}
-use native.Mathlib.Nat.{lt-irrefl, zero-lt-suc, le-trans, le-of-eq, add-zero, add-right-comm, lt-of-lt-of-le, lt-of-le-of-lt, lt-of-not-le, not-le-of-lt, mul-assoc, mul-comm, mul-left-comm, mul-right-comm, mul-add, mul-pos, mul-zero, zero-mul, one-le-pow, mul-le-mul-left, mul-le-mul-right, mul-lt-mul-of-pos-left, mul-lt-mul-of-pos-right, lt-of-mul-lt-mul-right, eq-of-mul-eq-mul-right, le-of-mul-le-mul-right}
+use Prim.Native.Nat.{ℕ, zero, suc, _+_, _-_, _*_, _/_, _^_, _≤_, _<_}
+use native.Mathlib.Nat.{lt-irrefl, zero-lt-suc, le-refl, le-trans, le-of-eq, add-zero, add-assoc, add-right-comm, lt-of-lt-of-le, lt-of-le-of-lt, mul-assoc, mul-comm, mul-left-comm, mul-right-comm, mul-add, mul-pos, mul-zero, zero-mul, one-le-pow, mul-le-mul-left, mul-le-mul-right, mul-lt-mul-of-pos-left, mul-lt-mul-of-pos-right, lt-of-mul-lt-mul-right, eq-of-mul-eq-mul-right, le-of-mul-le-mul-right}
 use native.Mathlib.Omega.{arith}
 use mathlib.Core.Bool.{Bool, true, false, _&&_, _||_}
 use lib.IntN.{ℤ, pos, negsuc, _+ℤ_, _*ℤ_, +ℤ-assoc, +ℤ-idr, +ℤ-invr}
-use lib.Dec.{T, leb, ltb, eqb, leb→le, ltb→lt, lt→ltb, eqb→eq}
+use lib.Dec.{T, leb, ltb, eqb, leb→le, ltb→lt, eqb→eq}
 use lib.Pow.{pow-add, pow-pos, pow-mono}
 use lib.Count.{trailingZeros}
-use lib.Ieee.{Float, nan, inf, fin, Format, binary64, prec, up, down, minus, nearest, odd, units, round}
+use lib.Ieee.{Float, nan, inf, fin, Format, binary64, prec, up, down, minus, odd, units, round}
 use lib.Ieee.Digits.{odd-val}
 use lib.Ieee.Fits.{down-pos}
-use lib.Ieee.Exact.{HasValue}
-use lib.Ieee.Nearest.{div-same}
-use lib.Ieee.Bits.{is-true}
-use Rattle.ieee754.specs.Root.{root, roundRoot}
+use lib.Ieee.Exact.{HasValue, odd-sign}
+use lib.Ieee.Positive.{first-pos}
+use borrow.Author.Tests.{lt-ltb}
+use Rattle.ieee754.specs.Root.{roundRoot}
 use Rattle.ieee754.specs.Traced.{inRange}
 use Rattle.ieee754.specs.Scaling.{scale, moved}
-use Rattle.ieee754.proofs.RootLaws.{mul-pow, pow-mul, pow-back, Drops, dropped, dropped-drops, drops-dropped, Near, roundRoot-is, chosen-near, root-whole}
-use Rattle.ieee754.proofs.Nearest.{compare-same, compared}
-use Rattle.ieee754.proofs.RootValues.{roundRoot-same, roundRoot-one}
+use Rattle.ieee754.proofs.Sizes.{exponent-lt}
+use Rattle.ieee754.proofs.PowerLaws.{pow-mul, pow-shift, raised, double-pow, split-pow, pow-back}
+use Rattle.ieee754.proofs.RootLaws.{Drops, dropped, dropped-drops, drops-dropped, kept, roundRoot-is, kept-near}
+use Rattle.ieee754.proofs.RootValues.{kept-same, roundRoot-same, roundRoot-one}
 use Rattle.ieee754.proofs.Sums.{sub-mul}
 use Rattle.ieee754.proofs.Powers.{Ratio, moved-ratio, minus-add, ℤ-once, up-negative, down-negative}
 
@@ -31,14 +32,6 @@ use Rattle.ieee754.proofs.Powers.{Ratio, moved-ratio, minus-add, ℤ-on
 pub record Normal (p a c : ℕ) : Type 0 where
   pub least : c ≤ a * 2 ^ (p * 1022)
   pub most : a < c * (2 ^ 1024 - 2 ^ 970) ^ p
-
--- the whole number that `roundRoot` keeps
-abbrev pub kept : ℕ → ℕ → ℕ → ℕ
-kept p n u = nearest (root p 53 (n / u)) (compare (2 ^ p * n) ((2 * root p 53 (n / u) + 1) ^ p * u))
-
--- x ^ p * (c * 2 ^ (p * k)) is (x * 2 ^ k) ^ p * c
-pub raised : (p x k c : ℕ) → x ^ p * (c * 2 ^ (p * k)) ≡ (x * 2 ^ k) ^ p * c
-raised p x k c = ap (λ (z : ℕ). x ^ p * (c * z)) (sym (pow-mul 2 k p)) ∙ (simp (mul-pow, mul-assoc, mul-comm, mul-left-comm))
 
 -- The result is q * 2 ^ k units, with k digits dropped. By E, the range's upper end in units, q * 2 ^ k is below B, since E is half of the last unit below B.
 module _ (p q k n c E W B j : ℕ) (most : n < c * E ^ p) (gap : 2 * E + W ≡ 2 * B) (half : 2 ^ j ≡ W) (top : 2 ^ (52 + suc j) ≡ B) where
@@ -51,13 +44,13 @@ module _ (p q k n c E W B j : ℕ) (most : n < c * E ^ p) (gap : 2 * E + W ≡ 2
       under = pow-back p c (2 ^ (52 + k)) E (lt-of-le-of-lt (le-trans (le-of-eq (ap (λ (x : ℕ). x * c) (pow-mul 2 (52 + k) p))) l) (lt-of-lt-of-le most (le-of-eq (mul-comm c (E ^ p)))))
 
       below : 52 + k < 52 + suc j
-      below = lt-of-not-le (λ (g : 52 + suc j ≤ 52 + k). not-le-of-lt under (le-trans (omega arith) (le-trans (le-of-eq (sym top)) (pow-mono g))))
+      below = exponent-lt (52 + k) (52 + suc j) (le-refl (2 ^ (52 + k))) (lt-of-lt-of-le under (le-trans (omega arith) (le-of-eq (sym top))))
 
   in-units : (2 * q - 1) ^ p * (c * 2 ^ (p * k)) ≤ 2 ^ p * n → (2 * q - 1) * 2 ^ k < 2 * E
   in-units h =
       pow-back p c ((2 * q - 1) * 2 ^ k) (2 * E)
       (lt-of-le-of-lt (le-trans (le-of-eq (sym (raised p (2 * q - 1) k c))) h)
-      (lt-of-lt-of-le (mul-lt-mul-of-pos-left most (pow-pos p)) (le-of-eq (ap (λ (x : ℕ). 2 ^ p * x) (mul-comm c (E ^ p)) ∙ sym (mul-assoc (2 ^ p) (E ^ p) c) ∙ ap (λ (x : ℕ). x * c) (sym (mul-pow 2 E p))))))
+      (lt-of-lt-of-le (mul-lt-mul-of-pos-left most (pow-pos p)) (le-of-eq (ap (λ (x : ℕ). 2 ^ p * x) (mul-comm c (E ^ p)) ∙ double-pow p E c))))
 
   below-top : (k ≡ 0) ⊎ (2 ^ (p * (52 + k)) * c ≤ n) → (2 * q - 1) ^ p * (c * 2 ^ (p * k)) ≤ 2 ^ p * n → q * 2 ^ k < B
   below-top d h = omega (arith, few d, in-units h, sub-mul (2 * q) 1 (2 ^ k))
@@ -65,7 +58,7 @@ module _ (p q k n c E W B j : ℕ) (most : n < c * E ^ p) (gap : 2 * E + W ≡ 2
 -- ---- in the normal range 2 ^ (p * t) times a radicand has a root of t more digits, and the same leading ones
 
 higher : (p a k t den : ℕ) → 2 ^ (p * (a + (k + t))) * den ≡ 2 ^ (p * (a + k)) * den * 2 ^ (p * t)
-higher p a k t den = simp (mul-add, pow-add, mul-assoc, mul-comm, mul-left-comm)
+higher p a k t den = ap (λ (x : ℕ). 2 ^ (p * x) * den) (sym (add-assoc a k t)) ∙ split-pow p (a + k) t den ∙ sym (mul-assoc (2 ^ (p * (a + k))) den (2 ^ (p * t)))
 
 -- where the root has all the format's digits, the second bound holds also where no digit is dropped
 pub drops-least : (p : ℕ) (f : Format) (n den k : ℕ) → 2 ^ (p * (prec f - 1)) * den ≤ n → (k ≡ 0) ⊎ (2 ^ (p * (prec f - 1 + k)) * den ≤ n) → 2 ^ (p * (prec f - 1 + k)) * den ≤ n
@@ -75,26 +68,15 @@ drops-least p f n den k N (inr l) = l
 drops-scale : (p : ℕ) (f : Format) (n den k t : ℕ) → 2 ^ (p * (prec f - 1)) * den ≤ n → Drops p f n den k → Drops p f (n * 2 ^ (p * t)) den (k + t)
 drops-scale p f n den k t N d = (rw higher (mul-lt-mul-of-pos-right (d .0) (pow-pos (p * t))), inr (rw higher (mul-le-mul-right (2 ^ (p * t)) (drops-least p f n den k N (d .1)))))
 
--- equal fractions keep the same number
-kept-same : (p n u m v : ℕ) → 0 < u → 0 < v → n * v ≡ m * u → kept p n u ≡ kept p m v
-kept-same p n u m v U W e =
-    let q = root p 53 (m / v) in
-    ap (λ (z : ℕ). nearest (root p 53 z) (compare (2 ^ p * n) ((2 * root p 53 z + 1) ^ p * u))) (div-same n u m v U W e)
-    ∙ ap (λ (o : Ordering). nearest q o) (compare-same (2 ^ p) ((2 * q + 1) ^ p) n u m v U W e)
-
-kept-scale : (p n den k t : ℕ) → 0 < den → kept p (n * 2 ^ (p * t)) (den * 2 ^ (p * (k + t))) ≡ kept p n (den * 2 ^ (p * k))
+kept-scale : (p n den k t : ℕ) → 0 < den → kept p 53 (n * 2 ^ (p * t)) (den * 2 ^ (p * (k + t))) ≡ kept p 53 n (den * 2 ^ (p * k))
 kept-scale p n den k t D =
-    kept-same p (n * 2 ^ (p * t)) (den * 2 ^ (p * (k + t))) n (den * 2 ^ (p * k)) (mul-pos D (pow-pos (p * (k + t)))) (mul-pos D (pow-pos (p * k)))
+    kept-same p 53 (n * 2 ^ (p * t)) (den * 2 ^ (p * (k + t))) n (den * 2 ^ (p * k)) (mul-pos D (pow-pos (p * (k + t)))) (mul-pos D (pow-pos (p * k)))
     (simp (mul-add, pow-add, mul-assoc, mul-comm, mul-left-comm))
 
 -- ---- `odd` writes the exponent last: t more of it are 2 ^ t times the value
 moved-is : (t : ℤ) (m : ℕ) (e : ℤ) → 0 < m → moved t m e ≡ e +ℤ t
 moved-is t zero e h = absurd (lt-irrefl 0 h)
 moved-is t (suc m) e h = refl
-
-first-pos : (m x y : ℕ) → m * x ≡ y → 0 < y → 0 < m
-first-pos zero x y h p = omega arith
-first-pos (suc m) x y h p = zero-lt-suc m
 
 odd-scale : (d : ℕ) (s : Bool) (q k l t : ℕ) → odd d s q (k + t) l ≡ scale (pos t) (odd d s q k l)
 unfolding odd scale
@@ -103,18 +85,18 @@ odd-scale d s (suc q) k l t =
     let z = trailingZeros d (suc q) in
     let m = suc q / 2 ^ z in
     let e = minus (k + z) l in
-    let M : 0 < m = first-pos m (up e * 2 ^ l) (suc q * 2 ^ k * down e) (sym (mul-assoc m (up e) (2 ^ l)) ∙ odd-val d s (suc q) k l) (mul-pos (mul-pos (zero-lt-suc q) (pow-pos k)) (down-pos e)) in
+    let M : 0 < m = first-pos m (up e) (first-pos (m * up e) (2 ^ l) (subst (λ (x : ℕ). 0 < x) (sym (odd-val d s (suc q) k l)) (mul-pos (mul-pos (zero-lt-suc q) (pow-pos k)) (down-pos e)))) in
     ap (λ (x : ℤ). fin s m x) (ap (λ (x : ℕ). minus x l) (add-right-comm k t z) ∙ minus-add (k + z) t l ∙ sym (moved-is (pos t) m e M))
 
 -- ---- in range, `roundRoot` hands `odd` what it keeps
 pub units-odd : (s : Bool) (q k : ℕ) → q * 2 ^ k < 2 ^ 2098 → units binary64 s q k ≡ odd 54 s q k 1074
 unfolding units
-units-odd s q k h = rw (is-true (ltb (q * 2 ^ k) (2 ^ 2098)) (lt→ltb (q * 2 ^ k) (2 ^ 2098) h))
+units-odd s q k h = rw (lt-ltb (q * 2 ^ k) (2 ^ 2098) h)
 
 -- the range's two ends, in units
 most-units : (p a c M : ℕ) → a < c * M ^ p → a * 2 ^ (p * 1074) < c * (M * 2 ^ 1074) ^ p
 most-units p a c M h =
-    lt-of-lt-of-le (mul-lt-mul-of-pos-right h (pow-pos (p * 1074))) (le-of-eq (mul-assoc c (M ^ p) (2 ^ (p * 1074)) ∙ ap (λ (z : ℕ). c * (M ^ p * z)) (sym (pow-mul 2 1074 p)) ∙ ap (λ (z : ℕ). c * z) (sym (mul-pow M (2 ^ 1074) p))))
+    lt-of-lt-of-le (mul-lt-mul-of-pos-right h (pow-pos (p * 1074))) (le-of-eq (mul-assoc c (M ^ p) (2 ^ (p * 1074)) ∙ ap (λ (z : ℕ). c * z) (pow-shift p M 1074)))
 
 pub least-units : (p a c : ℕ) → c ≤ a * 2 ^ (p * 1022) → 2 ^ (p * 52) * c ≤ a * 2 ^ (p * 1074)
 least-units p a c h =
@@ -126,16 +108,9 @@ abbrev pub drop : ℕ → ℕ → ℕ → ℕ
 drop p a c = dropped p binary64 (a * 2 ^ (p * 1074)) c
 
 abbrev pub keep : ℕ → ℕ → ℕ → ℕ
-keep p a c = kept p (a * 2 ^ (p * 1074)) (c * 2 ^ (p * drop p a c))
+keep p a c = kept p 53 (a * 2 ^ (p * 1074)) (c * 2 ^ (p * drop p a c))
 
 module _ (p : ℕ) (P : 0 < p) (s : Bool) where
-  pub kept-near : (a c : ℕ) → 0 < c → Near p (a * 2 ^ (p * 1074)) (c * 2 ^ (p * drop p a c)) (keep p a c)
-  kept-near a c C =
-      let n = a * 2 ^ (p * 1074) in
-      let u = c * 2 ^ (p * drop p a c) in
-      let w = root p 53 (n / u) in
-      chosen-near p n u w (compare (2 ^ p * n) ((2 * w + 1) ^ p * u)) (compared (2 ^ p * n) ((2 * w + 1) ^ p * u)) (root-whole p binary64 n c (drop p a c) P C (dropped-drops p binary64 n c P C .0))
-
   pub roundRoot-odd : (a c : ℕ) → 0 < c → Normal p a c → roundRoot p binary64 s a c ≡ odd 54 s (keep p a c) (drop p a c) 1074
   roundRoot-odd a c C N =
       let n = a * 2 ^ (p * 1074) in
@@ -143,7 +118,11 @@ module _ (p : ℕ) (P : 0 < p) (s : Bool) where
       roundRoot-is p binary64 s a c
       ∙ units-odd s (keep p a c) (drop p a c)
       (below-top p (keep p a c) (drop p a c) n c E (2 ^ 2045) (2 ^ 2098) 2045 (most-units p a c (2 ^ 1024 - 2 ^ 970) (N .most)) refl refl refl
-      (dropped-drops p binary64 n c P C .1) (kept-near a c C .0))
+      (dropped-drops p binary64 n c P C .1) (kept-near p binary64 n c P C .0))
+
+  pub roundRoot-value : (a c : ℕ) → 0 < c → Normal p a c → HasValue (roundRoot p binary64 s a c) s (keep p a c * 2 ^ drop p a c) (2 ^ 1074)
+  roundRoot-value a c C N =
+      subst (λ (x : Float). HasValue x s (keep p a c * 2 ^ drop p a c) (2 ^ 1074)) (sym (roundRoot-odd a c C N)) (odd-sign 54 s (keep p a c) (drop p a c) 1074)
 
   roundRoot-up : (a c t : ℕ) → 0 < c → Normal p a c → Normal p (a * 2 ^ (p * t)) c → roundRoot p binary64 s (a * 2 ^ (p * t)) c ≡ scale (pos t) (roundRoot p binary64 s a c)
   roundRoot-up a c t C N N' =
@@ -152,8 +131,8 @@ module _ (p : ℕ) (P : 0 < p) (s : Bool) where
       let more : dropped p binary64 (n * 2 ^ (p * t)) c ≡ k + t =
       drops-dropped p binary64 (n * 2 ^ (p * t)) c (k + t) P C (drops-scale p binary64 n c k t (least-units p a c (N .least)) (dropped-drops p binary64 n c P C)) in
       roundRoot-odd (a * 2 ^ (p * t)) c C N'
-      ∙ ap (λ (x : ℕ). odd 54 s (kept p x (c * 2 ^ (p * dropped p binary64 x c))) (dropped p binary64 x c) 1074) (mul-right-comm a (2 ^ (p * t)) (2 ^ (p * 1074)))
-      ∙ ap (λ (x : ℕ). odd 54 s (kept p (n * 2 ^ (p * t)) (c * 2 ^ (p * x))) x 1074) more
+      ∙ ap (λ (x : ℕ). odd 54 s (kept p 53 x (c * 2 ^ (p * dropped p binary64 x c))) (dropped p binary64 x c) 1074) (mul-right-comm a (2 ^ (p * t)) (2 ^ (p * 1074)))
+      ∙ ap (λ (x : ℕ). odd 54 s (kept p 53 (n * 2 ^ (p * t)) (c * 2 ^ (p * x))) x 1074) more
       ∙ ap (λ (x : ℕ). odd 54 s x (k + t) 1074) (kept-scale p n c k t C)
       ∙ odd-scale 54 s (keep p a c) k 1074 t
       ∙ sym (ap (λ (x : Float). scale (pos t) x) (roundRoot-odd a c C N))
@@ -206,7 +185,7 @@ module _ (p : ℕ) (P : 0 < p) (s : Bool) where
   roundRoot-zero a c C z =
       let k = drop p a c in
       let none : a * 2 ^ (p * 1074) ≡ 0 = ap (λ (x : ℕ). x * 2 ^ (p * 1074)) z ∙ zero-mul (2 ^ (p * 1074)) in
-      let q : keep p a c ≡ 0 = near-zero (c * 2 ^ (p * k)) (keep p a c) (mul-pos C (pow-pos (p * k))) (le-trans (kept-near p P s a c C .0) (le-of-eq (ap (λ (x : ℕ). 2 ^ p * x) none))) in
+      let q : keep p a c ≡ 0 = near-zero (c * 2 ^ (p * k)) (keep p a c) (mul-pos C (pow-pos (p * k))) (le-trans (kept-near p binary64 (a * 2 ^ (p * 1074)) c P C .0) (le-of-eq (ap (λ (x : ℕ). 2 ^ p * x) none))) in
       roundRoot-is p binary64 s a c ∙ ap (λ (x : ℕ). units binary64 s x k) q ∙ units-odd s 0 k (lt-of-le-of-lt (le-of-eq (zero-mul (2 ^ k))) (pow-pos 2098))
 
   -- equal fractions are normal alike; the ends are variables, since `omega` reads no number of 300 digits

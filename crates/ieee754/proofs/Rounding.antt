@@ -99,16 +99,17 @@ round-jam f s u e k n (exact x) =
     ap (λ (y : ℕ). round f s y (2 ^ (u + low f)))
     (sym (shl-shl (jam k n) k e (k + e) refl) ∙ ap (λ (y : ℕ). y * 2 ^ e) (jam-exact k n x))
 
+-- ---- k digits are dropped of a number v below 2 ^ (53 + k + 1092) that is, unless k is 0, no less than half of that; j and x are parts of the exponent
+drop-at : (v k j x : ℕ) → j + x ≡ 52 + k + 1092 → v < 2 ^ (suc j + x) → (0 < k → 2 ^ j * 2 ^ x ≤ v) → drop binary64 1092 v ≡ k
+drop-at v k j x e hi lo =
+    let least : 2 ^ (52 + k) * 2 ^ 1092 ≡ 2 ^ j * 2 ^ x = sym (pow-add 2 (52 + k) 1092) ∙ ap (λ (i : ℕ). 2 ^ i) (sym e) ∙ pow-add 2 j x in
+    let most : v < 2 ^ (53 + k + 1092) = subst (λ (i : ℕ). v < 2 ^ i) (omega (arith, e)) hi in
+    size-drop 53 (v / 2 ^ 1092) k (zero-lt-suc 52) (shr-lt (53 + k) 1092 most) (λ z. le-div-iff-mul-le (pow-pos 1092) .1 (le-trans (le-of-eq least) (lo z)))
+
 -- ---- a word w of 64 digits, with its top digit set or at the lowest exponent, is rounded to 53 of them
 module _ (s : Bool) (w k : ℕ) (short : w < 2 ^ 64) (full : 0 < k → 2 ^ 63 ≤ w) where
   drop-word : drop binary64 1092 (w * 2 ^ (k + 1081)) ≡ k
-  drop-word =
-      let n = w * 2 ^ (k + 1081) in
-      let hi : n < 2 ^ (53 + k + 1092) = subst (λ (x : ℕ). n < 2 ^ x) (omega arith) (shl-lt 64 (k + 1081) short) in
-      let lo : 0 < k → 2 ^ (52 + k) ≤ n / 2 ^ 1092 = λ z.
-      le-div-iff-mul-le (pow-pos 1092) .1
-      (le-trans (le-of-eq (sym (pow-add 2 (52 + k) 1092) ∙ ap (λ (x : ℕ). 2 ^ x) (omega arith) ∙ pow-add 2 63 (k + 1081))) (mul-le-mul-right (2 ^ (k + 1081)) (full z))) in
-      size-drop 53 (n / 2 ^ 1092) k (zero-lt-suc 52) (shr-lt (53 + k) 1092 hi) lo
+  drop-word = drop-at (w * 2 ^ (k + 1081)) k 63 (k + 1081) (omega arith) (shl-lt 64 (k + 1081) short) (λ z. mul-le-mul-right (2 ^ (k + 1081)) (full z))
 
   pub round-word : round binary64 s (w * 2 ^ (k + 1081)) (2 ^ 2166) ≡ units binary64 s (closest w (2 ^ 11)) k
   round-word =
@@ -127,10 +128,7 @@ near w q a b =
 
 module _ (s : Bool) (w m q k v : ℕ) (full : 2 ^ 62 ≤ w) (short : q < 2 ^ 53) (above : q * 2 ^ 10 < w + 2 ^ 9) (below : w + m < q * 2 ^ 10 + 2 ^ 9) (from : w * 2 ^ (k + 1082) ≤ v) (to : v ≤ (w + m) * 2 ^ (k + 1082)) where
   drop-between : drop binary64 1092 v ≡ k
-  drop-between =
-      let lo : 2 ^ (52 + k) * 2 ^ 1092 ≤ v = le-trans (le-of-eq (sym (pow-add 2 (52 + k) 1092) ∙ ap (λ (x : ℕ). 2 ^ x) (omega arith) ∙ pow-add 2 62 (k + 1082))) (le-trans (mul-le-mul-right (2 ^ (k + 1082)) full) from) in
-      let hi : v < 2 ^ (53 + k + 1092) = subst (λ (x : ℕ). v < 2 ^ x) (omega arith) (lt-of-le-of-lt to (shl-lt 63 (k + 1082) (omega arith))) in
-      size-drop 53 (v / 2 ^ 1092) k (zero-lt-suc 52) (shr-lt (53 + k) 1092 hi) (λ z. le-div-iff-mul-le (pow-pos 1092) .1 lo)
+  drop-between = drop-at v k 62 (k + 1082) (omega arith) (lt-of-le-of-lt to (shl-lt 63 (k + 1082) (omega arith))) (λ z. le-trans (mul-le-mul-right (2 ^ (k + 1082)) full) from)
 
   closest-between : closest v (2 ^ (1092 + k)) ≡ q
   closest-between =

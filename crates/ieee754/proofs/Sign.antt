@@ -1,29 +1,15 @@
--- The sign of a value and of its bit pattern: a pattern with the sign's bit cleared is the magnitude (`abs-bits`), and that bit is the value's sign (`negative-bits`).
--- A test against itself finds the NaN (`ne-self`). Assumes nothing.
+-- The sign of a value and of its bit pattern: a pattern with the sign's bit cleared is the magnitude (`abs-bits`), and that bit is the value's sign (`negative-bits`). Assumes nothing.
 use Prim.Native.Nat.{ℕ, zero, suc, _+_, _-_, _/_, _%_, _<_}
 use mathlib.Core.Path.{_≡_, refl, sym, ap, ap₂, _∙_, subst}
-use mathlib.Core.Bool.{Bool, true, false, not, cond, false≢true}
+use mathlib.Core.Bool.{Bool, true, false, not, cond}
 use native.Mathlib.Nat.{mod-lt, mul-pos, zero-lt-suc, mod-mod, mod-mod-of-dvd, dvd-mul-right}
 use lib.Dec.{T, leb, eqb}
-use lib.Arith.{lt→nleb}
 use lib.Pow.{pow-pos}
-use lib.Ieee.{Float, nan, inf, fin, Format, prec, low, hid, ones, top, odd, ofFields, ofBits, toBits, isNan, fits, ne}
-use lib.Ieee.Bits.{is-false, ofBits-toBits}
-use lib.Ieee.Compare.{differs-from-itself, nan-differs}
+use lib.Ieee.{Float, nan, inf, Format, prec, low, hid, ones, top, odd, ofFields, ofBits, toBits, isNan, fits}
+use lib.Ieee.Bits.{ofBits-toBits}
+use borrow.Author.Tests.{lt-leb}
 use Rattle.ieee754.specs.Magnitude.{abs}
 use Rattle.ieee754.specs.CopySign.{negative}
-
--- ---- the NaN
-number : (x : Float) (b : Bool) → isNan x ≡ false → (T b → x ≡ nan) → b ≡ false
-unfolding isNan
-number x true e h = absurd (false≢true (sym e ∙ ap isNan (h tt)))
-number x false e h = refl
-
-pub ne-self : (x : Float) → ne x x ≡ isNan x
-unfolding isNan
-ne-self nan = nan-differs
-ne-self (inf s) = number (inf s) (ne (inf s) (inf s)) refl (differs-from-itself (inf s))
-ne-self (fin s m e) = number (fin s m e) (ne (fin s m e) (fin s m e)) refl (differs-from-itself (fin s m e))
 
 -- ---- the fields of a pattern
 abs-odd : (d : ℕ) (s : Bool) (q k l : ℕ) → abs (odd d s q k l) ≡ odd d false q k l
@@ -62,7 +48,7 @@ unfolding ofBits
 abs-bits f x h =
     let b = toBits f x in
     let some : 0 < top f = mul-pos (pow-pos (prec f - 1)) (zero-lt-suc (ones f)) in
-    ap (λ (s : Bool). ofFields f s (b % top f % top f / hid f) (b % top f % hid f)) (is-false (leb (top f) (b % top f)) (lt→nleb (top f) (b % top f) (mod-lt b some)))
+    ap (λ (s : Bool). ofFields f s (b % top f % top f / hid f) (b % top f % hid f)) (lt-leb (top f) (b % top f) (mod-lt b some))
     ∙ ap₂ (λ (y z : ℕ). ofFields f false (y / hid f) z) (mod-mod b (top f)) (mod-mod-of-dvd _ b (dvd-mul-right (hid f) (suc (ones f))))
     ∙ sym (abs-fields f (leb (top f) b) (b % top f / hid f) (b % hid f))
     ∙ ap abs (ofBits-toBits f x h)

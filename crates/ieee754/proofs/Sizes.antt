@@ -18,9 +18,13 @@ shl-shl a i j k h = mul-assoc a (2 ^ i) (2 ^ j) ∙ ap (λ (x : ℕ). a * x) (sy
 pub moved : (k j n : ℕ) → n * 2 ^ j % 2 ^ (k + j) ≡ n % 2 ^ k * 2 ^ j
 moved k j n = mod-pow-add (n * 2 ^ j) k j ∙ ap₂ (λ (x y : ℕ). x % 2 ^ k * 2 ^ j + y) (shl-shr n j) (mul-mod-left n (2 ^ j)) ∙ add-zero (n % 2 ^ k * 2 ^ j)
 
--- a number of no less than 2 ^ j has more than j digits
-pub size-gt : (n j : ℕ) → 2 ^ j ≤ n → j < size n
-size-gt n j h = lt-of-not-le (λ (g : size n ≤ j). not-le-of-lt (lt-of-lt-of-le (size-lt n) (pow-mono g)) h)
+-- a number of no less than 2 ^ i is below 2 ^ j only where i is below j
+pub exponent-lt : {n : ℕ} (i j : ℕ) → 2 ^ i ≤ n → n < 2 ^ j → i < j
+exponent-lt i j l h = lt-of-not-le (λ (g : j ≤ i). not-le-of-lt h (le-trans (pow-mono g) l))
+
+-- so it has more than i digits
+pub size-gt : (n i : ℕ) → 2 ^ i ≤ n → i < size n
+size-gt n i h = exponent-lt i (size n) h (size-lt n)
 
 -- what is left once j digits are cut off
 pub size-shr : (n j : ℕ) → size (n / 2 ^ j) ≡ size n - j
@@ -42,7 +46,7 @@ module _ (w d n : ℕ) (some : 0 < n) (short : n < 2 ^ d) (room : d ≤ w) where
   top = leading-top w n some (lt-of-lt-of-le short (pow-mono room))
 
   top-lt : top .0 < d
-  top-lt = lt-of-not-le (λ (g : d ≤ top .0). not-le-of-lt short (le-trans (pow-mono g) (top .2)))
+  top-lt = exponent-lt (top .0) d (top .2) short
 
   pub zeros-lt : leadingZeros w n < w
   zeros-lt = omega (arith, top .1)
@@ -51,7 +55,7 @@ module _ (w d n : ℕ) (some : 0 < n) (short : n < 2 ^ d) (room : d ≤ w) where
   zeros-ge = omega (arith, top .1, top-lt)
 
   pub zeros-le : (i : ℕ) → 2 ^ i ≤ n → leadingZeros w n + i < w
-  zeros-le i h = omega (arith, top .1, lt-of-not-le (λ (g : suc (top .0) ≤ i). not-le-of-lt (lt-of-lt-of-le (top .3) (pow-mono g)) h))
+  zeros-le i h = omega (arith, top .1, exponent-lt i (suc (top .0)) h (top .3))
 
   -- by s digits
   module _ (s : ℕ) (shift : s + (w - d) ≡ leadingZeros w n) where

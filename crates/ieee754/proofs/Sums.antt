@@ -3,7 +3,7 @@
 use mathlib.Core.Path.{_≡_, refl, sym, ap, ap₂, _∙_, subst}
 use mathlib.Core.Logic.{⊎-elim}
 use Prim.Native.Nat.{ℕ, suc, _+_, _-_, _*_, _/_, _%_, _^_, _≤_, _<_}
-use native.Mathlib.Nat.{le-of-lt, add-comm, add-mul, suc-mul, mul-assoc, mul-le-mul-right, mul-comm, mul-sub, mul-mod-left, mul-add-mod-self-right, zero-mod, pow-succ', div-add-mod'}
+use native.Mathlib.Nat.{le-of-lt, add-comm, add-mul, suc-mul, mul-assoc, mul-le-mul-right, mul-comm, mul-sub, mul-mod-left, mul-add-mod-self-right, zero-mod, pow-succ', dvd-of-mod-eq-zero, div-mul-cancel}
 use native.Mathlib.Omega.{arith}
 use mathlib.Core.Bool.{Bool, true, false, _&&_, Bool·beq, cond, and-true}
 use lib.Dec.{ltb}
@@ -13,7 +13,7 @@ use lib.Ieee.Scale.{round-same}
 use borrow.Author.Tests.{lt-ltb, le-ltb}
 use Rattle.ieee754.specs.inner.Jam.{jam}
 use Rattle.ieee754.proofs.Jam.{jam-add, jam-off, jam-from, jam-below, jam-above}
-use Rattle.ieee754.proofs.Order.{lt-or-ge, same-test, scaled-test}
+use Rattle.ieee754.proofs.Order.{lt-or-ge, same-test, scaled-test, cross-test}
 use Rattle.ieee754.proofs.Rounding.{Kept, round-jam}
 
 pub sum-is : (f : Format) (s : Bool) (a : ℕ) (t : Bool) (b c : ℕ) → sum f s a t b c ≡ cond (Bool·beq s t) (round f s (a + b) c) (cond (ltb a b) (round f t (b - a) c) (round f (s && ltb b a) (a - b) c))
@@ -23,15 +23,19 @@ sum-is f s a t b c = refl
 pub sub-mul : (a b c : ℕ) → (a - b) * c ≡ a * c - b * c
 sub-mul a b c = mul-comm (a - b) c ∙ mul-sub c a b ∙ ap₂ (λ (x y : ℕ). x - y) (mul-comm c a) (mul-comm c b)
 
+-- the difference of two numbers over c, and of those over c' that equal them
+pub cross-sub : (a b c a' b' c' : ℕ) → a * c' ≡ a' * c → b * c' ≡ b' * c → (a - b) * c' ≡ (a' - b') * c
+cross-sub a b c a' b' c' x y = sub-mul a b c' ∙ ap₂ (λ (u v : ℕ). u - v) x y ∙ sym (sub-mul a' b' c)
+
 -- ---- equal fractions
 pub sum-same : (f : Format) (s : Bool) (a : ℕ) (t : Bool) (b c a' b' c' : ℕ) → 0 < c → 0 < c' → a * c' ≡ a' * c → b * c' ≡ b' * c → sum f s a t b c ≡ sum f s a' t b' c'
 sum-same f s a t b c a' b' c' C C' x y =
-    let less : ltb a b ≡ ltb a' b' = sym (scaled-test a b c' C') ∙ ap₂ ltb x y ∙ scaled-test a' b' c C in
-    let more : ltb b a ≡ ltb b' a' = sym (scaled-test b a c' C') ∙ ap₂ ltb y x ∙ scaled-test b' a' c C in
+    let less : ltb a b ≡ ltb a' b' = cross-test ltb scaled-test a b c a' b' c' C C' x y in
+    let more : ltb b a ≡ ltb b' a' = cross-test ltb scaled-test b a c b' a' c' C C' y x in
     let plus = round-same f s (a + b) c (a' + b') c' C C' (add-mul a b c' ∙ ap₂ (λ (u v : ℕ). u + v) x y ∙ sym (add-mul a' b' c)) in
-    let from = round-same f t (b - a) c (b' - a') c' C C' (sub-mul b a c' ∙ ap₂ (λ (u v : ℕ). u - v) y x ∙ sym (sub-mul b' a' c)) in
+    let from = round-same f t (b - a) c (b' - a') c' C C' (cross-sub b a c b' a' c' y x) in
     let off : round f (s && ltb b a) (a - b) c ≡ round f (s && ltb b' a') (a' - b') c' =
-    ap (λ (v : Bool). round f (s && v) (a - b) c) more ∙ round-same f (s && ltb b' a') (a - b) c (a' - b') c' C C' (sub-mul a b c' ∙ ap₂ (λ (u v : ℕ). u - v) x y ∙ sym (sub-mul a' b' c)) in
+    ap (λ (v : Bool). round f (s && v) (a - b) c) more ∙ round-same f (s && ltb b' a') (a - b) c (a' - b') c' C C' (cross-sub a b c a' b' c' x y) in
     sum-is f s a t b c ∙ (λ i. cond (Bool·beq s t) (plus i) (cond (less i) (from i) (off i))) ∙ sym (sum-is f s a' t b' c')
 
 -- ---- two numbers with one scale E
@@ -67,9 +71,6 @@ pub data Apart (f : Format) (u e k p a : ℕ) : Type 0 where
 multiples : (a b G : ℕ) → (a * G - b * G) % G ≡ 0
 multiples a b G = ap (λ (x : ℕ). x % G) (sym (sub-mul a b G)) ∙ mul-mod-left (a - b) G
 
-multiple : (n G : ℕ) → n % G ≡ 0 → n / G * G ≡ n
-multiple n G h = omega (arith, div-add-mod' n G)
-
 -- so enough is kept in the sum, and in the difference either way round
 kept-add : (f : Format) (u e k p a : ℕ) → Apart f u e k p a → Kept f u e k (a * 2 ^ suc k + p)
 kept-add f u e k p a (fine h) = Kept.fine h
@@ -78,12 +79,12 @@ kept-add f u e k p a (far h) = Kept.long (omega (arith, jam-add k a p))
 
 kept-from : (f : Format) (u e k p a : ℕ) → Apart f u e k p a → Kept f u e k (a * 2 ^ suc k - p)
 kept-from f u e k p a (fine h) = Kept.fine h
-kept-from f u e k p a (exact h) = Kept.exact (subst (λ (x : ℕ). (a * 2 ^ suc k - x) % 2 ^ suc k ≡ 0) (multiple p (2 ^ suc k) h) (multiples a (p / 2 ^ suc k) (2 ^ suc k)))
+kept-from f u e k p a (exact h) = Kept.exact (subst (λ (x : ℕ). (a * 2 ^ suc k - x) % 2 ^ suc k ≡ 0) (div-mul-cancel (2 ^ suc k) (dvd-of-mod-eq-zero (2 ^ suc k) h)) (multiples a (p / 2 ^ suc k) (2 ^ suc k)))
 kept-from f u e k p a (far h) = Kept.long (omega (arith, jam-from k a p))
 
 kept-off : (f : Format) (u e k p a : ℕ) → Apart f u e k p a → Kept f u e k (p - a * 2 ^ suc k)
 kept-off f u e k p a (fine h) = Kept.fine h
-kept-off f u e k p a (exact h) = Kept.exact (subst (λ (x : ℕ). (x - a * 2 ^ suc k) % 2 ^ suc k ≡ 0) (multiple p (2 ^ suc k) h) (multiples (p / 2 ^ suc k) a (2 ^ suc k)))
+kept-off f u e k p a (exact h) = Kept.exact (subst (λ (x : ℕ). (x - a * 2 ^ suc k) % 2 ^ suc k ≡ 0) (div-mul-cancel (2 ^ suc k) (dvd-of-mod-eq-zero (2 ^ suc k) h)) (multiples (p / 2 ^ suc k) a (2 ^ suc k)))
 kept-off f u e k p a (far h) =
     let l = jam-below k a p .1 (omega (arith, pow-pos (suc (prec f)))) in
     Kept.exact (ap (λ (x : ℕ). x % 2 ^ suc k) (omega arith) ∙ zero-mod (2 ^ suc k))

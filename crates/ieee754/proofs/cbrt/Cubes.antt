@@ -1,13 +1,14 @@
 -- The number nearest to a cube root, by the leading digits of cubes. Assumes nothing.
 use Prim.Native.Nat.{ℕ, _+_, _-_, _*_, _^_, _≤_, _<_}
-use mathlib.Core.Path.{_≡_, sym}
-use native.Mathlib.Nat.{lt-of-lt-of-le, lt-of-le-of-lt, le-of-eq, pow-suc, pow-zero, one-mul, div-lt-iff-lt-mul, le-div-iff-mul-le}
+use mathlib.Core.Path.{_≡_, sym, ap, _∙_}
+use native.Mathlib.Nat.{lt-of-lt-of-le, lt-of-le-of-lt, le-of-eq, pow-suc, div-lt-iff-lt-mul, le-div-iff-mul-le}
 use native.Mathlib.Omega.{arith}
 use lib.Dec.{lit<, lit≤}
 use Rattle.ieee754.specs.inner.Nearest.{IsNearest, cubeTop}
+use Rattle.ieee754.proofs.sqrt.Squares.{square}
 
 cube : (x : ℕ) → x ^ 3 ≡ x * x * x
-cube x = rw (pow-suc x 2, pow-suc x 1, pow-suc x 0, pow-zero, one-mul)
+cube x = pow-suc x 2 ∙ ap (λ (y : ℕ). y * x) (square x)
 
 -- an odd cube is no multiple of 2 ^ 107
 odd-cube : (n q : ℕ) → n * 2 ^ 107 ≤ (2 * q + 1) * (2 * q + 1) * (2 * q + 1) → 2 ^ 3 * (n * 2 ^ 104) < (2 * q + 1) * (2 * q + 1) * (2 * q + 1)

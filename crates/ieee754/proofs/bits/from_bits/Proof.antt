@@ -1,23 +1,16 @@
 -- `ieee754::bits::from_bits` meets its contract: a pattern above the infinity's, the sign taken off, is a NaN's. Assumes nothing.
-use mathlib.Core.Path.{_≡_, refl, sym, _∙_}
-use mathlib.Core.Bool.{true, false≢true}
+use mathlib.Core.Path.{sym, _∙_}
 use lib.Arith.{le→nltb}
-use lib.Ieee.{Float, nan, inf, fin, binary64, isNan}
+use lib.Ieee.{binary64}
 use lib.Ieee.Bits.{nanBits-is, nanBits-above}
 use borrow.Author.Tests.{lt-ltb}
 use borrow.Author.Needs.{needs}
-use Rattle.ieee754.proofs.Reading.{zero-over-zero}
+use Rattle.ieee754.proofs.Reading.{ne-self, nan-of, zero-over-zero}
 use Rattle.ieee754.proofs.bits.from_bits.Statement.{statement}
 use Rattle.ieee754.proofs.bits.from_bits.Tie as tie
 
-is-nan : (x : Float) → isNan x ≡ true → x ≡ nan
-unfolding isNan
-is-nan nan h = refl
-is-nan (inf s) h = absurd (false≢true h)
-is-nan (fin s m e) h = absurd (false≢true h)
-
 returns : tie.Need-returns
-returns c = zero-over-zero ∙ sym (is-nan _ (sym (nanBits-is binary64 (c .before .args .pattern)) ∙ nanBits-above binary64 (c .before .args .pattern) ∙ lt-ltb _ _ (c .if1 .taken)))
+returns c = zero-over-zero ∙ sym (nan-of _ (ne-self _ ∙ sym (nanBits-is binary64 (c .before .args .pattern)) ∙ nanBits-above binary64 (c .before .args .pattern) ∙ lt-ltb _ _ (c .if1 .taken)))
 
 float-from-bits-result : tie.Need-float-from-bits-result
 float-from-bits-result c = rw (nanBits-above binary64 (c .before .args .pattern)) (le→nltb _ _ (c .if1 .left))

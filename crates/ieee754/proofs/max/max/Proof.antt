@@ -3,7 +3,7 @@ use borrow.Author.Needs.{needs}
 use mathlib.Core.Path.{sym, _∙_}
 use Rattle.ieee754.specs.CopySign.{negative}
 use Rattle.ieee754.specs.Maximum.{max}
-use Rattle.ieee754.proofs.Sign.{ne-self}
+use Rattle.ieee754.proofs.Reading.{ne-self}
 use Rattle.ieee754.proofs.max.max.Statement.{statement}
 use Rattle.ieee754.proofs.max.max.Tie as tie
 

@@ -1,19 +1,16 @@
 -- `nearest` meets its contract: a guess that settles is right, and where none does the digits are found one by one. Assumes nothing.
 use Prim.Native.Nat.{ℕ, _+_, _%_, _^_, _≤_, _<_}
-use native.Mathlib.Omega.{arith}
+use native.Mathlib.Nat.{add-comm}
 use borrow.Author.Needs.{needs}
 use lib.Dec.{lit≤}
 use Rattle.ieee754.proofs.Exponent.{moved-range, moved-nearest}
-use Rattle.ieee754.proofs.Reading.{below-not-nan}
+use Rattle.ieee754.proofs.Reading.{field-range, below-not-nan}
 use Rattle.ieee754.proofs.sqrt.nearest.Statement.{statement}
 use Rattle.ieee754.proofs.sqrt.nearest.Tie as tie
 
 -- the digits of a guess, whatever its pattern is
-at-least : (b : ℕ) → 2 ^ 52 ≤ b % 2 ^ 52 + 2 ^ 52
-at-least b = omega arith
-
-less : (b : ℕ) → b % 2 ^ 52 + 2 ^ 52 < 2 ^ 53
-less b = omega arith
+digits-range : (b : ℕ) → (2 ^ 52 ≤ b % 2 ^ 52 + 2 ^ 52) × (b % 2 ^ 52 + 2 ^ 52 < 2 ^ 53)
+digits-range b = rw (add-comm (b % 2 ^ 52) (2 ^ 52)) (field-range b)
 
 shl-n : tie.Need-shl-n
 shl-n c = search needs
@@ -28,7 +25,7 @@ add-digits : tie.Need-add-digits
 add-digits c = search needs
 
 settled-requires : tie.Need-settled-requires
-settled-requires c κs = let s = c .before .before in (moved-range 2 (s .args .m) (s .args .odd) (s .pre .0) (s .pre .1) (s .pre .2) (lit≤ tt) .1, at-least _, less _)
+settled-requires c κs = let s = c .before .before in (moved-range 2 (s .args .m) (s .args .odd) (s .pre .0) (s .pre .1) (s .pre .2) (lit≤ tt) .1, digits-range _ .0, digits-range _ .1)
 
 returns : tie.Need-returns
 returns c = let s = c .before .before .before .before in moved-nearest 2 (s .args .m) (s .args .odd) (s .pre .0) (s .pre .1) (s .pre .2) (lit≤ tt) (c .before .settled .ensures (c .if2 .taken))

@@ -2,7 +2,7 @@
 use borrow.Author.Needs.{needs}
 use mathlib.Core.Path.{sym, _∙_}
 use Rattle.ieee754.specs.TotalOrder.{totalOrder}
-use Rattle.ieee754.proofs.Sign.{ne-self}
+use Rattle.ieee754.proofs.Reading.{ne-self}
 use Rattle.ieee754.proofs.total_cmp.total_order.Statement.{statement}
 use Rattle.ieee754.proofs.total_cmp.total_order.Tie as tie
 
