@@ -1,12 +1,13 @@
 -- From depth candidates to poses: depths at degree 1 are refined alike, and give the same rotations, with translations at degree 1. Assumes nothing.
 use mathlib.Core.Path.{_≡_, refl, subst}
 use mathlib.Core.Bool.{not, _&&_}
-use mathlib.Core.List.{List}
-use Prim.Native.Nat.{ℕ, zero, suc}
+use mathlib.Core.List.{List, Forall₂, Forall₂·nil, Forall₂·cons}
+use Prim.Native.Nat.{ℕ}
 use lib.IntN.{ℤ, pos}
 use lib.ListN.{take}
 use Rattle.ieee754.specs.Scaling.{Both}
 use Rattle.ieee754.proofs.Degrees.{null, pure, _>>=_, _>>≡_, if_then_else_, le-same}
+use Rattle.ieee754.proofs.Entries.{take-entries}
 use Rattle.linalg.specs.declared.vector3.Vector3.{Vector3}
 use Rattle.linalg.specs.declared.matrix3.Matrix3.{Matrix3}
 use Rattle.linalg.specs.VectorScaling.{AtVector, AtRows}
@@ -27,7 +28,7 @@ use Rattle.p3p_common.proofs.SlotScaling.{empty-scales, pushPose-scales}
 use Rattle.lambdatwist.specs.Poses.{allPositive, pushDepths, poseTurn, poseTurns, poses}
 use Rattle.depths.specs.declared.candidates.Candidates.{Candidates}
 use Rattle.lambdatwist.specs.declared.poses.View.{View}
-use Rattle.theorems.proofs.ChartScaling.{AtVectors, no-vectors, more-vectors, AtCandidates}
+use Rattle.theorems.proofs.ChartScaling.{AtCandidates}
 use lib.IntN.{negsuc}
 
 -- two runs' orderings: the same bearings, and the points at degree 1
@@ -40,11 +41,6 @@ module _ {k : ℤ} where
   allPositive-same : {d d' : Vector3} → AtVector k (pos 1) d d' → allPositive d ≡ allPositive d'
   unfolding allPositive
   allPositive-same d = λ i. allFinite-same d i && (not (le-same (d .x) null i) && (not (le-same (d .y) null i) && not (le-same (d .z) null i)))
-
-  take-at : (n : ℕ) {vs vs' : List Vector3} → AtVectors k vs vs' → AtVectors k (take n vs) (take n vs')
-  take-at zero h = no-vectors
-  take-at (suc n) no-vectors = no-vectors
-  take-at (suc n) (more-vectors v vs) = more-vectors v (take-at n vs)
 
   module _ {input input' : P3pInput} {world world' : World} (bearings : Bearings) (I : AtInput k input input') (W : AtWorld k world world') where
     abbrev view : View
@@ -80,10 +76,10 @@ module _ {k : ℤ} where
             refineDepths-scales bearingCosines 5 depths E >>= λ _ _ refined.
             if allPositive-same (refined .depths) then pushRefined-scales output refined else pure output
 
-        poseTurns-scales : {ds ds' : List Vector3} {s s' : Solutions} → AtVectors k ds ds' → AtSolutions k s s' → Both (AtSolutions k) (poseTurns view e bearingCosines m ds s) (poseTurns view' e' bearingCosines m' ds' s')
+        poseTurns-scales : {ds ds' : List Vector3} {s s' : Solutions} → Forall₂ (AtVector k (pos 1)) ds ds' → AtSolutions k s s' → Both (AtSolutions k) (poseTurns view e bearingCosines m ds s) (poseTurns view' e' bearingCosines m' ds' s')
         unfolding poseTurns
-        poseTurns-scales no-vectors output = pure output
-        poseTurns-scales (more-vectors depths rest) output =
+        poseTurns-scales Forall₂·nil output = pure output
+        poseTurns-scales (Forall₂·cons depths rest) output =
             poseTurn-scales output depths >>= λ _ _ next.
             poseTurns-scales rest next
 
@@ -91,4 +87,4 @@ module _ {k : ℤ} where
         unfolding poses
         poses-scales {c} {c'} found =
             subst (λ (n : ℕ). Both (AtSolutions k) (poseTurns view e bearingCosines m (take (c .count) (c .depths)) empty) (poseTurns view' e' bearingCosines m' (take n (c' .depths)) empty)) (found .count)
-            (poseTurns-scales (take-at (c .count) (found .depths)) empty-scales)
+            (poseTurns-scales (take-entries (c .count) (found .depths)) empty-scales)

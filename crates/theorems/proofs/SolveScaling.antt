@@ -1,6 +1,7 @@
 -- The solve of two runs whose worlds are at degree 1 and whose bearings are equal: answers alike, with the rotations, counts and refusals equal and the translations at degree 1. Assumes nothing.
 use mathlib.Core.Path.{_≡_, refl, ap, subst}
 use mathlib.Core.Bool.{_&&_}
+use mathlib.Core.List.{Forall₂}
 use Prim.Native.Nat.{ℕ, zero, suc}
 use lib.Dec.{eqb}
 use lib.IntN.{ℤ, pos, negsuc}
@@ -26,7 +27,7 @@ use Rattle.p3p_common.specs.declared.refine_depths.Cosines.{Cosines}
 use Rattle.p3p_common.specs.declared.world_basis_inverse.Basis.{Basis}
 use Rattle.p3p_common.specs.declared.solutions.Solutions.{Solutions}
 use Rattle.p3p_common.specs.Input.{inputFinite}
-use Rattle.p3p_common.specs.PoseScaling.{AtWorld, AtInput, AtEdges, AtBasis, inverse-at, singular-at, AtPoses, AtSolutions}
+use Rattle.p3p_common.specs.PoseScaling.{AtWorld, AtInput, AtEdges, AtBasis, inverse-at, singular-at, AtPose, AtSolutions}
 use Rattle.p3p_common.proofs.BasisScaling.{worldBasisInverse-scales}
 use Rattle.p3p_common.proofs.SlotScaling.{empty-scales}
 use Rattle.depths.specs.Angles.{cosines, squaredSines, bearingFactors}
@@ -53,7 +54,7 @@ use Rattle.theorems.proofs.PermutationScaling.{bestPermutation-scales}
 pub record AtAnswer (k : ℤ) (a a' : Answer) : Type 0 where
   pub refusal : a .refusal ≡ a' .refusal
   pub count : a .count ≡ a' .count
-  pub poses : AtPoses k (a .poses) (a' .poses)
+  pub poses : Forall₂ (AtPose k) (a .poses) (a' .poses)
   pub updates : a .updates ≡ a' .updates
 
 module _ {k : ℤ} where
