@@ -10,7 +10,7 @@ use Rattle.p3p_common.specs.declared.input.Bearings.{Bearings}
 use Rattle.p3p_common.specs.PoseScaling.{AtWorld}
 use Rattle.lambdatwist.specs.Permutation.{rays, withCondition, better, bestOf, bestPermutation}
 use Rattle.lambdatwist.specs.declared.permutation.Conditioned.{Conditioned}
-use Rattle.theorems.proofs.CubicScaling.{leadingCubicCondition-same}
+use Rattle.depths.proofs.CubicScaling.{leadingCubicCondition-same}
 
 pub record AtConditioned (k : ℤ) (c c' : Conditioned) : Type 0 where
   pub condition : c .condition ≡ c' .condition

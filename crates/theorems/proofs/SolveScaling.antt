@@ -10,7 +10,7 @@ use Rattle.ieee754.specs.Literal.{sixtyFour, epsilon}
 use Rattle.ieee754.specs.Traced as traced
 use Rattle.ieee754.specs.Traced.{Traced}
 use Rattle.ieee754.specs.Scaling.{Both}
-use Rattle.ieee754.proofs.Degrees.{same, at-zero, !_, _⊗_, _⊘_, pure, _>>=_, _>>≡_, if_then_else_, choose, alike}
+use Rattle.ieee754.proofs.Degrees.{same, at-zero, !_, _⊗_, _⊘_, pure, _>>=_, _>>≡_, if_then_else_, choose, alike, equal}
 use Rattle.linalg.specs.declared.vector3.Vector3.{Vector3}
 use Rattle.linalg.specs.declared.matrix3.Matrix3.{Matrix3}
 use Rattle.linalg.specs.VectorScaling.{AtVector, AtRows}
@@ -41,14 +41,13 @@ use Rattle.eigen.specs.declared.ratio.Ratio.{Ratio}
 use Rattle.eigen.specs.declared.ratio.Ratio.the-variants.{Real, NotReal}
 use Rattle.lambdatwist.specs.declared.poses.View.{View}
 use Rattle.lambdatwist.specs.declared.solve.Answer.{Answer}
-use Rattle.theorems.proofs.Equal.{equal}
-use Rattle.theorems.proofs.EdgeScaling.{AtEdgeVectors, edgeVectors-scales, squaredEdges-scales}
-use Rattle.theorems.proofs.CubicScaling.{AtCoefficients, cubicCoefficients-scales, isUnusable-same}
-use Rattle.theorems.proofs.MatrixScaling.{singularMatrix-scales}
+use Rattle.depths.proofs.EdgeScaling.{AtEdgeVectors, edgeVectors-scales, squaredEdges-scales}
+use Rattle.depths.proofs.CubicScaling.{AtCoefficients, cubicCoefficients-scales, isUnusable-same}
+use Rattle.depths.proofs.MatrixScaling.{singularMatrix-scales}
 use Rattle.eigen.proofs.EigenvalueScaling.{ratioOf-same}
 use Rattle.eigen.proofs.SystemScaling.{AtSystem, found-at, not-found, eigWithKnownZero-scales}
-use Rattle.theorems.proofs.ChartScaling.{AtCandidates, candidates-scales}
-use Rattle.theorems.proofs.PoseScaling.{poses-scales}
+use Rattle.depths.proofs.ChartScaling.{AtCandidates}
+use Rattle.theorems.proofs.PoseScaling.{candidates-scales, poses-scales}
 use Rattle.theorems.proofs.PermutationScaling.{bestPermutation-scales}
 
 pub record AtAnswer (k : ℤ) (a a' : Answer) : Type 0 where
