@@ -1,2 +1,6 @@
--- What the proofs of both charts use.
+-- What the proofs of both charts use; and the scaling laws of the stages, in the order of a solve, which crates above use.
 mod NoRoots
+pub mod EdgeScaling
+pub mod CubicScaling
+pub mod MatrixScaling
+pub mod ChartScaling

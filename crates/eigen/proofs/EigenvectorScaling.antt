@@ -21,7 +21,7 @@ use Rattle.eigen.specs.EigenvectorOf.{precompute, eigenDenominator, deno
 use Rattle.eigen.specs.declared.row_crosses.Eigenvector.{Eigenvector}
 use Rattle.eigen.specs.declared.row_crosses.Eigenvector.the-variants.{Unit, Missing}
 use Rattle.eigen.specs.declared.eigenvector.Precomputed.{Precomputed}
-use Rattle.eigen.proofs.SquaredLength.{squared-normal}
+use Rattle.linalg.proofs.SquaredLength.{squared-normal}
 
 module _ {k : ℤ} where
   -- ---- the longest cross product of two rows

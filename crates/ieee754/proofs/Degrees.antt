@@ -18,14 +18,12 @@ use Rattle.ieee754.specs.Root.{sqrt, cbrt}
 use Rattle.ieee754.specs.Traced as traced
 use Rattle.ieee754.specs.Traced.{Traced, addRegular, mulRegular, divRegular, fmaRegular, sqrtRegular, cbrtRegular}
 use Rattle.ieee754.specs.Scaling.{scale, Both, At, Scales}
+use Rattle.ieee754.proofs.Order.{three}
 use Rattle.ieee754.proofs.Powers.{ℤ-add-mul, ℤ-sub-mul, ℤ-twice, ℤ-thrice}
 use Rattle.ieee754.proofs.RoundScale.{scale-zero}
 use Rattle.ieee754.proofs.Laws.{neg-scale, abs-scale, negative-scale, copysign-scale, max-scale, clamp-scale, mul-scale, div-scale, add-scale, sub-scale, fma-scale, sqrt-scale, cbrt-scale, lt-scale, eq-scale, le-scale, ne-scale, isNan-scale, finite-scale, totalOrder-scale, totalCmp-scale}
 
 -- ---- a lifted operation of one operand or of two, from its law on floats
-three : (a b c : Bool) → T (a && b && c) → T a × T b × T c
-three a b c t = let l = and-l (a && b) c t in (and-l a b l, and-r a b l, and-r (a && b) c t)
-
 lift₁ : (op : Float → Float) (reg : Float → Bool) {k n q : ℤ}
     → ((x : Float) → T (reg x) → T (reg (scale (n *ℤ k) x)) → op (scale (n *ℤ k) x) ≡ scale (q *ℤ k) (op x))
     → {x x' : Traced Float} → Scales k n x x'
@@ -192,6 +190,10 @@ module _ {A : Type 0} {R : A → A → Type 0} where
   -- a weaker relation
   pub both-map : {S : A → A → Type 0} {m m' : Traced A} → ((x x' : A) → R x x' → S x x') → Both R m m' → Both S m m'
   both-map {m = m} {m' = m'} f h = record { results = λ r r'. f (m .value) (m' .value) (h .results r r') }
+
+-- a result at degree 0 is equal in the two runs
+pub equal : {k : ℤ} {m m' : Traced Float} → Scales k (pos 0) m m' → Both {A = Float} _≡_ m m'
+equal = both-map (λ _ _ h. at-zero h)
 
 -- a computation whose inputs are equal in the two runs
 pub alike : {A : Type 0} {m : Traced A} → Both _≡_ m m

@@ -17,6 +17,7 @@ pub mod Powers
 pub mod RoundScale
 pub mod Laws
 pub mod Degrees
+pub mod Entries
 pub mod RegularNormal
 pub mod MinPositive
 pub mod Finite

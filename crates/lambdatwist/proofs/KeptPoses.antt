@@ -3,15 +3,16 @@ use mathlib.Core.List.{List, [], _∷_}
 use Prim.Native.Nat.{_≤_}
 use lib.ListN.{take}
 use Rattle.ieee754.specs.Traced.{Traced}
+use Rattle.ieee754.proofs.Order.{either-way}
 use Rattle.linalg.specs.declared.vector3.Vector3.{Vector3}
 use Rattle.linalg.specs.declared.matrix3.Matrix3.{Matrix3}
+use Rattle.linalg.proofs.Finite.{rotation-finite}
 use Rattle.p3p_common.specs.declared.refine_depths.SquaredEdges.{SquaredEdges}
 use Rattle.p3p_common.specs.declared.refine_depths.Cosines.{Cosines}
 use Rattle.p3p_common.specs.declared.refine_depths.Refined.{Refined}
 use Rattle.p3p_common.specs.declared.solutions.Solutions.{Solutions}
 use Rattle.p3p_common.specs.RefineDepths.{refineDepths}
 use Rattle.p3p_common.specs.Slots.{empty}
-use Rattle.p3p_common.proofs.FiniteGate.{either-way, rotation-finite}
 use Rattle.p3p_common.proofs.SlotLaws.{Kept, empty-kept, pushPose-kept, updates-few}
 use Rattle.lambdatwist.specs.Poses.{allPositive, pushDepths, poseTurn, poseTurns, poses}
 use Rattle.depths.specs.declared.candidates.Candidates.{Candidates}

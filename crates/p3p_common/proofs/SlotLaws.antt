@@ -10,6 +10,7 @@ use lib.Dec.{T, ltb, ltb→lt}
 use lib.ListN.{getD, set, replicate, length-set}
 use lib.Seq.{getD-set-same, getD-set-other}
 use lib.Ieee.{Float}
+use Rattle.ieee754.proofs.Order.{either-way}
 use Rattle.linalg.specs.Vectors.{allFinite}
 use Rattle.linalg.specs.Matrices.{zeroPose, matFinite}
 use Rattle.linalg.specs.declared.vector3.Vector3.{Vector3}
@@ -28,7 +29,7 @@ use Rattle.p3p_common.specs.Gate.{gate}
 use Rattle.p3p_common.specs.Slots.{empty, push}
 use Rattle.p3p_common.specs.PushPose.{pushGated, pushPose}
 use Rattle.p3p_common.specs.PoseSlots.{Filled, FinitePose, PoseSlots}
-use Rattle.p3p_common.proofs.FiniteGate.{either-way, FiniteGated, gate-finite}
+use Rattle.p3p_common.proofs.FiniteGate.{FiniteGated, gate-finite}
 
 -- ---- a list of slots
 module _ {A : Type 0} where

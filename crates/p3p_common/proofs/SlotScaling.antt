@@ -1,12 +1,13 @@
 -- Solutions of two runs stay alike as a pose is pushed: the same count and updates, the poses at their degrees. Assumes nothing.
 use mathlib.Core.Path.{refl, ap, subst}
-use mathlib.Core.List.{List}
-use Prim.Native.Nat.{ℕ, zero, suc, _+_}
+use mathlib.Core.List.{Forall₂, Forall₂·nil, Forall₂·cons}
+use Prim.Native.Nat.{ℕ, _+_}
 use lib.IntN.{ℤ, pos}
 use lib.Dec.{ltb}
 use lib.ListN.{set}
 use Rattle.ieee754.specs.Scaling.{Both}
 use Rattle.ieee754.proofs.Degrees.{pure, _>>=_, choose}
+use Rattle.ieee754.proofs.Entries.{set-entries}
 use Rattle.linalg.specs.Matrices.{zeroPose}
 use Rattle.linalg.specs.declared.vector3.Vector3.{Vector3}
 use Rattle.linalg.specs.declared.matrix3.Matrix3.{Matrix3}
@@ -18,7 +19,7 @@ use Rattle.p3p_common.specs.declared.gate.Gated.{Gated}
 use Rattle.p3p_common.specs.declared.solutions.Solutions.{Solutions}
 use Rattle.p3p_common.specs.Slots.{empty, push}
 use Rattle.p3p_common.specs.PushPose.{pushGated, pushPose}
-use Rattle.p3p_common.specs.PoseScaling.{AtInput, AtPose, AtGated, passed-at, projected-at, dropped-at, AtPoses, no-poses, more-poses, AtSolutions}
+use Rattle.p3p_common.specs.PoseScaling.{AtInput, AtPose, AtGated, passed-at, projected-at, dropped-at, AtSolutions}
 use Rattle.p3p_common.proofs.GateScaling.{gate-scales}
 
 module _ {k : ℤ} where
@@ -29,14 +30,9 @@ module _ {k : ℤ} where
   unfolding empty
   empty-scales = record {
     count = refl;
-    poses = more-poses zeroPose-at (more-poses zeroPose-at (more-poses zeroPose-at (more-poses zeroPose-at no-poses)));
+    poses = Forall₂·cons zeroPose-at (Forall₂·cons zeroPose-at (Forall₂·cons zeroPose-at (Forall₂·cons zeroPose-at Forall₂·nil)));
     updates = refl;
   }
-
-  set-scales : (i : ℕ) {ps ps' : List Pose} {p p' : Pose} → AtPoses k ps ps' → AtPose k p p' → AtPoses k (set ps i p) (set ps' i p')
-  set-scales i no-poses h = no-poses
-  set-scales zero (more-poses q qs) h = more-poses h qs
-  set-scales (suc i) (more-poses q qs) h = more-poses q (set-scales i qs h)
 
   pub push-scales : {s s' : Solutions} {p p' : Pose} (u : ℕ) → AtSolutions k s s' → AtPose k p p' → AtSolutions k (push s p u) (push s' p' u)
   unfolding push
@@ -44,7 +40,7 @@ module _ {k : ℤ} where
       choose (AtSolutions k) (ap (λ (n : ℕ). ltb n 4) (h .count))
       (record {
         count = ap (λ (n : ℕ). n + 1) (h .count);
-        poses = subst (λ (n : ℕ). AtPoses k (set (s .poses) (s .count) p) (set (s' .poses) n p')) (h .count) (set-scales (s .count) (h .poses) q);
+        poses = subst (λ (n : ℕ). Forall₂ (AtPose k) (set (s .poses) (s .count) p) (set (s' .poses) n p')) (h .count) (set-entries (s .count) (h .poses) q);
         updates = λ i. set (h .updates i) (h .count i) u;
       })
       h

@@ -1,6 +1,6 @@
 -- What the scaling rule says of two runs' inputs, depths, bases, poses and solutions: world points, depths and translations at degree 1, squared edges at 2, bearings, cosines, rotations and counts equal.
 use mathlib.Core.Path.{_≡_}
-use mathlib.Core.List.{List, [], _∷_}
+use mathlib.Core.List.{Forall₂}
 use lib.IntN.{ℤ, pos, negsuc}
 use Rattle.ieee754.specs.Scaling.{At}
 use Rattle.linalg.specs.VectorScaling.{AtVector, AtRows}
@@ -49,12 +49,8 @@ pub data AtGated (k : ℤ) : Gated → Gated → Type 0 where
   projected-at : {p p' : Pose} → AtPose k p p' → AtGated k (Projected p) (Projected p')
   dropped-at : AtGated k Dropped Dropped
 
--- pose by pose
-pub data AtPoses (k : ℤ) : List Pose → List Pose → Type 0 where
-  no-poses : AtPoses k [] []
-  more-poses : {p p' : Pose} {ps ps' : List Pose} → AtPose k p p' → AtPoses k ps ps' → AtPoses k (p ∷ ps) (p' ∷ ps')
-
+-- the library's `Forall₂ R` says of two lists that they are of one length and that R holds of their entries in each place
 pub record AtSolutions (k : ℤ) (s s' : Solutions) : Type 0 where
   pub count : s .count ≡ s' .count
-  pub poses : AtPoses k (s .poses) (s' .poses)
+  pub poses : Forall₂ (AtPose k) (s .poses) (s' .poses)
   pub updates : s .updates ≡ s' .updates

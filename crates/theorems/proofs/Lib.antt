@@ -1,10 +1,5 @@
--- The answer to eighteen doubles; the scaling laws of the stages, in the order of a solve, up to the scaling rule; what is stated of the choice of permutation; and the marked cases.
+-- The answer to eighteen doubles; the scaling laws of the stages of `lambdatwist`, up to the scaling rule; what is stated of the choice of permutation; and the marked cases.
 pub mod OneAnswer
-mod Equal
-mod EdgeScaling
-mod CubicScaling
-mod MatrixScaling
-mod ChartScaling
 mod PoseScaling
 mod PermutationScaling
 mod SolveScaling

@@ -8,7 +8,7 @@ use lib.Ieee.{Float, binary64, mul, le}
 use lib.Ieee.Fits.{and-i}
 use Rattle.ieee754.specs.Literal.{sixtyFour, epsilon}
 use Rattle.ieee754.specs.Traced.{Traced, pure}
-use Rattle.ieee754.proofs.Order.{or-left, or-right}
+use Rattle.ieee754.proofs.Order.{or-left, or-right, not-both-left, either-way}
 use Rattle.linalg.specs.declared.vector3.Vector3.{Vector3}
 use Rattle.linalg.specs.declared.matrix3.Matrix3.{Matrix3}
 use Rattle.polynomial.specs.declared.Roots.{Roots}
@@ -23,7 +23,6 @@ use Rattle.p3p_common.specs.declared.world_basis_inverse.Basis.the-variants.{In
 use Rattle.p3p_common.specs.declared.solutions.Solutions.{Solutions}
 use Rattle.p3p_common.specs.Input.{inputFinite}
 use Rattle.p3p_common.specs.Slots.{empty}
-use Rattle.p3p_common.proofs.FiniteGate.{either-way}
 use Rattle.p3p_common.proofs.SlotLaws.{Kept}
 use Rattle.eigen.specs.declared.known_zero.Eigensystem.{Eigensystem}
 use Rattle.eigen.specs.declared.known_zero.Eigensystem.the-variants.{Found, NotFound}
@@ -93,10 +92,6 @@ module _ (P : Answer → Type 0) (three : P (refused 3)) (found : (a : Answer) �
     solveCubic-gives b c = orNoRoot-gives _ _ (λ g. solveRoot-gives b g)
 
 -- ---- question 2: the given ordering, or else the best of the others
-given-usable : (given low best : Bool) → T (not given) → T (not (given && (low || best)))
-given-usable true low best h = absurd h
-given-usable false low best h = tt
-
 best-usable : (given low best : Bool) → T (not low) → T (not best) → T (not (given && (low || best)))
 best-usable true true best h k = absurd h
 best-usable true false best h k = k
@@ -124,7 +119,7 @@ module _ (input : P3pInput) (finite : T (inputFinite input)) where
       (λ n. ordering-one (λ _. pure (refused 2)) (record { input = input; world = best .world; bearings = best .bearings })
       (λ o. refused-2 finite (and-i given (low || other) g (or-right low other o)) (refused-so 2))
       (best-usable given low other n)))
-      (given-usable given low other)
+      (not-both-left given (low || other))
 
 pub one-answer : (world : World) (bearings : Bearings) → OneAnswer (record { world = world; bearings = bearings }) (solve world bearings .value)
 unfolding solve

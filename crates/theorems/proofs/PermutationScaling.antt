@@ -1,6 +1,6 @@
 -- The same permutation is taken in the two runs, since the conditions are equal. Assumes nothing.
 use mathlib.Core.Path.{_≡_, refl}
-use mathlib.Core.List.{List, [], _∷_}
+use mathlib.Core.List.{List, Forall₂, Forall₂·nil, Forall₂·cons}
 use lib.IntN.{ℤ}
 use lib.Ieee.{lt}
 use Rattle.ieee754.specs.Scaling.{Both}
@@ -10,16 +10,12 @@ use Rattle.p3p_common.specs.declared.input.Bearings.{Bearings}
 use Rattle.p3p_common.specs.PoseScaling.{AtWorld}
 use Rattle.lambdatwist.specs.Permutation.{rays, withCondition, better, bestOf, bestPermutation}
 use Rattle.lambdatwist.specs.declared.permutation.Conditioned.{Conditioned}
-use Rattle.theorems.proofs.CubicScaling.{leadingCubicCondition-same}
+use Rattle.depths.proofs.CubicScaling.{leadingCubicCondition-same}
 
 pub record AtConditioned (k : ℤ) (c c' : Conditioned) : Type 0 where
   pub condition : c .condition ≡ c' .condition
   pub world : AtWorld k (c .world) (c' .world)
   pub bearings : c .bearings ≡ c' .bearings
-
-data AllConditioned (k : ℤ) : List Conditioned → List Conditioned → Type 0 where
-  none : AllConditioned k [] []
-  more : {c c' : Conditioned} {cs cs' : List Conditioned} → AtConditioned k c c' → AllConditioned k cs cs' → AllConditioned k (c ∷ cs) (c' ∷ cs')
 
 module _ {k : ℤ} where
   withCondition-scales : {w w' : World} (bearings : Bearings) → AtWorld k w w' → Both (AtConditioned k) (withCondition w bearings) (withCondition w' bearings)
@@ -32,10 +28,10 @@ module _ {k : ℤ} where
   unfolding better
   better-scales best next = choose (AtConditioned k) (λ i. lt (best .condition i) (next .condition i)) next best
 
-  bestOf-scales : {b b' : Conditioned} {cs cs' : List Conditioned} → AtConditioned k b b' → AllConditioned k cs cs' → AtConditioned k (bestOf b cs) (bestOf b' cs')
+  bestOf-scales : {b b' : Conditioned} {cs cs' : List Conditioned} → AtConditioned k b b' → Forall₂ (AtConditioned k) cs cs' → AtConditioned k (bestOf b cs) (bestOf b' cs')
   unfolding bestOf
-  bestOf-scales best none = best
-  bestOf-scales best (more next rest) = bestOf-scales (better-scales best next) rest
+  bestOf-scales best Forall₂·nil = best
+  bestOf-scales best (Forall₂·cons next rest) = bestOf-scales (better-scales best next) rest
 
   pub bestPermutation-scales : {w w' : World} (bearings : Bearings) → AtWorld k w w'
       → Both (AtConditioned k) (bestPermutation (record { world = w; bearings = bearings })) (bestPermutation (record { world = w'; bearings = bearings }))
@@ -47,4 +43,4 @@ module _ {k : ℤ} where
       withCondition-scales (rays f1 f2 f0) (record { p0 = w .p1; p1 = w .p2; p2 = w .p0 }) >>= λ _ _ c120.
       withCondition-scales (rays f2 f0 f1) (record { p0 = w .p2; p1 = w .p0; p2 = w .p1 }) >>= λ _ _ c201.
       withCondition-scales (rays f2 f1 f0) (record { p0 = w .p2; p1 = w .p1; p2 = w .p0 }) >>= λ _ _ c210.
-      pure (bestOf-scales c021 (more c102 (more c120 (more c201 (more c210 none)))))
+      pure (bestOf-scales c021 (Forall₂·cons c102 (Forall₂·cons c120 (Forall₂·cons c201 (Forall₂·cons c210 Forall₂·nil)))))

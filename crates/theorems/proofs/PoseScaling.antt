@@ -1,14 +1,18 @@
--- From depth candidates to poses: depths at degree 1 are refined alike, and give the same rotations, with translations at degree 1. Assumes nothing.
+-- From eigenvectors to depth candidates, at degree 1 and as many in both runs; and from these to poses: depths at degree 1 are refined alike, and give the same rotations, with translations at degree 1. Assumes nothing.
 use mathlib.Core.Path.{_≡_, refl, subst}
 use mathlib.Core.Bool.{not, _&&_}
-use mathlib.Core.List.{List}
-use Prim.Native.Nat.{ℕ, zero, suc}
-use lib.IntN.{ℤ, pos}
+use mathlib.Core.List.{List, Forall₂, Forall₂·nil, Forall₂·cons}
+use Prim.Native.Nat.{ℕ}
+use lib.IntN.{ℤ, pos, negsuc}
 use lib.ListN.{take}
+use lib.Ieee.{Float, neg}
 use Rattle.ieee754.specs.Scaling.{Both}
-use Rattle.ieee754.proofs.Degrees.{null, pure, _>>=_, _>>≡_, if_then_else_, le-same}
+use Rattle.ieee754.proofs.Degrees.{null, pure, _>>=_, _>>≡_, if_then_else_, le-same, alike}
+use Rattle.ieee754.proofs.Entries.{take-entries}
 use Rattle.linalg.specs.declared.vector3.Vector3.{Vector3}
 use Rattle.linalg.specs.declared.matrix3.Matrix3.{Matrix3}
+use Rattle.linalg.specs.Vectors.{vecSub, vecMul}
+use Rattle.linalg.specs.Matrices.{column0, column1}
 use Rattle.linalg.specs.VectorScaling.{AtVector, AtRows}
 use Rattle.linalg.proofs.VectorDegrees.{same-vector, vecSub-scales, vecMul-scales, allFinite-same}
 use Rattle.linalg.proofs.MatrixDegrees.{same-matrix, columns-at, matVec-scales}
@@ -24,27 +28,32 @@ use Rattle.p3p_common.specs.PoseScaling.{AtWorld, AtInput, AtEdges, AtRefined, 
 use Rattle.p3p_common.proofs.RefineScaling.{refineDepths-scales}
 use Rattle.p3p_common.proofs.BasisScaling.{rotationFromEdges-same}
 use Rattle.p3p_common.proofs.SlotScaling.{empty-scales, pushPose-scales}
-use Rattle.lambdatwist.specs.Poses.{allPositive, pushDepths, poseTurn, poseTurns, poses}
+use Rattle.lambdatwist.specs.Poses.{signTurn, candidates, allPositive, pushDepths, poseTurn, poseTurns, poses}
+use Rattle.depths.specs.declared.angles.Factors.{Factors}
 use Rattle.depths.specs.declared.candidates.Candidates.{Candidates}
 use Rattle.lambdatwist.specs.declared.poses.View.{View}
-use Rattle.theorems.proofs.ChartScaling.{AtVectors, no-vectors, more-vectors, AtCandidates}
-use lib.IntN.{negsuc}
-
--- two runs' orderings: the same bearings, and the points at degree 1
-pub record AtView (k : ℤ) (view view' : View) : Type 0 where
-  pub input : AtInput k (view .input) (view' .input)
-  pub world : AtWorld k (view .world) (view' .world)
-  pub bearings : view .bearings ≡ view' .bearings
+use Rattle.depths.proofs.ChartScaling.{AtCandidates, noCandidates-at, chart-scales}
 
 module _ {k : ℤ} where
+  -- ---- the candidates of either sign of the ratio
+  module _ {e e' : SquaredEdges} (b : Factors) (E : AtEdges k e e') where
+    signTurn-scales : (eigenvectors : Matrix3) (sign : Float) {c c' : Candidates} → AtCandidates k c c' → Both (AtCandidates k) (signTurn e b eigenvectors sign c) (signTurn e' b eigenvectors sign c')
+    unfolding signTurn
+    signTurn-scales eigenvectors sign found =
+        alike {m = vecMul (column1 eigenvectors) sign} >>≡ λ scaled.
+        alike {m = vecSub (column0 eigenvectors) scaled} >>≡ λ nullVector.
+        chart-scales b E nullVector found
+
+    pub candidates-scales : (eigenvectors : Matrix3) (ratio : Float) → Both (AtCandidates k) (candidates e b eigenvectors ratio) (candidates e' b eigenvectors ratio)
+    unfolding candidates
+    candidates-scales eigenvectors ratio =
+        signTurn-scales eigenvectors ratio noCandidates-at >>= λ _ _ once.
+        signTurn-scales eigenvectors (neg ratio) once
+
+  -- ---- the poses
   allPositive-same : {d d' : Vector3} → AtVector k (pos 1) d d' → allPositive d ≡ allPositive d'
   unfolding allPositive
   allPositive-same d = λ i. allFinite-same d i && (not (le-same (d .x) null i) && (not (le-same (d .y) null i) && not (le-same (d .z) null i)))
-
-  take-at : (n : ℕ) {vs vs' : List Vector3} → AtVectors k vs vs' → AtVectors k (take n vs) (take n vs')
-  take-at zero h = no-vectors
-  take-at (suc n) no-vectors = no-vectors
-  take-at (suc n) (more-vectors v vs) = more-vectors v (take-at n vs)
 
   module _ {input input' : P3pInput} {world world' : World} (bearings : Bearings) (I : AtInput k input input') (W : AtWorld k world world') where
     abbrev view : View
@@ -80,10 +89,10 @@ module _ {k : ℤ} where
             refineDepths-scales bearingCosines 5 depths E >>= λ _ _ refined.
             if allPositive-same (refined .depths) then pushRefined-scales output refined else pure output
 
-        poseTurns-scales : {ds ds' : List Vector3} {s s' : Solutions} → AtVectors k ds ds' → AtSolutions k s s' → Both (AtSolutions k) (poseTurns view e bearingCosines m ds s) (poseTurns view' e' bearingCosines m' ds' s')
+        poseTurns-scales : {ds ds' : List Vector3} {s s' : Solutions} → Forall₂ (AtVector k (pos 1)) ds ds' → AtSolutions k s s' → Both (AtSolutions k) (poseTurns view e bearingCosines m ds s) (poseTurns view' e' bearingCosines m' ds' s')
         unfolding poseTurns
-        poseTurns-scales no-vectors output = pure output
-        poseTurns-scales (more-vectors depths rest) output =
+        poseTurns-scales Forall₂·nil output = pure output
+        poseTurns-scales (Forall₂·cons depths rest) output =
             poseTurn-scales output depths >>= λ _ _ next.
             poseTurns-scales rest next
 
@@ -91,4 +100,4 @@ module _ {k : ℤ} where
         unfolding poses
         poses-scales {c} {c'} found =
             subst (λ (n : ℕ). Both (AtSolutions k) (poseTurns view e bearingCosines m (take (c .count) (c .depths)) empty) (poseTurns view' e' bearingCosines m' (take n (c' .depths)) empty)) (found .count)
-            (poseTurns-scales (take-at (c .count) (found .depths)) empty-scales)
+            (poseTurns-scales (take-entries (c .count) (found .depths)) empty-scales)

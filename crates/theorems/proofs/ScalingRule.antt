@@ -1,19 +1,17 @@
 -- The scaling rule holds: demand 3 of the mission, as specs/ScalingRule.antt states it. Assumes nothing.
 use mathlib.Core.Path.{subst}
-use mathlib.Core.Bool.{_&&_}
-use mathlib.Core.List.{List}
+use mathlib.Core.List.{List, Forall₂, Forall₂·nil, Forall₂·cons}
 use lib.IntN.{ℤ, pos}
 use lib.Dec.{T}
-use lib.Ieee.Fits.{and-l, and-r}
-use lib.Ieee.Scale.{finite}
 use Rattle.linalg.specs.Vectors.{allFinite}
 use Rattle.linalg.specs.Doubles.{Doubles}
 use Rattle.linalg.specs.declared.vector3.Vector3.{Vector3}
 use Rattle.linalg.specs.declared.pose.Pose.{Pose}
 use Rattle.linalg.specs.VectorScaling.{AtVector}
+use Rattle.linalg.proofs.Finite.{entries-finite}
 use Rattle.p3p_common.specs.declared.input.World.{World}
 use Rattle.p3p_common.specs.declared.input.Bearings.{Bearings}
-use Rattle.p3p_common.specs.PoseScaling.{AtWorld, AtPoses, no-poses, more-poses}
+use Rattle.p3p_common.specs.PoseScaling.{AtWorld, AtPose}
 use Rattle.theorems.specs.ScalingRule as rule
 use Rattle.theorems.specs.ScalingRule.{ScalingRule}
 use Rattle.lambdatwist.specs.Solve.{solve}
@@ -36,18 +34,13 @@ module _ (k : ℤ) where
 
   -- ---- and back: a finite entry at degree 1 is 2 ^ k times the first run's
   vector-times : {v v' : Vector3} → T (allFinite v) → AtVector k (pos 1) v v' → rule.TimesVector k v v'
-  unfolding allFinite
   vector-times {v} {v'} f h =
-      let xy : T (finite (v .x) && finite (v .y)) = and-l (finite (v .x) && finite (v .y)) (finite (v .z)) f in
-      record {
-        x = at-times k (v .x) (v' .x) (and-l (finite (v .x)) (finite (v .y)) xy) (h .x);
-        y = at-times k (v .y) (v' .y) (and-r (finite (v .x)) (finite (v .y)) xy) (h .y);
-        z = at-times k (v .z) (v' .z) (and-r (finite (v .x) && finite (v .y)) (finite (v .z)) f) (h .z);
-      }
+      let entries = entries-finite v f in
+      record { x = at-times k (v .x) (v' .x) (entries .0) (h .x); y = at-times k (v .y) (v' .y) (entries .1) (h .y); z = at-times k (v .z) (v' .z) (entries .2) (h .z) }
 
-  poses-alike : {ps ps' : List Pose} → FiniteTranslations ps → AtPoses k ps ps' → rule.AlikePoses k ps ps'
-  poses-alike no-pose no-poses = rule.no-places
-  poses-alike (finite-pose f fs) (more-poses h hs) = rule.next-place (record { rotation = h .rotation; translation = vector-times f (h .translation) }) (poses-alike fs hs)
+  poses-alike : {ps ps' : List Pose} → FiniteTranslations ps → Forall₂ (AtPose k) ps ps' → Forall₂ (rule.AlikePose k) ps ps'
+  poses-alike no-pose Forall₂·nil = Forall₂·nil
+  poses-alike (finite-pose f fs) (Forall₂·cons h hs) = Forall₂·cons (record { rotation = h .rotation; translation = vector-times f (h .translation) }) (poses-alike fs hs)
 
   answer-alike : {a a' : Answer} → FiniteTranslations (a .poses) → AtAnswer k a a' → rule.Alike k a a'
   answer-alike f h = record { refusal = h .refusal; count = h .count; poses = poses-alike f (h .poses); updates = h .updates }

@@ -1,6 +1,7 @@
 -- The solve of two runs whose worlds are at degree 1 and whose bearings are equal: answers alike, with the rotations, counts and refusals equal and the translations at degree 1. Assumes nothing.
 use mathlib.Core.Path.{_≡_, refl, ap, subst}
 use mathlib.Core.Bool.{_&&_}
+use mathlib.Core.List.{Forall₂}
 use Prim.Native.Nat.{ℕ, zero, suc}
 use lib.Dec.{eqb}
 use lib.IntN.{ℤ, pos, negsuc}
@@ -9,7 +10,7 @@ use Rattle.ieee754.specs.Literal.{sixtyFour, epsilon}
 use Rattle.ieee754.specs.Traced as traced
 use Rattle.ieee754.specs.Traced.{Traced}
 use Rattle.ieee754.specs.Scaling.{Both}
-use Rattle.ieee754.proofs.Degrees.{same, at-zero, !_, _⊗_, _⊘_, pure, _>>=_, _>>≡_, if_then_else_, choose, alike}
+use Rattle.ieee754.proofs.Degrees.{same, at-zero, !_, _⊗_, _⊘_, pure, _>>=_, _>>≡_, if_then_else_, choose, alike, equal}
 use Rattle.linalg.specs.declared.vector3.Vector3.{Vector3}
 use Rattle.linalg.specs.declared.matrix3.Matrix3.{Matrix3}
 use Rattle.linalg.specs.VectorScaling.{AtVector, AtRows}
@@ -26,7 +27,7 @@ use Rattle.p3p_common.specs.declared.refine_depths.Cosines.{Cosines}
 use Rattle.p3p_common.specs.declared.world_basis_inverse.Basis.{Basis}
 use Rattle.p3p_common.specs.declared.solutions.Solutions.{Solutions}
 use Rattle.p3p_common.specs.Input.{inputFinite}
-use Rattle.p3p_common.specs.PoseScaling.{AtWorld, AtInput, AtEdges, AtBasis, inverse-at, singular-at, AtPoses, AtSolutions}
+use Rattle.p3p_common.specs.PoseScaling.{AtWorld, AtInput, AtEdges, AtBasis, inverse-at, singular-at, AtPose, AtSolutions}
 use Rattle.p3p_common.proofs.BasisScaling.{worldBasisInverse-scales}
 use Rattle.p3p_common.proofs.SlotScaling.{empty-scales}
 use Rattle.depths.specs.Angles.{cosines, squaredSines, bearingFactors}
@@ -40,20 +41,19 @@ use Rattle.eigen.specs.declared.ratio.Ratio.{Ratio}
 use Rattle.eigen.specs.declared.ratio.Ratio.the-variants.{Real, NotReal}
 use Rattle.lambdatwist.specs.declared.poses.View.{View}
 use Rattle.lambdatwist.specs.declared.solve.Answer.{Answer}
-use Rattle.theorems.proofs.Equal.{equal}
-use Rattle.theorems.proofs.EdgeScaling.{AtEdgeVectors, edgeVectors-scales, squaredEdges-scales}
-use Rattle.theorems.proofs.CubicScaling.{AtCoefficients, cubicCoefficients-scales, isUnusable-same}
-use Rattle.theorems.proofs.MatrixScaling.{singularMatrix-scales}
+use Rattle.depths.proofs.EdgeScaling.{AtEdgeVectors, edgeVectors-scales, squaredEdges-scales}
+use Rattle.depths.proofs.CubicScaling.{AtCoefficients, cubicCoefficients-scales, isUnusable-same}
+use Rattle.depths.proofs.MatrixScaling.{singularMatrix-scales}
 use Rattle.eigen.proofs.EigenvalueScaling.{ratioOf-same}
 use Rattle.eigen.proofs.SystemScaling.{AtSystem, found-at, not-found, eigWithKnownZero-scales}
-use Rattle.theorems.proofs.ChartScaling.{AtCandidates, candidates-scales}
-use Rattle.theorems.proofs.PoseScaling.{poses-scales}
+use Rattle.depths.proofs.ChartScaling.{AtCandidates}
+use Rattle.theorems.proofs.PoseScaling.{candidates-scales, poses-scales}
 use Rattle.theorems.proofs.PermutationScaling.{bestPermutation-scales}
 
 pub record AtAnswer (k : ℤ) (a a' : Answer) : Type 0 where
   pub refusal : a .refusal ≡ a' .refusal
   pub count : a .count ≡ a' .count
-  pub poses : AtPoses k (a .poses) (a' .poses)
+  pub poses : Forall₂ (AtPose k) (a .poses) (a' .poses)
   pub updates : a .updates ≡ a' .updates
 
 module _ {k : ℤ} where

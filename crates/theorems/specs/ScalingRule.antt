@@ -1,6 +1,6 @@
 -- Demand 3 of the mission, the scaling rule: a single claim about two whole answers of `solve`. Its proof is `scaling-rule` in the proofs.
 use mathlib.Core.Path.{_≡_}
-use mathlib.Core.List.{List, [], _∷_}
+use mathlib.Core.List.{Forall₂}
 use Prim.Native.Nat.{_*_}
 use lib.IntN.{ℤ}
 use lib.Dec.{T}
@@ -42,16 +42,12 @@ pub record AlikePose (k : ℤ) (p p' : Pose) : Type 0 where
   pub rotation : p .rotation ≡ p' .rotation
   pub translation : TimesVector k (p .translation) (p' .translation)
 
--- place by place
-pub data AlikePoses (k : ℤ) : List Pose → List Pose → Type 0 where
-  no-places : AlikePoses k [] []
-  next-place : {p p' : Pose} {ps ps' : List Pose} → AlikePose k p p' → AlikePoses k ps ps' → AlikePoses k (p ∷ ps) (p' ∷ ps')
-
--- the same refusal number or none, the same count of poses, and in each place the same update count
+-- the same refusal number or none, the same count of poses, and in each place poses that are alike and the same update count. The library's `Forall₂ R` says of two lists that they are of one length and that R holds of their
+-- entries in each place.
 pub record Alike (k : ℤ) (a a' : Answer) : Type 0 where
   pub refusal : a .refusal ≡ a' .refusal
   pub count : a .count ≡ a' .count
-  pub poses : AlikePoses k (a .poses) (a' .poses)
+  pub poses : Forall₂ (AlikePose k) (a .poses) (a' .poses)
   pub updates : a .updates ≡ a' .updates
 
 -- for every whole number k, and where every operation that either solve reaches and that can round meets the premise

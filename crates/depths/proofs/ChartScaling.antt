@@ -1,21 +1,19 @@
 -- The charts: their quadratics have their coefficients at degree 0, and the depth candidates are at degree 1, as many in both runs. Assumes nothing.
 use mathlib.Core.Path.{_≡_, refl, ap, ap₂, subst}
 use mathlib.Core.Bool.{Bool, not, _||_}
-use mathlib.Core.List.{List, [], _∷_}
-use Prim.Native.Nat.{ℕ, zero, suc, _+_}
+use mathlib.Core.List.{Forall₂, Forall₂·nil, Forall₂·cons}
+use Prim.Native.Nat.{ℕ, _+_}
 use lib.Dec.{ltb}
 use lib.ListN.{set}
 use lib.IntN.{ℤ, pos}
-use lib.Ieee.{Float, neg, lt}
+use lib.Ieee.{Float, lt}
 use Rattle.ieee754.specs.Literal.{one, two}
 use Rattle.ieee754.specs.Magnitude.{abs}
 use Rattle.ieee754.specs.Traced.{Traced}
 use Rattle.ieee754.specs.Scaling.{Both, At}
-use Rattle.ieee754.proofs.Degrees.{same, null, !_, ⊝_, √_, _⊗_, _⊘_, _⊕_, _⊖_, pure, _>>=_, _>>≡_, if_then_else_, choose, lt-same, le-same, eq-same, finite-same, alike}
+use Rattle.ieee754.proofs.Degrees.{same, null, !_, ⊝_, √_, _⊗_, _⊘_, _⊕_, _⊖_, pure, _>>=_, _>>≡_, if_then_else_, choose, lt-same, le-same, eq-same, finite-same, equal}
+use Rattle.ieee754.proofs.Entries.{set-entries}
 use Rattle.linalg.specs.declared.vector3.Vector3.{Vector3}
-use Rattle.linalg.specs.declared.matrix3.Matrix3.{Matrix3}
-use Rattle.linalg.specs.Vectors.{vecSub, vecMul}
-use Rattle.linalg.specs.Matrices.{column0, column1}
 use Rattle.linalg.specs.VectorScaling.{AtVector}
 use Rattle.linalg.proofs.VectorDegrees.{null-vector}
 use Rattle.p3p_common.specs.declared.refine_depths.SquaredEdges.{SquaredEdges}
@@ -23,31 +21,20 @@ use Rattle.p3p_common.specs.PoseScaling.{AtEdges}
 use Rattle.polynomial.specs.declared.Roots.{Roots}
 use Rattle.polynomial.specs.RootScaling.{AtRoots, two-at, one-at, refused-at}
 use Rattle.polynomial.proofs.QuadraticScaling.{quadratic-scales}
 use Rattle.depths.specs.DepthSlots.{noCandidates, pushIfPositive}
 use Rattle.depths.specs.Charts.{forRoots, noDivisor, firstChartDepths, firstChart, secondChartDepths, weightChart, secondChart, chart}
-use Rattle.lambdatwist.specs.Poses.{signTurn, candidates}
 use Rattle.depths.specs.declared.angles.Factors.{Factors}
 use Rattle.depths.specs.declared.candidates.Candidates.{Candidates}
-use Rattle.theorems.proofs.Equal.{equal}
-
-pub data AtVectors (k : ℤ) : List Vector3 → List Vector3 → Type 0 where
-  no-vectors : AtVectors k [] []
-  more-vectors : {v v' : Vector3} {vs vs' : List Vector3} → AtVector k (pos 1) v v' → AtVectors k vs vs' → AtVectors k (v ∷ vs) (v' ∷ vs')
 
 pub record AtCandidates (k : ℤ) (c c' : Candidates) : Type 0 where
   pub count : c .count ≡ c' .count
-  pub depths : AtVectors k (c .depths) (c' .depths)
+  pub depths : Forall₂ (AtVector k (pos 1)) (c .depths) (c' .depths)
 
 module _ {k : ℤ} where
   -- ---- the slots
-  noCandidates-at : AtCandidates k noCandidates noCandidates
+  pub noCandidates-at : AtCandidates k noCandidates noCandidates
   unfolding noCandidates
-  noCandidates-at = record { count = refl; depths = more-vectors null-vector (more-vectors null-vector (more-vectors null-vector (more-vectors null-vector no-vectors))) }
-
-  set-at : (i : ℕ) {vs vs' : List Vector3} {v v' : Vector3} → AtVectors k vs vs' → AtVector k (pos 1) v v' → AtVectors k (set vs i v) (set vs' i v')
-  set-at i no-vectors h = no-vectors
-  set-at zero (more-vectors w ws) h = more-vectors h ws
-  set-at (suc i) (more-vectors w ws) h = more-vectors w (set-at i ws h)
+  noCandidates-at = record { count = refl; depths = Forall₂·cons null-vector (Forall₂·cons null-vector (Forall₂·cons null-vector (Forall₂·cons null-vector Forall₂·nil))) }
 
   pushIfPositive-at : {c c' : Candidates} {d d' : Float} {v v' : Vector3} → AtCandidates k c c' → At k (pos 1) d d' → AtVector k (pos 1) v v' → AtCandidates k (pushIfPositive c d v) (pushIfPositive c' d' v')
   unfolding pushIfPositive
@@ -56,7 +43,7 @@ module _ {k : ℤ} where
       (choose (AtCandidates k) (ap (λ (n : ℕ). ltb n 4) (found .count))
       (record {
         count = ap (λ (n : ℕ). n + 1) (found .count);
-        depths = subst (λ (n : ℕ). AtVectors k (set (c .depths) (c .count) v) (set (c' .depths) n v')) (found .count) (set-at (c .count) (found .depths) depths);
+        depths = subst (λ (n : ℕ). Forall₂ (AtVector k (pos 1)) (set (c .depths) (c .count) v) (set (c' .depths) n v')) (found .count) (set-entries (c .count) (found .depths) depths);
       })
       found)
       found
@@ -148,20 +135,6 @@ module _ {k : ℤ} where
           equal {k = k} (! same (nullVector .z) ⊗ ! same inverse) >>≡ λ w1.
           weightChart-scales w0 w1 found)
 
-      chart-scales : {c c' : Candidates} → AtCandidates k c c' → Both (AtCandidates k) (chart e b nullVector c) (chart e' b nullVector c')
+      pub chart-scales : {c c' : Candidates} → AtCandidates k c c' → Both (AtCandidates k) (chart e b nullVector c) (chart e' b nullVector c')
       unfolding chart
       chart-scales found = if refl {a = lt (abs (nullVector .x)) (abs (nullVector .y))} then firstChart-scales nullVector found else secondChart-scales found
-
-    -- ---- either sign of the ratio
-    signTurn-scales : (eigenvectors : Matrix3) (sign : Float) {c c' : Candidates} → AtCandidates k c c' → Both (AtCandidates k) (signTurn e b eigenvectors sign c) (signTurn e' b eigenvectors sign c')
-    unfolding signTurn
-    signTurn-scales eigenvectors sign found =
-        alike {m = vecMul (column1 eigenvectors) sign} >>≡ λ scaled.
-        alike {m = vecSub (column0 eigenvectors) scaled} >>≡ λ nullVector.
-        chart-scales nullVector found
-
-    pub candidates-scales : (eigenvectors : Matrix3) (ratio : Float) → Both (AtCandidates k) (candidates e b eigenvectors ratio) (candidates e' b eigenvectors ratio)
-    unfolding candidates
-    candidates-scales eigenvectors ratio =
-        signTurn-scales eigenvectors ratio noCandidates-at >>= λ _ _ once.
-        signTurn-scales eigenvectors (neg ratio) once
