@@ -5,7 +5,7 @@ use Prim.Native.Nat.{ℕ, zero, suc, _+_, _-_, _*_, _/_, _%_, _^_, _≤_, _<_, c
 use native.Mathlib.Nat.{le-trans, le-of-eq, le-refl, lt-of-lt-of-le, lt-of-le-of-lt, zero-lt-suc, mul-right-comm, pow-succ'}
 use native.Mathlib.Omega.{arith}
 use mathlib.Core.Bool.{Bool, true, false, cond, _&&_, Bool·beq}
-use lib.IntN.{ℤ}
+use lib.IntN.{ℤ, pos, negsuc}
 use lib.Dec.{T, leb, ltb, eqb, leb→le, ltb→lt, eqb→eq}
 use lib.Pow.{pow-lt}
 use lib.Ieee.{Float, nan, inf, fin, Format, binary64, prec, emax, low, top, hid, up, down, size, odd, units, round, sum, mul, lt, isNan, fits, toBits}
@@ -50,6 +50,13 @@ odd-once m n (suc a) zero o p h = absurd (omega (arith, ap (λ (x : ℕ). m * x)
 odd-once m n (suc a) (suc b) o p h =
     let r = odd-once m n a b o p (omega (arith, ap (λ (x : ℕ). m * x) (pow-succ' 2 a), ap (λ (x : ℕ). n * x) (pow-succ' 2 b))) in
     (r .0, ap suc (r .1))
+
+-- with an exponent of either sign
+pub odd-unique : (m n : ℕ) (e d : ℤ) → m % 2 ≡ 1 → n % 2 ≡ 1 → m * up e * down d ≡ n * up d * down e → (m ≡ n) × (e ≡ d)
+odd-unique m n (pos a) (pos b) o p h = let r = odd-once m n a b o p (omega arith) in (r .0, ap pos (r .1))
+odd-unique m n (pos a) (negsuc b) o p h = absurd (omega (arith, ap (λ (x : ℕ). m * 2 ^ a * x) (pow-succ' 2 b)))
+odd-unique m n (negsuc a) (pos b) o p h = absurd (omega (arith, ap (λ (x : ℕ). n * 2 ^ b * x) (pow-succ' 2 a)))
+odd-unique m n (negsuc a) (negsuc b) o p h = let r = odd-once m n b a o p (omega (arith, ap (λ (x : ℕ). m * x) (pow-succ' 2 b), ap (λ (x : ℕ). n * x) (pow-succ' 2 a))) in (r .0, ap negsuc (sym (r .1)))
 
 -- ---- two doubles with the same sign and size are equal: they have the same bit pattern
 pub fits-unique : (f : Format) (s : Bool) (m : ℕ) (e : ℤ) (n : ℕ) (d : ℤ) → T (fits f (fin s m e)) → T (fits f (fin s n d)) → m * up e * down d ≡ n * up d * down e → fin s m e ≡ fin s n d

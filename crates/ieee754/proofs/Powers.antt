@@ -6,6 +6,7 @@ use native.Mathlib.Omega.{arith}
 use mathlib.Core.Bool.{Bool, true, false, not, cond, _&&_, _||_, Bool·beq}
 use lib.IntN.{ℤ, pos, negsuc, negℤ, _+ℤ_, _-ℤ_, _*ℤ_, +ℤ-assoc, +ℤ-comm, +ℤ-idl, sucℤ, predℤ, negℤ-negℤ, zero-*ℤ, sucℤ-*ℤ, predℤ-*ℤ, sucℤ-+ℤ, predℤ-+ℤ}
 use lib.Dec.{T, leb, ltb, eqb, isEq, leb→le, nleb→lt, ltb→lt, nltb→le}
+use borrow.Author.Tests.{eq-eqb, eqb-true}
 use lib.Pow.{pow-add}
 use lib.Ieee.{up, down, minus, below, level}
 use lib.Ieee.Digits.{minus-val}
@@ -118,6 +119,10 @@ module _ {t : ℤ} {x y c x' y' c' : ℕ} (p : Ratio t x c x' c') (q : Ratio t y
 
   pub ratio-eq : eqb x' y' ≡ eqb x y
   ratio-eq = ratio-test eqb (λ a b e E. ap isEq (compare-mul a b e E))
+
+-- fractions that are 2 ^ t times one fraction are equal
+pub ratio-once : {t : ℤ} {a c b d b' d' : ℕ} → Ratio t a c b d → Ratio t a c b' d' → b * d' ≡ b' * d
+ratio-once {a = a} {c} {b} {d} {b'} {d'} p q = eqb-true (b * d') (b' * d) (ratio-eq (ratio-left p q) (ratio-right p q) ∙ eq-eqb (a * c) (a * c) refl)
 
 -- the two tests of `lib.Ieee`, ±x < ±y and ±x = ±y
 module _ {t : ℤ} {x y c x' y' c' : ℕ} (p : Ratio t x c x' c') (q : Ratio t y c y' c') where

@@ -1,8 +1,8 @@
 -- Every slot of an answer has a finite translation, as the scaling rule's proof needs it: a consequence of demand 1 (`one-answer`). Assumes nothing.
 use mathlib.Core.Path.{subst⁻¹}
 use mathlib.Core.Logic.{⊎-elim}
-use mathlib.Core.List.{List, [], _∷_}
-use Prim.Native.Nat.{ℕ, suc}
+use mathlib.Core.List.{List}
+use Prim.Native.Nat.{ℕ}
 use lib.Dec.{T}
 use lib.ListN.{getD}
 use lib.Ieee.{ofBits}
@@ -11,6 +11,7 @@ use Rattle.linalg.specs.Vectors.{allFinite}
 use Rattle.linalg.specs.Matrices.{zeroPose}
 use Rattle.linalg.specs.declared.pose.Pose.{Pose}
 use Rattle.p3p_common.specs.PoseSlots as slots
+use Rattle.p3p_common.proofs.SlotLaws.{none-filled}
 use Rattle.p3p_common.specs.declared.input.World.{World}
 use Rattle.p3p_common.specs.declared.input.Bearings.{Bearings}
 use Rattle.p3p_common.specs.declared.input.P3pInput.{P3pInput}
@@ -19,26 +20,18 @@ use Rattle.theorems.specs.OneAnswer.{Refused, OneAnswer, refused-1, refu
 use Rattle.lambdatwist.specs.declared.solve.Answer.{Answer}
 use Rattle.theorems.proofs.OneAnswer.{one-answer}
 
-abbrev pub FiniteTranslation : Pose → Type 0
-FiniteTranslation p = T (allFinite (p .translation))
+abbrev pub FiniteTranslations : List Pose → Type 0
+FiniteTranslations l = (i : ℕ) → T (allFinite (getD l i zeroPose .translation))
 
-pub data FiniteTranslations : List Pose → Type 0 where
-  no-pose : FiniteTranslations []
-  finite-pose : {p : Pose} {ps : List Pose} → FiniteTranslation p → FiniteTranslations ps → FiniteTranslations (p ∷ ps)
-
-zeroPose-finite : FiniteTranslation zeroPose
+zeroPose-finite : T (allFinite (zeroPose .translation))
 unfolding allFinite ofBits
 zeroPose-finite = tt
 
-each-finite : (l : List Pose) → ((i : ℕ) → FiniteTranslation (getD l i zeroPose)) → FiniteTranslations l
-each-finite [] h = no-pose
-each-finite (p ∷ l) h = finite-pose (h 0) (each-finite l (λ i. h (suc i)))
-
 filled-finite : (n : ℕ) (l : List Pose) → slots.Filled slots.FinitePose zeroPose n l → FiniteTranslations l
-filled-finite n l s = each-finite l (λ i. ⊎-elim (λ below. s .held i below .translation) (λ beyond. subst⁻¹ FiniteTranslation (s .rest i beyond) zeroPose-finite) (lt-or-ge i n))
+filled-finite n l s i = ⊎-elim (λ below. s .held i below .translation) (λ beyond. subst⁻¹ (λ (p : Pose). T (allFinite (p .translation))) (s .rest i beyond) zeroPose-finite) (lt-or-ge i n)
 
 refused-finite : {n : ℕ} {a : Answer} → Refused n a → FiniteTranslations (a .poses)
-refused-finite r = subst⁻¹ FiniteTranslations (r .poses) (finite-pose zeroPose-finite (finite-pose zeroPose-finite (finite-pose zeroPose-finite (finite-pose zeroPose-finite no-pose))))
+refused-finite r = subst⁻¹ FiniteTranslations (r .poses) (filled-finite 0 _ (none-filled slots.FinitePose zeroPose))
 
 answer-finite : {input : P3pInput} {a : Answer} → OneAnswer input a → FiniteTranslations (a .poses)
 answer-finite (refused-1 f r) = refused-finite r

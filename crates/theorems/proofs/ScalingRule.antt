@@ -1,6 +1,7 @@
 -- The scaling rule holds: demand 3 of the mission, as specs/ScalingRule.antt states it. Assumes nothing.
 use mathlib.Core.Path.{subst}
 use mathlib.Core.List.{List, Forall₂, Forall₂·nil, Forall₂·cons}
+use Prim.Native.Nat.{suc}
 use lib.IntN.{ℤ, pos}
 use lib.Dec.{T}
 use Rattle.linalg.specs.Vectors.{allFinite}
@@ -18,7 +19,7 @@ use Rattle.lambdatwist.specs.Solve.{solve}
 use Rattle.lambdatwist.specs.declared.solve.Answer.{Answer}
 use Rattle.theorems.proofs.TimesPower.{times-at, at-times}
 use Rattle.theorems.proofs.SolveScaling.{AtAnswer, solve-scales}
-use Rattle.theorems.proofs.FiniteTranslation.{FiniteTranslations, no-pose, finite-pose, solve-finite}
+use Rattle.theorems.proofs.FiniteTranslation.{FiniteTranslations, solve-finite}
 
 module _ (k : ℤ) where
   -- ---- from the statement's hypotheses to the calculus of degrees
@@ -39,8 +40,8 @@ module _ (k : ℤ) where
       record { x = at-times k (v .x) (v' .x) (entries .0) (h .x); y = at-times k (v .y) (v' .y) (entries .1) (h .y); z = at-times k (v .z) (v' .z) (entries .2) (h .z) }
 
   poses-alike : {ps ps' : List Pose} → FiniteTranslations ps → Forall₂ (AtPose k) ps ps' → Forall₂ (rule.AlikePose k) ps ps'
-  poses-alike no-pose Forall₂·nil = Forall₂·nil
-  poses-alike (finite-pose f fs) (Forall₂·cons h hs) = Forall₂·cons (record { rotation = h .rotation; translation = vector-times f (h .translation) }) (poses-alike fs hs)
+  poses-alike f Forall₂·nil = Forall₂·nil
+  poses-alike f (Forall₂·cons h hs) = Forall₂·cons (record { rotation = h .rotation; translation = vector-times (f 0) (h .translation) }) (poses-alike (λ i. f (suc i)) hs)
 
   answer-alike : {a a' : Answer} → FiniteTranslations (a .poses) → AtAnswer k a a' → rule.Alike k a a'
   answer-alike f h = record { refusal = h .refusal; count = h .count; poses = poses-alike f (h .poses); updates = h .updates }
