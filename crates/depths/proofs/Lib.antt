@@ -1,5 +1,6 @@
--- What the proofs of both charts use; and the scaling laws of the stages, in the order of a solve, which crates above use.
+-- What the proofs of both charts use; how many slots candidates have; and the scaling laws of the stages, in the order of a solve, which crates above use.
 mod NoRoots
+pub mod CandidateSlots
 pub mod EdgeScaling
 pub mod CubicScaling
 pub mod MatrixScaling

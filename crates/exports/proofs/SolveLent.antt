@@ -5,20 +5,15 @@ use mathlib.Core.Bool.{Bool}
 use mathlib.Core.List.{List, [], _∷_, _++_}
 use native.Mathlib.Omega.{arith}
 use borrow.Author.Tests.{eq-eqb, ne-eqb}
-use denote.Laws.{Is}
-use denote.Struct.Declared.{row}
-use denote.Struct.Laws as struct
 use lib.Dec.{eqb}
 use lib.Ieee.{Float}
-use lib.ListN.{length, getD, length-map}
+use lib.ListN.{length, getD}
 use Rattle.ieee754.specs.Traced.{if_then_else_}
 use Rattle.linalg.specs.declared.pose.Pose.{Pose}
 use Rattle.p3p_common.specs.declared.input.World.{World}
 use Rattle.p3p_common.specs.declared.input.Bearings.{Bearings}
 use Rattle.lambdatwist.specs.Solve.{solve}
 use Rattle.lambdatwist.specs.declared.solve.Answer.{Answer}
-use Rattle.lambdatwist.proofs.solve.Answer as answer
-use Rattle.lambdatwist.proofs.solve.Answer.Laws as answer-laws
 use Rattle.exports.specs.SolveLent.{worldOf, bearingsOf, solved, entries, allEntries}
 
 pub as-solved : (input : List Float) {w : World} {b : Bearings} {a : Answer} → w ≡ worldOf input → b ≡ bearingsOf input → a ≡ solve w b .value → a ≡ solved input
@@ -33,11 +28,7 @@ module _ {A : Type 0} {n : ℕ} (new held : A) where
   pub when-refused : (n ≡ 0 → ⊥) → held ≡ (if eqb n 0 then new else held)
   when-refused h = sym (ap (λ (b : Bool). if b then new else held) (ne-eqb n 0 h))
 
--- ---- an answer has four slots
-pub four-poses : (a : Answer) → Is (row answer.the-type) a (struct.val answer.the-type answer-laws.the-laws a ∷ []) → length (a .poses) ≡ 4
-four-poses a ok =
-    simp length-map at (struct.owed answer.the-type answer-laws.the-laws a (struct.val answer.the-type answer-laws.the-laws a ∷ []) ok .1 .1 .0 .1 .0 .1)
-
+-- ---- the four slots one after another
 pub four-entries : (ps : List Pose) (d : Pose) → length ps ≡ 4 → entries (getD ps 0 d) ++ entries (getD ps 1 d) ++ entries (getD ps 2 d) ++ entries (getD ps 3 d) ≡ allEntries ps
 unfolding entries allEntries
 four-entries [] d h = absurd (omega arith)

@@ -1,10 +1,10 @@
 -- The loop over the depth candidates at one slot: a turn is made there, or the candidates are at an end. Assumes nothing.
 use mathlib.Core.Path.{_≡_}
-use mathlib.Core.List.{List, [], _∷_}
+use mathlib.Core.List.{List}
 use Prim.Native.Nat.{ℕ, _+_, _≤_, _<_, min}
 use native.Mathlib.Numerals.{add-one}
 use native.Mathlib.Omega.{arith}
-use lib.ListN.{length, getD, take, drop, length-map, length-take, drop-of-length-le}
+use lib.ListN.{length, getD, take, drop, length-take, drop-of-length-le}
 use lib.Seq.{drop-cons, getD-take}
 use Rattle.linalg.specs.declared.vector3.Vector3.{Vector3}
 use Rattle.linalg.specs.declared.matrix3.Matrix3.{Matrix3}
@@ -13,12 +13,6 @@ use Rattle.p3p_common.specs.declared.refine_depths.Cosines.{Cosines}
 use Rattle.p3p_common.specs.declared.solutions.Solutions.{Solutions}
 use Rattle.lambdatwist.specs.Poses.{poseTurn, poseTurns}
 use Rattle.lambdatwist.specs.declared.poses.View.{View}
-use Rattle.depths.specs.declared.candidates.Candidates.{Candidates}
-use denote.Laws.{Is}
-use denote.Struct.Declared.{row}
-use denote.Struct.Laws as struct
-use Rattle.depths.proofs.candidates.Candidates as candidates
-use Rattle.depths.proofs.candidates.Candidates.Laws as candidates-laws
 
 module _ (view : View) (edges : SquaredEdges) (cosines : Cosines) (inverse : Matrix3) (count : ℕ) (depths : List Vector3) (at : ℕ) (output : Solutions) where
   pub turns-end : min count (length depths) ≤ at → output ≡ poseTurns view edges cosines inverse (drop at (take count depths)) output .value
@@ -29,7 +23,3 @@ module _ (view : View) (edges : SquaredEdges) (cosines : Cosines) (inverse : Mat
       → poseTurns view edges cosines inverse (drop (at + 1) (take count depths)) (poseTurn view edges cosines inverse output (getD depths at d) .value) .value ≡ poseTurns view edges cosines inverse (drop at (take count depths)) output .value
   unfolding poseTurns
   turns-go d h g = let inside : at < length (take count depths) = simp length-take (omega arith) in rw (drop-cons (take count depths) at d, getD-take, add-one at)
-
--- a struct of candidates has four slots
-pub four-slots : (found : Candidates) → Is (row candidates.the-type) found (struct.val candidates.the-type candidates-laws.the-laws found ∷ []) → length (found .depths) ≡ 4
-four-slots found ok = simp length-map at (struct.owed candidates.the-type candidates-laws.the-laws found (struct.val candidates.the-type candidates-laws.the-laws found ∷ []) ok .1 .0 .1 .0 .1)

@@ -2,4 +2,5 @@
 pub mod QuadraticScaling
 pub mod CubicScaling
 pub mod RootTags
+pub mod Every
 pub mod RootCases

@@ -2,7 +2,8 @@
 use borrow.Author.Needs.{needs}
 use mathlib.Core.Path.{refl, sym, _∙_}
 use Rattle.exports.specs.SolveLent.{posesAfter, updatesAfter, countAfter}
-use Rattle.exports.proofs.SolveLent.{as-solved, when-refused, when-answered, four-poses, four-entries}
+use Rattle.lambdatwist.proofs.AnswerSlots.{four-poses}
+use Rattle.exports.proofs.SolveLent.{as-solved, when-refused, when-answered, four-entries}
 use Rattle.exports.proofs.solve.p3p_solve.Statement.{statement}
 use Rattle.exports.proofs.solve.p3p_solve.Tie as tie
 

@@ -5,7 +5,8 @@ use Prim.Native.Nat.{_-_, _≤_, min}
 use mathlib.Core.Path.{_≡_, refl, _∙_}
 use lib.ListN.{length, take, drop}
 use Rattle.lambdatwist.specs.Poses.{poseTurns, poses}
-use Rattle.lambdatwist.proofs.PoseTurns.{turns-go, turns-end, four-slots}
+use Rattle.depths.proofs.CandidateSlots.{four-slots}
+use Rattle.lambdatwist.proofs.PoseTurns.{turns-go, turns-end}
 use Rattle.lambdatwist.proofs.poses.poses.Statement.{statement}
 use Rattle.lambdatwist.proofs.poses.poses.Tie as tie
 
