@@ -55,8 +55,8 @@ pub fn solve(world: &[[f64; 3]; 3], bearings: &[[f64; 3]; 3]) -> Result<Poses, R
     Refusal::unless_zero(number, Poses { slots, count: count as usize })
 }
 
-/// The index of the pose that sees a fourth target best: the lowest finite |camera × bearing|² / (camera · bearing)², of equal ones the
-/// earliest. Poses after the fourth are not looked at.
+/// The index of the pose under which a fourth target lies nearest to its bearing: the lowest finite
+/// |camera × bearing|² / (camera · bearing)², of equal ones the earliest. Poses after the fourth are not looked at.
 pub fn choose(poses: &[Pose], target: &[f64; 3], bearing: &[f64; 3]) -> Result<usize, Refusal> {
     let mut words = [0.0; 48];
     for (pose, slot) in poses.iter().zip(words.chunks_exact_mut(12)) {

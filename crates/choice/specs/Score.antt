@@ -16,6 +16,7 @@ cameraPoint pose target = do
 unfoldable pub score : Pose → Vector3 → Vector3 → Traced Float
 score pose target bearing = do
   camera ← cameraPoint pose target
-  offRay ← cross camera bearing
+  normal ← cross camera bearing
+  offRay ← normSquared normal
   depth ← dot camera bearing
-  normSquared offRay ⊘ (! depth ⊗ ! depth)
+  ! offRay ⊘ (! depth ⊗ ! depth)

@@ -1,10 +1,9 @@
 -- The charts: their quadratics have their coefficients at degree 0, and the depth candidates are at degree 1, as many in both runs. Assumes nothing.
-use mathlib.Core.Path.{_≡_, refl, ap, ap₂, subst}
+use mathlib.Core.Path.{_≡_, refl, ap, ap₂}
 use mathlib.Core.Bool.{Bool, not, _||_}
-use mathlib.Core.List.{Forall₂, Forall₂·nil, Forall₂·cons}
+use mathlib.Core.List.{Forall₂}
 use Prim.Native.Nat.{ℕ, _+_}
 use lib.Dec.{ltb}
-use lib.ListN.{set}
 use lib.IntN.{ℤ, pos}
 use lib.Ieee.{Float, lt}
 use Rattle.ieee754.specs.Literal.{one, two}
@@ -12,7 +11,7 @@ use Rattle.ieee754.specs.Magnitude.{abs}
 use Rattle.ieee754.specs.Traced.{Traced}
 use Rattle.ieee754.specs.Scaling.{Both, At}
 use Rattle.ieee754.proofs.Degrees.{same, null, !_, ⊝_, √_, _⊗_, _⊘_, _⊕_, _⊖_, pure, _>>=_, _>>≡_, if_then_else_, choose, lt-same, le-same, eq-same, finite-same, equal}
-use Rattle.ieee754.proofs.Entries.{set-entries}
+use Rattle.ieee754.proofs.Entries.{set-entries, four-entries}
 use Rattle.linalg.specs.declared.vector3.Vector3.{Vector3}
 use Rattle.linalg.specs.VectorScaling.{AtVector}
 use Rattle.linalg.proofs.VectorDegrees.{null-vector}
@@ -34,16 +33,16 @@ module _ {k : ℤ} where
   -- ---- the slots
   pub noCandidates-at : AtCandidates k noCandidates noCandidates
   unfolding noCandidates
-  noCandidates-at = record { count = refl; depths = Forall₂·cons null-vector (Forall₂·cons null-vector (Forall₂·cons null-vector (Forall₂·cons null-vector Forall₂·nil))) }
+  noCandidates-at = record { count = refl; depths = four-entries null-vector }
 
   pushIfPositive-at : {c c' : Candidates} {d d' : Float} {v v' : Vector3} → AtCandidates k c c' → At k (pos 1) d d' → AtVector k (pos 1) v v' → AtCandidates k (pushIfPositive c d v) (pushIfPositive c' d' v')
   unfolding pushIfPositive
-  pushIfPositive-at {c} {c'} {v = v} {v'} found depth depths =
+  pushIfPositive-at found depth depths =
       choose (AtCandidates k) (lt-same null depth)
       (choose (AtCandidates k) (ap (λ (n : ℕ). ltb n 4) (found .count))
       (record {
         count = ap (λ (n : ℕ). n + 1) (found .count);
-        depths = subst (λ (n : ℕ). Forall₂ (AtVector k (pos 1)) (set (c .depths) (c .count) v) (set (c' .depths) n v')) (found .count) (set-entries (c .count) (found .depths) depths);
+        depths = set-entries (found .count) (found .depths) depths;
       })
       found)
       found

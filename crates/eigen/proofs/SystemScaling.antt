@@ -1,5 +1,4 @@
 -- The eigensystem: its vectors are equal in the two runs and its values at degree 2, or neither run has one. Assumes nothing.
-use mathlib.Core.Path.{_≡_}
 use lib.IntN.{ℤ, pos}
 use lib.Ieee.{Float}
 use Rattle.ieee754.specs.Traced.{Traced}

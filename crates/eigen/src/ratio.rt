@@ -1,5 +1,5 @@
-// The ratio of the eigenvalues' roots, with either sign of which a null vector is made: solve_ordered (lambdatwist.rs), from
-// `let ratio_squared` on.
+// The square root of minus the second eigenvalue over the first, with either sign of which a null vector is made: solve_ordered
+// (lambdatwist.rs), from `let ratio_squared` on.
 ghost use mathlib.Core.Path.{_≡_};
 ghost use Rattle.eigen.specs.RatioOf.{ratioOf};
 use ieee754::is_finite::is_finite;

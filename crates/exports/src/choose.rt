@@ -1,7 +1,6 @@
 // The choice of a pose by a fourth target, over lent arrays.
 ghost use mathlib.Core.Path.{_≡_};
 ghost use Prim.Native.Nat.{_+_, _≤_};
-ghost use lib.ListN.{length};
 ghost use Rattle.exports.specs.ChooseLent.{poseAt, chosen, bestAfter};
 ghost use Rattle.choice.specs.Answer.{number};
 use crate::vectors::vector_at;
@@ -25,7 +24,7 @@ fn pose_at(poses: &[f64; 48], at: usize) -> Pose
     }
 }
 
-// The number from 1 of the pose that sees the target best. Returns 0, or the refusal number with nothing written.
+// The number from 1 of the pose under which the target lies nearest to its bearing. Returns 0, or the refusal number with nothing written.
 #[no_mangle]
 pub extern "C" fn p3p_choose(
     poses: &[f64; 48],

@@ -5,7 +5,7 @@
 // order of the exponents, which no predictor foresees.
 ghost use mathlib.Core.Path.{_≡_};
 ghost use mathlib.Core.Bool.{cond};
-ghost use Prim.Native.Nat.{_+_, _*_, _/_, _^_, _≤_, _<_};
+ghost use Prim.Native.Nat.{_+_, _*_, _/_, _^_, _<_};
 ghost use Rattle.ieee754.specs.inner.Leading.{Settles};
 ghost use Rattle.ieee754.specs.inner.Rounded.{summed, IsProduct};
 ghost use Rattle.ieee754.specs.inner.Unpacked.{IsSignificand};

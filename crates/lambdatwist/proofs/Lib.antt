@@ -1,6 +1,10 @@
--- What the proofs of several functions use. `KeptPoses` is also for the theorems about the whole solve, and `AnswerSlots` for who reads an answer.
+-- What the proofs of several functions use; of an answer, that its poses are kept ones and its slots four; what is stated of the choice of permutation; and the scaling laws of the stages, in the order of a solve, up to `solve`.
 mod NoRoot
 mod PoseTurns
 pub mod KeptPoses
 pub mod AnswerSlots
 mod Retries
+pub mod NanCondition
+pub mod PoseScaling
+pub mod PermutationScaling
+pub mod SolveScaling

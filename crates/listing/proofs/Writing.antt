@@ -1,4 +1,4 @@
--- A text put into a slice: the whole text where there is room, and else nothing; and texts put one after another. Assumes nothing.
+-- A text put into a slice: the whole text where there is room, and else nothing; either way the slice keeps its length. Assumes nothing.
 use Prim.Native.Nat.{ℕ, _+_, _-_, _≤_, _<_}
 use mathlib.Core.Path.{_≡_, sym, ap, _∙_}
 use mathlib.Core.List.{List}

@@ -1,5 +1,4 @@
 // Bytes put into a slice one after another: the position goes in, and the next one comes back.
-ghost use mathlib.Core.Path.{_≡_};
 ghost use Prim.Native.Nat.{_+_, _<_, _≤_};
 ghost use mathlib.Core.List.{[], _∷_};
 ghost use lib.ListN.{length};

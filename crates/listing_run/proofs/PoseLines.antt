@@ -1,11 +1,10 @@
 -- The poses' lines, put one after another: none, and one more. Assumes nothing.
-use Prim.Native.Nat.{ℕ, zero, suc, _+_, _≤_, _<_}
-use mathlib.Core.Path.{_≡_, refl}
-use mathlib.Core.List.{List, [], _∷_, _++_}
-use native.Mathlib.Nat.{le-of-suc-le-suc}
+use Prim.Native.Nat.{ℕ, _+_, _≤_, _<_}
+use mathlib.Core.Path.{_≡_}
+use mathlib.Core.List.{List, _++_}
 use native.Mathlib.Numerals.{add-one}
-use native.Mathlib.Omega.{arith}
 use lib.ListN.{length, getD}
+use Rattle.ieee754.proofs.Entries.{inside-same}
 use Rattle.linalg.specs.Matrices.{zeroPose}
 use Rattle.linalg.specs.declared.pose.Pose.{Pose}
 use Rattle.listing.specs.Bytes.{Stored}
@@ -13,12 +12,6 @@ use Rattle.listing.specs.Lines.{Written, poseLine}
 use Rattle.listing.proofs.Storing.{none, then, stored-as}
 use Rattle.listing.proofs.Writing.{stored}
 use Rattle.listing_run.specs.FrameLines.{poseLines}
-
--- inside a list what is read past its end does not matter
-inside-same : (l : List Pose) (i : ℕ) (d e : Pose) → i < length l → getD l i d ≡ getD l i e
-inside-same [] i d e h = absurd (omega arith)
-inside-same (a ∷ l) zero d e h = refl
-inside-same (a ∷ l) (suc i) d e h = inside-same l i d e (le-of-suc-le-suc h)
 
 module _ (n : ℕ) (poses : List Pose) (updates : List ℕ) where
   pub none-stored : (l : List ℕ) (at : ℕ) → Stored l at (poseLines n poses updates 0) at l

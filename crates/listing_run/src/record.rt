@@ -31,7 +31,7 @@ pub enum Course {
 pub struct Listed(pub usize, pub Course);
 
 // Whether more may come for a stop: 9 is asked only where the input has ended.
-fn waits(ended: bool, refusal: u32) -> bool
+fn stop_waits(ended: bool, refusal: u32) -> bool
     ensures { λ r. ⌜ r ≡ stopWaits ended refusal ⌝ }
 {
     if ended {
@@ -62,7 +62,7 @@ fn put_found(
             Listed(at, Course::Read)
         }
         Record::Stop { refusal } => {
-            if waits(ended, refusal) {
+            if stop_waits(ended, refusal) {
                 return Listed(at, Course::Read);
             }
             Listed(put_stop(out, at, refusal, number), Course::Closed)

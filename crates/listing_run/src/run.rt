@@ -127,7 +127,7 @@ fn step(fd: i32, input: &mut [u8], out: &mut [u8], state: State) -> Turn
 }
 
 // A proved loop has to end, and nothing says that the input does: turns are counted down from a number that no run uses up.
-// A record never lies across the input's end, and a frame's lines always fit the listing's buffer.
+// A record never lies across the end of the input's buffer, and a frame's lines always fit the listing's.
 pub(crate) fn run(fd: i32, input: &mut [u8], out: &mut [u8])
     requires { ⌜ (length (now input) % 195 ≡ 0) × (1600 ≤ length (now out)) ⌝ }
 {

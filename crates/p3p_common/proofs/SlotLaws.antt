@@ -7,10 +7,11 @@ use Prim.Native.Nat.{ℕ, zero, suc, _+_, _≤_, _<_}
 use native.Mathlib.Nat.{not-suc-le-zero, eq-or-lt-of-le}
 use native.Mathlib.Omega.{arith}
 use lib.Dec.{T, ltb, ltb→lt}
-use lib.ListN.{getD, set, replicate, length-set}
+use lib.ListN.{getD, set, length-set}
 use lib.Seq.{getD-set-same, getD-set-other}
 use lib.Ieee.{Float}
 use Rattle.ieee754.proofs.Order.{either-way}
+use Rattle.ieee754.proofs.Entries.{replicate-entry}
 use Rattle.linalg.specs.Vectors.{allFinite}
 use Rattle.linalg.specs.Matrices.{zeroPose, matFinite}
 use Rattle.linalg.specs.declared.vector3.Vector3.{Vector3}
@@ -33,13 +34,8 @@ use Rattle.p3p_common.proofs.FiniteGate.{FiniteGated, gate-finite}
 
 -- ---- a list of slots
 module _ {A : Type 0} where
-  all-alike : (n i : ℕ) (d : A) → getD (replicate n d) i d ≡ d
-  all-alike zero i d = refl
-  all-alike (suc n) zero d = refl
-  all-alike (suc n) (suc i) d = all-alike n i d
-
   pub none-filled : (Holds : A → Type 0) (d : A) → Filled Holds d 0 (d ∷ d ∷ d ∷ d ∷ [])
-  none-filled Holds d = record { four = refl; held = λ i h. absurd (not-suc-le-zero h); rest = λ i h. all-alike 4 i d }
+  none-filled Holds d = record { four = refl; held = λ i h. absurd (not-suc-le-zero h); rest = λ i h. replicate-entry 4 i d }
 
   -- the next slot is filled
   module _ (Holds : A → Type 0) (d : A) (n : ℕ) (l : List A) (a : A) (room : n < 4) (s : Filled Holds d n l) where

@@ -1,13 +1,12 @@
 -- Solutions of two runs stay alike as a pose is pushed: the same count and updates, the poses at their degrees. Assumes nothing.
-use mathlib.Core.Path.{refl, ap, subst}
-use mathlib.Core.List.{Forall₂, Forall₂·nil, Forall₂·cons}
+use mathlib.Core.Path.{refl, ap}
 use Prim.Native.Nat.{ℕ, _+_}
 use lib.IntN.{ℤ, pos}
 use lib.Dec.{ltb}
 use lib.ListN.{set}
 use Rattle.ieee754.specs.Scaling.{Both}
 use Rattle.ieee754.proofs.Degrees.{pure, _>>=_, choose}
-use Rattle.ieee754.proofs.Entries.{set-entries}
+use Rattle.ieee754.proofs.Entries.{set-entries, four-entries}
 use Rattle.linalg.specs.Matrices.{zeroPose}
 use Rattle.linalg.specs.declared.vector3.Vector3.{Vector3}
 use Rattle.linalg.specs.declared.matrix3.Matrix3.{Matrix3}
@@ -30,17 +29,17 @@ module _ {k : ℤ} where
   unfolding empty
   empty-scales = record {
     count = refl;
-    poses = Forall₂·cons zeroPose-at (Forall₂·cons zeroPose-at (Forall₂·cons zeroPose-at (Forall₂·cons zeroPose-at Forall₂·nil)));
+    poses = four-entries zeroPose-at;
     updates = refl;
   }
 
   pub push-scales : {s s' : Solutions} {p p' : Pose} (u : ℕ) → AtSolutions k s s' → AtPose k p p' → AtSolutions k (push s p u) (push s' p' u)
   unfolding push
-  push-scales {s} {s'} {p} {p'} u h q =
+  push-scales u h q =
       choose (AtSolutions k) (ap (λ (n : ℕ). ltb n 4) (h .count))
       (record {
         count = ap (λ (n : ℕ). n + 1) (h .count);
-        poses = subst (λ (n : ℕ). Forall₂ (AtPose k) (set (s .poses) (s .count) p) (set (s' .poses) n p')) (h .count) (set-entries (s .count) (h .poses) q);
+        poses = set-entries (h .count) (h .poses) q;
         updates = λ i. set (h .updates i) (h .count i) u;
       })
       h

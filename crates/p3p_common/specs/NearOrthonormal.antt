@@ -17,11 +17,11 @@ hasNearOrthonormalColumns matrix =
     let second = column1 matrix in
     let third = column2 matrix in
     do
-      length0 ← normSquared first ⊖ ! one
-      length1 ← normSquared second ⊖ ! one
-      length2 ← normSquared third ⊖ ! one
-      angle01 ← dot first second
-      angle02 ← dot first third
-      angle12 ← dot second third
-      error ← ! abs length0 ⊕ ! abs length1 ⊕ ! abs length2 ⊕ ! abs angle01 ⊕ ! abs angle02 ⊕ ! abs angle12
+      error0 ← normSquared first ⊖ ! one
+      error1 ← normSquared second ⊖ ! one
+      error2 ← normSquared third ⊖ ! one
+      dot01 ← dot first second
+      dot02 ← dot first third
+      dot12 ← dot second third
+      error ← ! abs error0 ⊕ ! abs error1 ⊕ ! abs error2 ⊕ ! abs dot01 ⊕ ! abs dot02 ⊕ ! abs dot12
       pure (le error nearRotationTolerance)

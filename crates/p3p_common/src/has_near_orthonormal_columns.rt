@@ -1,4 +1,4 @@
-// Whether a matrix is a rotation but for rounding (has_near_orthonormal_columns of pose/p3p/common.rs).
+// Whether a matrix has orthonormal columns within 1e-10 (has_near_orthonormal_columns of pose/p3p/common.rs).
 ghost use mathlib.Core.Path.{_≡_};
 ghost use Rattle.p3p_common.specs.NearOrthonormal.{hasNearOrthonormalColumns};
 use ieee754::abs::abs;
@@ -12,12 +12,12 @@ pub fn has_near_orthonormal_columns(matrix: Matrix3) -> bool
     let first = matrix.column0();
     let second = matrix.column1();
     let third = matrix.column2();
-    let length0 = abs(first.norm_squared() - 1.0);
-    let length1 = abs(second.norm_squared() - 1.0);
-    let length2 = abs(third.norm_squared() - 1.0);
-    let angle01 = abs(first.dot(second));
-    let angle02 = abs(first.dot(third));
-    let angle12 = abs(second.dot(third));
-    let error = length0 + length1 + length2 + angle01 + angle02 + angle12;
+    let error0 = abs(first.norm_squared() - 1.0);
+    let error1 = abs(second.norm_squared() - 1.0);
+    let error2 = abs(third.norm_squared() - 1.0);
+    let dot01 = abs(first.dot(second));
+    let dot02 = abs(first.dot(third));
+    let dot12 = abs(second.dot(third));
+    let error = error0 + error1 + error2 + dot01 + dot02 + dot12;
     error <= NEAR_ROTATION_TOLERANCE
 }

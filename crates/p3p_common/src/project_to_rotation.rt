@@ -3,7 +3,6 @@ ghost use mathlib.Core.Path.{_≡_};
 ghost use Rattle.p3p_common.specs.ProjectToRotation.{projectToRotation};
 use ieee754::sqrt::sqrt;
 use linalg::matrix3::Matrix3;
-use linalg::vector3::Vector3;
 
 // f64::EPSILON
 const EPSILON: f64 = 2.220446049250313e-16;

@@ -1,6 +1,6 @@
 -- Reading gives back what was encoded: `recordAt` on the bytes of a frame, wherever they stand in an input, accepts that frame
 -- (`reads-back`). A NaN is encoded by one of its patterns and is read as the NaN. Assumes nothing.
-use Prim.Native.Nat.{ℕ, zero, suc, _+_, _-_, _*_, _%_, _^_, _<_}
+use Prim.Native.Nat.{ℕ, zero, suc, _+_, _*_, _%_, _^_, _<_}
 use mathlib.Core.Path.{_≡_, refl, sym, ap, _∙_}
 use mathlib.Core.List.{List, [], _∷_, _++_, append-assoc}
 use native.Mathlib.Nat.{pow-suc, mod-one, mod-eq-of-lt, one-le-pow, mul-comm, zero-lt-suc, add-zero, zero-add, le-of-suc-le-suc}

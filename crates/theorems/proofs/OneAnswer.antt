@@ -1,14 +1,14 @@
 -- Demand 1 of the mission, as specs/OneAnswer.antt states it: the answer to eighteen doubles is one to four finite poses or number 1, 2 or 3. Assumes nothing.
 use mathlib.Core.Path.{refl}
-use mathlib.Core.Bool.{Bool, true, false, not, _&&_, _||_}
-use Prim.Native.Nat.{ℕ, zero, suc, _≤_}
-use native.Mathlib.Omega.{arith}
-use lib.Dec.{T, eqb}
+use mathlib.Core.Bool.{Bool, not, _&&_, _||_}
+use Prim.Native.Nat.{ℕ}
+use native.Mathlib.Nat.{pos-of-ne-zero}
+use lib.Dec.{T, T-not, eqb}
 use lib.Ieee.{Float, binary64, mul, le}
-use lib.Ieee.Fits.{and-i}
+use lib.Ieee.Fits.{and-i, eq→eqb}
 use Rattle.ieee754.specs.Literal.{sixtyFour, epsilon}
 use Rattle.ieee754.specs.Traced.{Traced, pure}
-use Rattle.ieee754.proofs.Order.{or-left, or-right, not-both-left, either-way}
+use Rattle.ieee754.proofs.Order.{or-left, or-right, neither, not-both-left, not-both-right, either-way}
 use Rattle.linalg.specs.declared.vector3.Vector3.{Vector3}
 use Rattle.linalg.specs.declared.matrix3.Matrix3.{Matrix3}
 use Rattle.polynomial.specs.declared.Roots.{Roots}
@@ -44,13 +44,9 @@ refused-so : (n : ℕ) → Refused n (refused n)
 unfolding refused answered empty
 refused-so n = record { refusal = refl; count = refl; poses = refl; updates = refl }
 
-positive : (n : ℕ) → T (not (eqb n 0)) → 1 ≤ n
-positive zero h = absurd h
-positive (suc n) h = omega arith
-
 ifKept-so : (P : Answer → Type 0) → P (refused 3) → ((a : Answer) → Accepted a → P a) → (s : Solutions) → Kept s → P (ifKept s)
 unfolding ifKept answered
-ifKept-so P three found s k = either-way P (eqb (s .count) 0) (λ _. three) (λ some. found _ (record { refusal = refl; one-or-more = positive (s .count) some; slots = k }))
+ifKept-so P three found s k = either-way P (eqb (s .count) 0) (λ _. three) (λ some. found _ (record { refusal = refl; one-or-more = pos-of-ne-zero (λ e. T-not (eqb (s .count) 0) some (eq→eqb e)); slots = k }))
 
 -- ---- from a usable ordering on: what is true of number 3 and of every accepted answer is true of the answer
 module _ (P : Answer → Type 0) (three : P (refused 3)) (found : (a : Answer) → Accepted a → P a) where
@@ -92,11 +88,6 @@ module _ (P : Answer → Type 0) (three : P (refused 3)) (found : (a : Answer) �
     solveCubic-gives b c = orNoRoot-gives _ _ (λ g. solveRoot-gives b g)
 
 -- ---- question 2: the given ordering, or else the best of the others
-best-usable : (given low best : Bool) → T (not low) → T (not best) → T (not (given && (low || best)))
-best-usable true true best h k = absurd h
-best-usable true false best h k = k
-best-usable false low best h k = tt
-
 module _ (input : P3pInput) (finite : T (inputFinite input)) where
   -- one ordering: what it leads to where it is unusable, and where it is usable
   ordering-one : (retry : P3pInput → Traced Answer) (view : View) → (T (orderingUnusable (view .world) (view .bearings)) → OneAnswer input (retry (view .input) .value))
@@ -118,7 +109,7 @@ module _ (input : P3pInput) (finite : T (inputFinite input)) where
       (λ l. refused-2 finite (and-i given (low || other) g (or-left low other l)) (refused-so 2))
       (λ n. ordering-one (λ _. pure (refused 2)) (record { input = input; world = best .world; bearings = best .bearings })
       (λ o. refused-2 finite (and-i given (low || other) g (or-right low other o)) (refused-so 2))
-      (best-usable given low other n)))
+      (λ u. not-both-right given (low || other) (neither low other n u))))
       (not-both-left given (low || other))
 
 pub one-answer : (world : World) (bearings : Bearings) → OneAnswer (record { world = world; bearings = bearings }) (solve world bearings .value)

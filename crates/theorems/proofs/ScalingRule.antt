@@ -18,7 +18,7 @@ use Rattle.theorems.specs.ScalingRule.{ScalingRule}
 use Rattle.lambdatwist.specs.Solve.{solve}
 use Rattle.lambdatwist.specs.declared.solve.Answer.{Answer}
 use Rattle.theorems.proofs.TimesPower.{times-at, at-times}
-use Rattle.theorems.proofs.SolveScaling.{AtAnswer, solve-scales}
+use Rattle.lambdatwist.proofs.SolveScaling.{AtAnswer, solve-scales}
 use Rattle.theorems.proofs.FiniteTranslation.{FiniteTranslations, solve-finite}
 
 module _ (k : ℤ) where

@@ -1,4 +1,4 @@
--- What the leading word of a sum says of its rounding. Definitions only. Assumes nothing.
+-- What the leading word of a sum says of its rounding: what `settle` of src/leading.rt returns. Definitions only. Assumes nothing.
 use mathlib.Core.Path.{_≡_}
 use mathlib.Core.Bool.{Bool}
 use Prim.Native.Nat.{ℕ, _+_, _-_, _*_, _^_, _≤_, _<_}

@@ -1,4 +1,4 @@
--- Numbers over 2 ^ 2166, rounded. Definitions only. Assumes nothing.
+-- Numbers over 2 ^ 2166, rounded: what src/round.rt, src/sum.rt and src/leading.rt return. Definitions only. Assumes nothing.
 use mathlib.Core.Path.{_≡_}
 use Prim.Native.Nat.{ℕ, _%_, _^_, _≤_, _<_}
 use mathlib.Core.Bool.{Bool}

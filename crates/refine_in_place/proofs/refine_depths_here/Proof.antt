@@ -26,7 +26,6 @@ use types.Part.{agg}
 use types.Tokens.{lft-new, lft-end}
 use sound.WpLaws.{FmC}
 use denote.Laws.{Is, shows}
-use denote.Plain.{uint-vals, uint-tells}
 use denote.Builtin.{u32}
 use denote.Ref.{RefT, MutRef}
 use denote.Steps.{only, facts, heard, nothing}

@@ -4,7 +4,7 @@ use mathlib.Core.Path.{_≡_, refl, sym, ap, subst}
 use native.Mathlib.Omega.{arith}
 use lib.ListN.{length, set, length-set}
 use borrow.Author.Needs.{needs}
-use Rattle.listing.specs.Digits.{glyph, hexadecimal}
+use Rattle.listing.specs.Digits.{hexadecimal}
 use Rattle.listing.proofs.Hexadecimal.{Left, start, turn, finish, length-hexadecimal}
 use Rattle.listing.proofs.digits.put_word.Statement.{statement}
 use Rattle.listing.proofs.digits.put_word.Tie as tie

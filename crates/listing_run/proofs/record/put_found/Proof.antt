@@ -33,15 +33,15 @@ returns c =
 enum-known-found : tie.Need-enum-known-found
 enum-known-found c = search needs
 
-waits-requires : tie.Need-waits-requires
-waits-requires c κs = search needs
+stop-waits-requires : tie.Need-stop-waits-requires
+stop-waits-requires c κs = search needs
 
 returns-2 : tie.Need-returns-2
 unfolding recordLines following waits turnLines turnCourse
 returns-2 c =
     let w = c .before in
     let f = w .before .before in
-    rw (f .found .given .1, ← w .waits .ensures, c .if2 .taken) (none _ _, (omega arith, refl))
+    rw (f .found .given .1, ← w .stop-waits .ensures, c .if2 .taken) (none _ _, (omega arith, refl))
 
 put-stop-requires : tie.Need-put-stop-requires
 put-stop-requires c κs = search needs
@@ -72,7 +72,7 @@ returns-4 c =
     let no = p .before .before in
     let w = no .before in
     let f = w .before .before in
-    rw (f .found .given .1, ← w .waits .ensures, no .if2 .left) (stored (room (f .before .before .before)) (p .put-stop .ensures), (omega (arith, p .put-stop .ensures .fits), refl))
+    rw (f .found .given .1, ← w .stop-waits .ensures, no .if2 .left) (stored (room (f .before .before .before)) (p .put-stop .ensures), (omega (arith, p .put-stop .ensures .fits), refl))
 
 same-length-3 : tie.Need-same-length-3
 same-length-3 c = search needs
@@ -103,7 +103,7 @@ put-found-spec =
     same-length
     returns
     enum-known-found
-    waits-requires
+    stop-waits-requires
     returns-2
     put-stop-requires
     enum-known-found-2

@@ -4,7 +4,6 @@ use mathlib.Core.Bool.{not, _&&_}
 use mathlib.Core.List.{List, Forall₂, Forall₂·nil, Forall₂·cons}
 use Prim.Native.Nat.{ℕ}
 use lib.IntN.{ℤ, pos, negsuc}
-use lib.ListN.{take}
 use lib.Ieee.{Float, neg}
 use Rattle.ieee754.specs.Scaling.{Both}
 use Rattle.ieee754.proofs.Degrees.{null, pure, _>>=_, _>>≡_, if_then_else_, le-same, alike}
@@ -23,15 +22,14 @@ use Rattle.p3p_common.specs.declared.refine_depths.SquaredEdges.{SquaredEdges}
 use Rattle.p3p_common.specs.declared.refine_depths.Cosines.{Cosines}
 use Rattle.p3p_common.specs.declared.refine_depths.Refined.{Refined}
 use Rattle.p3p_common.specs.declared.solutions.Solutions.{Solutions}
-use Rattle.p3p_common.specs.Slots.{empty}
 use Rattle.p3p_common.specs.PoseScaling.{AtWorld, AtInput, AtEdges, AtRefined, AtSolutions}
 use Rattle.p3p_common.proofs.RefineScaling.{refineDepths-scales}
 use Rattle.p3p_common.proofs.BasisScaling.{rotationFromEdges-same}
 use Rattle.p3p_common.proofs.SlotScaling.{empty-scales, pushPose-scales}
 use Rattle.lambdatwist.specs.Poses.{signTurn, candidates, allPositive, pushDepths, poseTurn, poseTurns, poses}
 use Rattle.depths.specs.declared.angles.Factors.{Factors}
 use Rattle.depths.specs.declared.candidates.Candidates.{Candidates}
 use Rattle.lambdatwist.specs.declared.poses.View.{View}
 use Rattle.depths.proofs.ChartScaling.{AtCandidates, noCandidates-at, chart-scales}
 
 module _ {k : ℤ} where
@@ -98,6 +96,4 @@ module _ {k : ℤ} where
 
         pub poses-scales : {c c' : Candidates} → AtCandidates k c c' → Both (AtSolutions k) (poses view e bearingCosines m c) (poses view' e' bearingCosines m' c')
         unfolding poses
-        poses-scales {c} {c'} found =
-            subst (λ (n : ℕ). Both (AtSolutions k) (poseTurns view e bearingCosines m (take (c .count) (c .depths)) empty) (poseTurns view' e' bearingCosines m' (take n (c' .depths)) empty)) (found .count)
-            (poseTurns-scales (take-entries (c .count) (found .depths)) empty-scales)
+        poses-scales found = poseTurns-scales (take-entries (found .count) (found .depths)) empty-scales

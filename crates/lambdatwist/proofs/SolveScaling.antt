@@ -39,16 +39,16 @@ use Rattle.depths.specs.declared.candidates.Candidates.{Candidates}
 use Rattle.eigen.specs.declared.known_zero.Eigensystem.{Eigensystem}
 use Rattle.eigen.specs.declared.ratio.Ratio.{Ratio}
 use Rattle.eigen.specs.declared.ratio.Ratio.the-variants.{Real, NotReal}
 use Rattle.lambdatwist.specs.declared.poses.View.{View}
 use Rattle.lambdatwist.specs.declared.solve.Answer.{Answer}
 use Rattle.depths.proofs.EdgeScaling.{AtEdgeVectors, edgeVectors-scales, squaredEdges-scales}
 use Rattle.depths.proofs.CubicScaling.{AtCoefficients, cubicCoefficients-scales, isUnusable-same}
 use Rattle.depths.proofs.MatrixScaling.{singularMatrix-scales}
 use Rattle.eigen.proofs.EigenvalueScaling.{ratioOf-same}
 use Rattle.eigen.proofs.SystemScaling.{AtSystem, found-at, not-found, eigWithKnownZero-scales}
 use Rattle.depths.proofs.ChartScaling.{AtCandidates}
-use Rattle.theorems.proofs.PoseScaling.{candidates-scales, poses-scales}
-use Rattle.theorems.proofs.PermutationScaling.{bestPermutation-scales}
+use Rattle.lambdatwist.proofs.PoseScaling.{candidates-scales, poses-scales}
+use Rattle.lambdatwist.proofs.PermutationScaling.{bestPermutation-scales}
 
 pub record AtAnswer (k : ℤ) (a a' : Answer) : Type 0 where
   pub refusal : a .refusal ≡ a' .refusal
