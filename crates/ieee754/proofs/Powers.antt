@@ -1,4 +1,5 @@
--- Fractions that differ by a factor 2 ^ t, for a whole number t of either sign. 2 ^ t is itself the fraction up t / down t. Numbers only, no floats. Assumes nothing.
+-- Fractions that differ by a factor 2 ^ t, for a whole number t of either sign. 2 ^ t is itself the fraction up t / down t. Numbers only, no floats.
+-- Then products of whole numbers: of a sum or a difference with k (`ℤ-add-mul`, `ℤ-sub-mul`), and of 1, 2 or 3 times a number (`ℤ-once`, `ℤ-twice`, `ℤ-thrice`). Assumes nothing.
 use mathlib.Core.Path.{_≡_, refl, sym, ap, ap₂, _∙_, subst}
 use Prim.Native.Nat.{ℕ, zero, suc, _+_, _-_, _*_, _^_, _≤_, _<_}
 use native.Mathlib.Nat.{mul-assoc, mul-comm, mul-left-comm, mul-pos, eq-of-mul-eq-mul-right}

@@ -1,5 +1,5 @@
 -- Laws of `sum`, the rounded sum of two signed fractions: it sees only their values, it does not see their order, and a term that was cut short by `jam` gives what the whole term gives, provided that enough is kept.
--- Assumes nothing.
+-- Of two terms that are known only to whole units it is the rounded value of a number within known bounds (`sum-between`). Assumes nothing.
 use mathlib.Core.Path.{_≡_, refl, sym, ap, ap₂, _∙_, subst}
 use mathlib.Core.Logic.{⊎-elim}
 use Prim.Native.Nat.{ℕ, suc, _+_, _-_, _*_, _/_, _%_, _^_, _≤_, _<_}
