@@ -12,6 +12,7 @@ use lib.Ieee.Fits.{up-pos, down-pos}
 use borrow.Author.Tests.{lt-ltb, le-ltb}
 use Rattle.ieee754.specs.Literal.{double}
 use Rattle.ieee754.specs.Fma.{fma}
+use Rattle.ieee754.proofs.Order.{cond-either}
 
 like : (s : Bool) → unlike s false ≡ s
 like true = refl
@@ -49,8 +50,7 @@ product-zero s a u c C k = ap₂ (λ (x y : ℕ). sum binary64 s x u y (c * 1)) 
 -- an infinite product, or none
 special-zero : (b s u : Bool) → add binary64 (cond b nan (inf s)) (fin u 0 (pos 0)) ≡ cond b nan (inf s)
 unfolding add
-special-zero true s u = refl
-special-zero false s u = refl
+special-zero b s u = cond-either (λ (p : Float). add binary64 p (fin u 0 (pos 0)) ≡ p) b refl refl
 
 -- -0.0
 pub fma-minus-zero : (x y : Float) → fma x y (double 0x8000_0000_0000_0000) ≡ mul binary64 x y

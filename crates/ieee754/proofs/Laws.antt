@@ -18,6 +18,7 @@ use Rattle.ieee754.specs.Root.{roundRoot, sqrt, cbrt}
 use Rattle.ieee754.specs.Fma.{fma}
 use Rattle.ieee754.specs.Traced.{inRange, magnitude, addRegular, mulRegular, divRegular, fmaRegular, sqrtRegular, cbrtRegular}
 use Rattle.ieee754.specs.Scaling.{scale, moved}
+use Rattle.ieee754.proofs.Order.{cond-either}
 use Rattle.ieee754.proofs.Powers.{Ratio, moved-ratio, ratio-mul, ratio-div, ratio-left, ratio-right, ratio-add, ratio-sub, ratio-lt, ratio-below, ratio-level}
 use Rattle.ieee754.proofs.RoundScale.{round-scale, roundRoot-scale}
 
@@ -122,8 +123,7 @@ sub-scale t x y r r' = rw (neg-scale t y) (add-scale t x (neg y) r (rw (neg-scal
 -- a product with an infinity, as a term of a sum
 special-scale : (t : ℤ) (b s : Bool) (z : Float) → add binary64 (cond b nan (inf s)) (scale t z) ≡ scale t (add binary64 (cond b nan (inf s)) z)
 unfolding scale add addRegular
-special-scale t true s z = refl
-special-scale t false s z = add-scale t (inf s) z tt tt
+special-scale t b s z = cond-either (λ (p : Float). add binary64 p (scale t z) ≡ scale t (add binary64 p z)) b refl (add-scale t (inf s) z tt tt)
 
 pub fma-scale : (t u : ℤ) (x y z : Float) → T (fmaRegular x y z) → T (fmaRegular (scale t x) (scale u y) (scale (t +ℤ u) z))
     → fma (scale t x) (scale u y) (scale (t +ℤ u) z) ≡ scale (t +ℤ u) (fma x y z)

@@ -17,7 +17,7 @@ use Rattle.ieee754.specs.Literal.{double}
 use Rattle.ieee754.specs.TotalOrder.{totalOrder, totalCmp}
 use Rattle.ieee754.specs.declared.total_cmp.Order.the-variants.{Less, Equal, Greater}
 use Rattle.ieee754.proofs.Order.{lt-or-ge, or-left, or-right}
-use Rattle.ieee754.proofs.RootLaws.{Compared, compared}
+use Rattle.ieee754.proofs.Nearest.{Compared, compared}
 use Rattle.ieee754.proofs.Fitting.{fits-unique}
 
 -- ---- finite values: ±a is at or below ±b, a minus zero being below a plus zero
@@ -54,11 +54,15 @@ unfolding totalOrder lt eq isNan
 order-fin s m e t n d = asked-is s (m * up e * down d) t (n * up d * down e)
 
 -- ---- total
+-- of one sign: of two negative values the test is that of the two numbers in the other order
+leb-total : (a b : ℕ) → T (leb a b || leb b a)
+leb-total a b = ⊎-elim (λ (l : a < b). or-left (leb a b) (leb b a) (le→leb a b (le-of-lt l))) (λ (g : b ≤ a). or-right (leb a b) (leb b a) (le→leb b a g)) (lt-or-ge a b)
+
 signed-total : (s : Bool) (a : ℕ) (t : Bool) (b : ℕ) → T (signed s a t b || signed t b s a)
-signed-total false a false b = ⊎-elim (λ (l : a < b). or-left (leb a b) (leb b a) (le→leb a b (le-of-lt l))) (λ (g : b ≤ a). or-right (leb a b) (leb b a) (le→leb b a g)) (lt-or-ge a b)
+signed-total false a false b = leb-total a b
 signed-total false a true b = tt
 signed-total true a false b = tt
-signed-total true a true b = ⊎-elim (λ (l : a < b). or-right (leb b a) (leb a b) (le→leb a b (le-of-lt l))) (λ (g : b ≤ a). or-left (leb b a) (leb a b) (le→leb b a g)) (lt-or-ge a b)
+signed-total true a true b = leb-total b a
 
 pub order-total : (x y : Float) → T (totalOrder x y || totalOrder y x)
 unfolding totalOrder lt eq isNan
@@ -79,13 +83,17 @@ order-total (fin s m e) (fin t n d) =
     subst T (sym (ap₂ _||_ (asked-is s a t b) (asked-is t b s a))) (signed-total s a t b)
 
 -- ---- transitive
+-- of one sign
+leb-through : (a p b q c r : ℕ) → 0 < q → T (leb (a * q) (b * p)) → T (leb (b * r) (c * q)) → T (leb (a * r) (c * p))
+leb-through a p b q c r Q h k = le→leb (a * r) (c * p) (through a b c p q r Q (leb→le (a * q) (b * p) h) (leb→le (b * r) (c * q) k))
+
 signed-trans : (s : Bool) (a p : ℕ) (t : Bool) (b q : ℕ) (u : Bool) (c r : ℕ) → 0 < q → T (signed s (a * q) t (b * p)) → T (signed t (b * r) u (c * q)) → T (signed s (a * r) u (c * p))
-signed-trans false a p false b q false c r Q h k = le→leb (a * r) (c * p) (through a b c p q r Q (leb→le (a * q) (b * p) h) (leb→le (b * r) (c * q) k))
+signed-trans false a p false b q false c r Q h k = leb-through a p b q c r Q h k
 signed-trans false a p false b q true c r Q h k = k
 signed-trans false a p true b q u c r Q h k = absurd h
 signed-trans true a p t b q false c r Q h k = tt
 signed-trans true a p false b q true c r Q h k = absurd k
-signed-trans true a p true b q true c r Q h k = le→leb (c * p) (a * r) (through c b a r q p Q (leb→le (c * q) (b * r) k) (leb→le (b * p) (a * q) h))
+signed-trans true a p true b q true c r Q h k = leb-through c r b q a p Q k h
 
 pub order-trans : (x y z : Float) → T (totalOrder x y) → T (totalOrder y z) → T (totalOrder x z)
 unfolding totalOrder lt eq isNan

@@ -1,10 +1,11 @@
--- Fractions that differ by a factor 2 ^ t, for a whole number t of either sign. 2 ^ t is itself the fraction up t / down t. Numbers only, no floats. Assumes nothing.
+-- Fractions that differ by a factor 2 ^ t, for a whole number t of either sign. 2 ^ t is itself the fraction up t / down t. Numbers only, no floats.
+-- Then products of whole numbers: of a sum or a difference with k (`ℤ-add-mul`, `ℤ-sub-mul`), and of 1, 2 or 3 times a number (`ℤ-once`, `ℤ-twice`, `ℤ-thrice`). Assumes nothing.
 use mathlib.Core.Path.{_≡_, refl, sym, ap, ap₂, _∙_, subst}
 use Prim.Native.Nat.{ℕ, zero, suc, _+_, _-_, _*_, _^_, _≤_, _<_}
 use native.Mathlib.Nat.{mul-assoc, mul-comm, mul-left-comm, mul-pos, eq-of-mul-eq-mul-right}
 use native.Mathlib.Omega.{arith}
 use mathlib.Core.Bool.{Bool, true, false, not, cond, _&&_, _||_, Bool·beq}
-use lib.IntN.{ℤ, pos, negsuc, negℤ, _+ℤ_, _-ℤ_, _*ℤ_, +ℤ-assoc, +ℤ-comm, +ℤ-idl, sucℤ, predℤ, negℤ-negℤ, zero-*ℤ, sucℤ-*ℤ, predℤ-*ℤ, sucℤ-+ℤ, predℤ-+ℤ}
+use lib.IntN.{ℤ, pos, negsuc, negℤ, _+ℤ_, _-ℤ_, _*ℤ_, +ℤ-assoc, +ℤ-comm, +ℤ-idl, sucℤ, predℤ, negℤ-negℤ, one, *ℤ-one, *ℤ-comm, zero-*ℤ, sucℤ-*ℤ, predℤ-*ℤ, sucℤ-+ℤ, predℤ-+ℤ}
 use lib.Dec.{T, leb, ltb, eqb, isEq, leb→le, nleb→lt, ltb→lt, nltb→le}
 use borrow.Author.Tests.{eq-eqb, eqb-true}
 use lib.Pow.{pow-add}
@@ -164,9 +165,10 @@ neg-mul (negsuc a) (negsuc b) = refl
 pub ℤ-sub-mul : (n p k : ℤ) → (n -ℤ p) *ℤ k ≡ n *ℤ k -ℤ p *ℤ k
 ℤ-sub-mul n p k = ℤ-add-mul n (negℤ p) k ∙ ap (λ (x : ℤ). n *ℤ k +ℤ x) (neg-mul p k)
 
--- n + n and n + n + n, times k
+-- once t; and n + n and n + n + n, times k
 pub ℤ-once : (t : ℤ) → pos 1 *ℤ t ≡ t
-ℤ-once t = sucℤ-*ℤ (pos 0) t ∙ ap (λ (x : ℤ). x +ℤ t) (zero-*ℤ t) ∙ +ℤ-idl t
+unfolding one
+ℤ-once t = *ℤ-comm (pos 1) t ∙ *ℤ-one t
 
 pub ℤ-twice : (n k : ℤ) → (n +ℤ n) *ℤ k ≡ pos 2 *ℤ (n *ℤ k)
 ℤ-twice n k = ℤ-add-mul n n k ∙ sym (sucℤ-*ℤ (pos 1) (n *ℤ k) ∙ ap (λ (x : ℤ). x +ℤ n *ℤ k) (ℤ-once (n *ℤ k)))

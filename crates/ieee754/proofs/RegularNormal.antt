@@ -17,7 +17,7 @@ use Rattle.ieee754.specs.Literal.{double, minPositive}
 use Rattle.ieee754.specs.Root.{root, roundRoot, sqrt, cbrt}
 use Rattle.ieee754.specs.Fma.{fma}
 use Rattle.ieee754.specs.Traced.{Traced, _⊕_, inRange, magnitude, addRegular, mulRegular, divRegular, fmaRegular, sqrtRegular, cbrtRegular}
-use Rattle.ieee754.proofs.Order.{or-right}
+use Rattle.ieee754.proofs.Order.{or-right, cond-either}
 use Rattle.ieee754.proofs.PowerLaws.{pow-shift, raised, pow-back}
 use Rattle.ieee754.proofs.RootLaws.{dropped-drops, root-whole, roundRoot-is}
 use Rattle.ieee754.proofs.RootValues.{roundRoot-one}
@@ -92,18 +92,14 @@ pub round-normal : (s : Bool) (a c : ℕ) → 0 < c → T (inRange 1 a c) → T 
 round-normal s a c C r = subst (λ (x : Float). T (zeroOrNormal x)) (roundRoot-one binary64 s a c C) (roundRoot-normal 1 s a c (zero-lt-suc 0) C r)
 
 -- ---- the operations
-either : (b : Bool) (x y : Float) → T (zeroOrNormal x) → T (zeroOrNormal y) → T (zeroOrNormal (cond b x y))
-either true x y p q = p
-either false x y p q = q
-
 pub mul-normal : (x y : Float) → T (mulRegular x y) → T (zeroOrNormal (mul binary64 x y))
 unfolding mul mulRegular
 mul-normal nan y r = tt
 mul-normal (inf s) nan r = tt
 mul-normal (inf s) (inf t) r = tt
-mul-normal (inf s) (fin t n d) r = either (eqb n 0) nan (inf (unlike s t)) tt tt
+mul-normal (inf s) (fin t n d) r = cond-either (λ (z : Float). T (zeroOrNormal z)) (eqb n 0) tt tt
 mul-normal (fin s m e) nan r = tt
-mul-normal (fin s m e) (inf t) r = either (eqb m 0) nan (inf (unlike s t)) tt tt
+mul-normal (fin s m e) (inf t) r = cond-either (λ (z : Float). T (zeroOrNormal z)) (eqb m 0) tt tt
 mul-normal (fin s m e) (fin t n d) r = round-normal (unlike s t) (m * up e * (n * up d)) (down e * down d) (mul-pos (down-pos e) (down-pos d)) r
 
 pub div-normal : (x y : Float) → T (divRegular x y) → T (zeroOrNormal (div binary64 x y))
@@ -132,7 +128,7 @@ pub add-normal : (x y : Float) → T (addRegular x y) → T (zeroOrNormal (add b
 unfolding add addRegular
 add-normal nan y r = tt
 add-normal (inf s) nan r = tt
-add-normal (inf s) (inf t) r = either (Bool·beq s t) (inf s) nan tt tt
+add-normal (inf s) (inf t) r = cond-either (λ (z : Float). T (zeroOrNormal z)) (Bool·beq s t) tt tt
 add-normal (inf s) (fin t n d) r = tt
 add-normal (fin s m e) nan r = tt
 add-normal (fin s m e) (inf t) r = tt
@@ -145,8 +141,7 @@ sub-normal x y r = add-normal x (neg y) r
 -- a product with an infinity, as a term of a sum
 special-normal : (b s : Bool) (z : Float) → T (zeroOrNormal (add binary64 (cond b nan (inf s)) z))
 unfolding add addRegular
-special-normal true s z = tt
-special-normal false s z = add-normal (inf s) z tt
+special-normal b s z = cond-either (λ (p : Float). T (zeroOrNormal (add binary64 p z))) b tt (add-normal (inf s) z tt)
 
 pub fma-normal : (x y z : Float) → T (fmaRegular x y z) → T (zeroOrNormal (fma x y z))
 unfolding fma fmaRegular mul add

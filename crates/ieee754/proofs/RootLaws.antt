@@ -15,7 +15,7 @@ use lib.Ieee.Digits.{size-lt, size-le, size-reaches}
 use lib.Ieee.Fits.{two}
 use Rattle.ieee754.specs.Root.{rootDigits, root, roundRoot}
 use Rattle.ieee754.specs.inner.Nearest.{IsNearest}
-pub use Rattle.ieee754.proofs.Nearest.{Compared, compared}
+use Rattle.ieee754.proofs.Nearest.{Compared, compared}
 use Rattle.ieee754.proofs.Sizes.{size-gt}
 use Rattle.ieee754.proofs.PowerLaws.{pow-mul, pow-shift, double-pow, split-pow, zero-pow, base-lt, pow-back}
 

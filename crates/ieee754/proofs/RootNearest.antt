@@ -18,9 +18,10 @@ use Rattle.ieee754.specs.CopySign.{negative}
 use Rattle.ieee754.specs.Root.{roundRoot, sqrt, cbrt}
 use Rattle.ieee754.specs.Traced.{inRange, sqrtRegular, cbrtRegular}
 use Rattle.ieee754.proofs.Order.{lt-or-ge}
+use Rattle.ieee754.proofs.Nearest.{Compared, compared}
 use Rattle.ieee754.proofs.Sizes.{shl-shl, exponent-lt}
 use Rattle.ieee754.proofs.PowerLaws.{raised, odd-pow, le-pow}
-use Rattle.ieee754.proofs.RootLaws.{Compared, compared, dropped-drops, root-whole}
+use Rattle.ieee754.proofs.RootLaws.{dropped-drops, root-whole}
 use Rattle.ieee754.proofs.RoundScale.{Normal, zero-or-normal, drop, keep, roundRoot-value}
 use Rattle.ieee754.proofs.RegularNormal.{part, whole-least}
 use Rattle.ieee754.proofs.Fitting.{fits-parts, odd-once}
@@ -61,12 +62,11 @@ double-whole (fin s (suc m) (negsuc j)) t b F v =
     let h = fits-parts s m (negsuc j) F in
     let few : suc j ≤ 1074 = le-of-suc-le-suc (exponent-lt (suc j) 1075 (h .lowest) (pow-lt (lt-suc-self 1074))) in
     let i = 1074 - suc j in
-    let split : 2 ^ 1074 ≡ 2 ^ i * 2 ^ suc j = ap (λ (x : ℕ). 2 ^ x) (sym (sub-add-cancel few)) ∙ pow-add 2 i (suc j) in
     record {
       digits = suc m;
       exponent = i;
       short = h .short;
-      is = eq-of-mul-eq-mul-right (2 ^ suc j) (pow-pos (suc j)) b (suc m * 2 ^ i) (sym (v .1) ∙ ap (λ (x : ℕ). x * 2 ^ 1074) (mul-one (suc m)) ∙ ap (λ (x : ℕ). suc m * x) split ∙ sym (mul-assoc (suc m) (2 ^ i) (2 ^ suc j)));
+      is = eq-of-mul-eq-mul-right (2 ^ suc j) (pow-pos (suc j)) b (suc m * 2 ^ i) (sym (v .1) ∙ ap (λ (x : ℕ). x * 2 ^ 1074) (mul-one (suc m)) ∙ sym (shl-shl (suc m) i (suc j) 1074 (sub-add-cancel few)));
     }
 
 module _ (k w : ℕ) (W : 2 ^ 52 ≤ w) (b : ℕ) (B : Whole b) where
@@ -76,8 +76,7 @@ module _ (k w : ℕ) (W : 2 ^ 52 ≤ w) (b : ℕ) (B : Whole b) where
       let i = B .exponent in
       let reach : 52 + k < 53 + i = exponent-lt (52 + k) (53 + i) (le-trans (le-of-eq (pow-add 2 52 k)) h) (lt-of-le-of-lt (le-of-eq (B .is)) (shl-lt 53 i (B .short))) in
       let few : k ≤ i = omega (arith, reach) in
-      let split : 2 ^ i ≡ 2 ^ (i - k) * 2 ^ k = ap (λ (x : ℕ). 2 ^ x) (sym (sub-add-cancel few)) ∙ pow-add 2 (i - k) k in
-      (m * 2 ^ (i - k), B .is ∙ ap (λ (x : ℕ). m * x) split ∙ sym (mul-assoc m (2 ^ (i - k)) (2 ^ k)))
+      (m * 2 ^ (i - k), B .is ∙ sym (shl-shl m (i - k) k i (sub-add-cancel few)))
 
   -- no double lies strictly between w and w + 1 times 2 ^ k
   gap-above : w * 2 ^ k < b → suc w * 2 ^ k ≤ b

@@ -1,5 +1,6 @@
 -- What `round` sees of a number n over 2 ^ (u + low f): its digits as far down as half of the last one that it keeps, and below them only whether all are 0. So a number that was cut short by `jam` rounds as
--- the whole number does, provided enough digits are kept. In n's own scale the format's smallest value is 2 ^ u. Assumes nothing.
+-- the whole number does, provided enough digits are kept. In n's own scale the format's smallest value is 2 ^ u.
+-- A word of 64 digits is rounded to 53 (`round-word`), and a number between two bounds to the value that is nearest to both (`round-between`). Assumes nothing.
 use mathlib.Core.Path.{_≡_, refl, sym, ap, _∙_, subst}
 use mathlib.Core.Logic.{_↔_, _⊎_, inl, inr, ⊎-elim}
 use Prim.Native.Nat.{ℕ, suc, _+_, _-_, _*_, _/_, _%_, _^_, _≤_, _<_, min, compare}

@@ -1,5 +1,5 @@
 -- Laws of `sum`, the rounded sum of two signed fractions: it sees only their values, it does not see their order, and a term that was cut short by `jam` gives what the whole term gives, provided that enough is kept.
--- Assumes nothing.
+-- Of two terms that are known only to whole units it is the rounded value of a number within known bounds (`sum-between`). Assumes nothing.
 use mathlib.Core.Path.{_≡_, refl, sym, ap, ap₂, _∙_, subst}
 use mathlib.Core.Logic.{⊎-elim}
 use Prim.Native.Nat.{ℕ, suc, _+_, _-_, _*_, _/_, _%_, _^_, _≤_, _<_}
@@ -67,6 +67,10 @@ pub data Apart (f : Format) (u e k p a : ℕ) : Type 0 where
   exact : p % 2 ^ suc k ≡ 0 → Apart f u e k p a
   far : jam k p + 2 ^ suc (prec f) ≤ a * 2 → Apart f u e k p a
 
+-- a number that leaves nothing over is so many times G
+whole-multiple : (p G : ℕ) → p % G ≡ 0 → p / G * G ≡ p
+whole-multiple p G h = div-mul-cancel G (dvd-of-mod-eq-zero G h)
+
 -- two multiples of G differ by one
 multiples : (a b G : ℕ) → (a * G - b * G) % G ≡ 0
 multiples a b G = ap (λ (x : ℕ). x % G) (sym (sub-mul a b G)) ∙ mul-mod-left (a - b) G
@@ -79,12 +83,12 @@ kept-add f u e k p a (far h) = Kept.long (omega (arith, jam-add k a p))
 
 kept-from : (f : Format) (u e k p a : ℕ) → Apart f u e k p a → Kept f u e k (a * 2 ^ suc k - p)
 kept-from f u e k p a (fine h) = Kept.fine h
-kept-from f u e k p a (exact h) = Kept.exact (subst (λ (x : ℕ). (a * 2 ^ suc k - x) % 2 ^ suc k ≡ 0) (div-mul-cancel (2 ^ suc k) (dvd-of-mod-eq-zero (2 ^ suc k) h)) (multiples a (p / 2 ^ suc k) (2 ^ suc k)))
+kept-from f u e k p a (exact h) = Kept.exact (subst (λ (x : ℕ). (a * 2 ^ suc k - x) % 2 ^ suc k ≡ 0) (whole-multiple p (2 ^ suc k) h) (multiples a (p / 2 ^ suc k) (2 ^ suc k)))
 kept-from f u e k p a (far h) = Kept.long (omega (arith, jam-from k a p))
 
 kept-off : (f : Format) (u e k p a : ℕ) → Apart f u e k p a → Kept f u e k (p - a * 2 ^ suc k)
 kept-off f u e k p a (fine h) = Kept.fine h
-kept-off f u e k p a (exact h) = Kept.exact (subst (λ (x : ℕ). (x - a * 2 ^ suc k) % 2 ^ suc k ≡ 0) (div-mul-cancel (2 ^ suc k) (dvd-of-mod-eq-zero (2 ^ suc k) h)) (multiples (p / 2 ^ suc k) a (2 ^ suc k)))
+kept-off f u e k p a (exact h) = Kept.exact (subst (λ (x : ℕ). (x - a * 2 ^ suc k) % 2 ^ suc k ≡ 0) (whole-multiple p (2 ^ suc k) h) (multiples (p / 2 ^ suc k) a (2 ^ suc k)))
 kept-off f u e k p a (far h) =
     let l = jam-below k a p .1 (omega (arith, pow-pos (suc (prec f)))) in
     Kept.exact (ap (λ (x : ℕ). x % 2 ^ suc k) (omega arith) ∙ zero-mod (2 ^ suc k))

@@ -20,13 +20,9 @@ rest-lt {bit = bit} d = lt-of-mul-lt-mul-right bit (omega arith)
 
 -- ---- the next digit has half the weight
 
-half-power : (j b : ℕ) → b ≡ 2 ^ j → 1 < b → (i : ℕ) × (b / 2 ≡ 2 ^ i)
-half-power zero b e h = (0, omega arith)
-half-power (suc j) b e h = (j, omega (arith, two-pow-succ j))
-
-halved : (j b : ℕ) → b ≡ 2 ^ j → 1 < b → b ≡ b / 2 + b / 2
-halved zero b e h = omega arith
-halved (suc j) b e h = omega (arith, two-pow-succ j)
+halved : (j b : ℕ) → b ≡ 2 ^ j → 1 < b → ((i : ℕ) × (b / 2 ≡ 2 ^ i)) × (b ≡ b / 2 + b / 2)
+halved zero b e h = absurd (omega arith)
+halved (suc j) b e h = ((j, omega (arith, two-pow-succ j)), omega (arith, two-pow-succ j))
 
 -- the digit is 1, or 0, by whether the square of q + h is at most n, h being the digit's weight
 one-taken : (n q h rest : ℕ) → rest * (h + h) + q * q ≡ n → q * 2 + h ≤ rest * 2 → (rest * 2 - (q * 2 + h)) * h + (q + h) * (q + h) ≡ n
@@ -41,26 +37,26 @@ module _ {n q bit rest : ℕ} (d : Found n q bit rest) (more : 1 < bit) where
   h : ℕ
   h = bit / 2
 
-  twice : bit ≡ h + h
+  half : ((i : ℕ) × (h ≡ 2 ^ i)) × (bit ≡ h + h)
   unfolding h
-  twice = halved (d .power .0) bit (d .power .1) more
+  half = halved (d .power .0) bit (d .power .1) more
 
   was : rest * (h + h) + q * q ≡ n
-  was = subst (λ (b : ℕ). rest * b + q * q ≡ n) twice (d .taken)
+  was = subst (λ (b : ℕ). rest * b + q * q ≡ n) (half .1) (d .taken)
 
   pub one : q * 2 + bit / 2 ≤ rest * 2 → Found n (q + bit / 2) (bit / 2) (rest * 2 - (q * 2 + bit / 2))
   unfolding h
   one l = record {
-    power = half-power (d .power .0) bit (d .power .1) more;
+    power = half .0;
     some = omega arith;
     taken = one-taken n q h rest was l;
-    left = subst (λ (b : ℕ). n < b * b) (omega (arith, twice)) (d .left);
+    left = subst (λ (b : ℕ). n < b * b) (omega (arith, half .1)) (d .left);
   }
 
   pub none : rest * 2 < q * 2 + bit / 2 → Found n q (bit / 2) (rest * 2)
   unfolding h
   none l = record {
-    power = half-power (d .power .0) bit (d .power .1) more;
+    power = half .0;
     some = d .some;
     taken = omega (arith, was);
     left = zero-left n q h rest was l (omega arith);

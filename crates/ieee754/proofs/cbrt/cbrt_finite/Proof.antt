@@ -1,5 +1,5 @@
 -- `cbrt_finite` meets its contract: the root of a double goes by its value. Assumes nothing.
-use Prim.Native.Nat.{ℕ, _*_, _^_, _<_}
+use Prim.Native.Nat.{ℕ, _*_, _^_}
 use mathlib.Core.Path.{sym, ap, _∙_}
 use native.Mathlib.Nat.{zero-mul, pos-of-ne-zero}
 use borrow.Author.Needs.{needs}

@@ -1,5 +1,5 @@
 -- `sqrt_other` meets its contract: the root of a double goes by its value. Assumes nothing.
-use Prim.Native.Nat.{ℕ, _*_, _^_, _<_}
+use Prim.Native.Nat.{ℕ, _*_, _^_}
 use mathlib.Core.Path.{_≡_, sym, ap, _∙_, subst}
 use mathlib.Core.Bool.{Bool, false}
 use native.Mathlib.Nat.{mul-pos, zero-mul, pos-of-ne-zero}
