@@ -5,11 +5,9 @@ ghost use Rattle.depths.specs.Cubic.{cubicCoefficients, coefficientScale
 use crate::angles::SquaredSines;
 use ieee754::abs::abs;
 use ieee754::is_finite::is_finite;
+use ieee754::literal::EPSILON;
 use ieee754::max::max;
 use p3p_common::refine_depths::SquaredEdges;
-
-// f64::EPSILON
-const EPSILON: f64 = 2.220446049250313e-16;
 
 pub struct Coefficients {
     pub cubic3: f64,

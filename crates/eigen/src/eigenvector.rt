@@ -6,15 +6,12 @@ use crate::row_crosses::Eigenvector;
 use crate::row_crosses::eigenvector_from_row_crosses;
 use ieee754::abs::abs;
 use ieee754::is_finite::is_finite;
+use ieee754::literal::EPSILON;
+use ieee754::literal::MIN_POSITIVE;
 use ieee754::max::max;
 use ieee754::sqrt::sqrt;
 use linalg::matrix3::Matrix3;
 use linalg::vector3::Vector3;
-
-// f64::EPSILON, f64::MIN_POSITIVE
-const EPSILON: f64 = 2.220446049250313e-16;
-
-const MIN_POSITIVE: f64 = 2.2250738585072014e-308;
 
 // off_diagonal_squared, product00_11, precomputed0 and precomputed1
 pub struct Precomputed {

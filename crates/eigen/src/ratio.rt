@@ -3,11 +3,9 @@
 ghost use mathlib.Core.Path.{_≡_};
 ghost use Rattle.eigen.specs.RatioOf.{ratioOf};
 use ieee754::is_finite::is_finite;
+use ieee754::literal::EPSILON;
 use ieee754::max::max;
 use ieee754::sqrt::sqrt;
-
-// f64::EPSILON
-const EPSILON: f64 = 2.220446049250313e-16;
 
 pub enum Ratio {
     Real(f64),

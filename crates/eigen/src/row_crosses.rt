@@ -3,13 +3,11 @@
 ghost use mathlib.Core.Path.{_≡_};
 ghost use Rattle.eigen.specs.RowCrosses.{longer, unitVector, eigenvectorFromRowCrosses};
 use ieee754::is_finite::is_finite;
+use ieee754::literal::MIN_POSITIVE;
 use ieee754::total_cmp::Order;
 use ieee754::total_cmp::total_cmp;
 use linalg::matrix3::Matrix3;
 use linalg::vector3::Vector3;
-
-// f64::MIN_POSITIVE
-const MIN_POSITIVE: f64 = 2.2250738585072014e-308;
 
 pub enum Eigenvector {
     Unit(Vector3),

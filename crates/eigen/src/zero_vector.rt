@@ -3,12 +3,10 @@ ghost use mathlib.Core.Path.{_≡_};
 ghost use Rattle.eigen.specs.ZeroVector.{zeroDirection, zeroVector};
 use crate::row_crosses::Eigenvector;
 use crate::row_crosses::eigenvector_from_row_crosses;
+use ieee754::literal::EPSILON;
 use ieee754::sqrt::sqrt;
 use linalg::matrix3::Matrix3;
 use linalg::vector3::Vector3;
-
-// f64::EPSILON
-const EPSILON: f64 = 2.220446049250313e-16;
 
 pub fn zero_direction(m: Matrix3) -> Vector3
     ensures { λ r. ⌜ r ≡ zeroDirection m .value ⌝ }

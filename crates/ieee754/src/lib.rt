@@ -9,6 +9,7 @@ pub mod fma;
 mod format;
 pub mod is_finite;
 mod leading;
+pub mod literal;
 pub mod max;
 mod normal;
 mod pack;

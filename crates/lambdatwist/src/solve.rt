@@ -23,6 +23,7 @@ use eigen::known_zero::Eigensystem;
 use eigen::known_zero::eig_with_known_zero;
 use eigen::ratio::Ratio;
 use eigen::ratio::ratio_of;
+use ieee754::literal::EPSILON;
 use linalg::pose::Pose;
 use p3p_common::input::Bearings;
 use p3p_common::input::P3pInput;
@@ -35,9 +36,6 @@ use p3p_common::world_basis_inverse::Basis;
 use p3p_common::world_basis_inverse::world_basis_inverse;
 use polynomial::Roots;
 use polynomial::cubic::polished_cubic_root;
-
-// f64::EPSILON
-const EPSILON: f64 = 2.220446049250313e-16;
 
 // `refusal` is 0 where there is a pose, and otherwise 1, 2 or 3, with count 0 and plus zeros in every slot. Slots beyond the
 // count hold plus zeros.

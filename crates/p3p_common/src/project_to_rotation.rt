@@ -1,11 +1,9 @@
 // The rotation near a matrix, by modified Gram-Schmidt on its first two columns (project_to_rotation of pose/p3p/common.rs).
 ghost use mathlib.Core.Path.{_≡_};
 ghost use Rattle.p3p_common.specs.ProjectToRotation.{projectToRotation};
+use ieee754::literal::EPSILON;
 use ieee754::sqrt::sqrt;
 use linalg::matrix3::Matrix3;
-
-// f64::EPSILON
-const EPSILON: f64 = 2.220446049250313e-16;
 
 pub enum Projection {
     Rotation(Matrix3),

@@ -2,12 +2,10 @@
 ghost use mathlib.Core.Path.{_≡_};
 ghost use Rattle.p3p_common.specs.WorldBasisInverse.{worldBasisInverse, dualBasis};
 use ieee754::is_finite::is_finite;
+use ieee754::literal::EPSILON;
 use ieee754::max::max;
 use linalg::matrix3::Matrix3;
 use linalg::vector3::Vector3;
-
-// f64::EPSILON
-const EPSILON: f64 = 2.220446049250313e-16;
 
 pub enum Basis {
     Inverse(Matrix3),

@@ -9,8 +9,7 @@ use ieee754::abs::abs;
 use ieee754::cbrt::cbrt;
 use ieee754::copysign::copysign;
 use ieee754::is_finite::is_finite;
-
-const MIN_POSITIVE: f64 = 2.2250738585072014e-308;
+use ieee754::literal::MIN_POSITIVE;
 
 // The first guess: the exponent divided by three, by way of the bit pattern.
 fn cbrt_start(magnitude: f64) -> f64

@@ -6,12 +6,10 @@ use ieee754::abs::abs;
 use ieee754::copysign::copysign;
 use ieee754::fma::fma;
 use ieee754::is_finite::is_finite;
+use ieee754::literal::EPSILON;
+use ieee754::literal::MIN_POSITIVE;
 use ieee754::max::max;
 use ieee754::sqrt::sqrt;
-
-const EPSILON: f64 = 2.220446049250313e-16;
-
-const MIN_POSITIVE: f64 = 2.2250738585072014e-308;
 
 // Stable real roots of x^2 + b*x + c = 0.
 pub fn quadratic_real_monic(b: f64, c: f64) -> Roots
