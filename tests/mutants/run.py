@@ -32,8 +32,8 @@ import shutil
 import subprocess
 import sys
 
-import places
 import witness
+from world import World
 
 def libraries():
     """The library crates, in the order of crates.txt; `words` is a part of the test programs."""
@@ -291,7 +291,7 @@ def try_crate(root, crate, world, rounds):
         count = lambda v: sum(m.verdict == v for ms in tried.values() for m in ms)
         print(f"{crate}: round of {len(turn)}: " + ", ".join(f"{count(v)} {v}" for v in ("fact", "shape", "survived", "not compiled", "no verdict")), flush=True)
         write_results(root, crate, functions, tried, "; NOT FINISHED")
-    add_witness(root, crate, places.World(root, CRATES))
+    add_witness(root, crate, World(root, CRATES))
     shutil.rmtree(bench.clean, ignore_errors=True)
 
 
@@ -448,10 +448,10 @@ def main():
         sys.exit(__doc__)
     if "--witness" in sys.argv:
         for crate in words:
-            add_witness(root, crate, places.World(root, CRATES))
+            add_witness(root, crate, World(root, CRATES))
         table(root)
     elif "--table" not in sys.argv:
-        world = places.World(root, [c for c in CRATES])
+        world = World(root, [c for c in CRATES])
         for crate in words or CRATES:
             if "--list" in sys.argv:
                 for file in world.files:

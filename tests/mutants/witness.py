@@ -4,10 +4,12 @@ input that breaks one shows nothing. The functions that a mutant calls are the u
 import copy
 import math
 import random
+import re
 import struct
 import time
 
-import places
+from kinds import Types, settled
+from tokens import LEVELS, tokens
 
 INPUTS, SECONDS, STEPS = 1500, 6, 20000
 NAN = float("nan")
@@ -77,7 +79,7 @@ class Parser:
     """A body as nested tuples."""
 
     def __init__(self, file, text, owner):
-        self.file, self.owner, self.tokens, self.at, self.structs = file, owner, places.tokens(text), 0, True
+        self.file, self.owner, self.tokens, self.at, self.structs = file, owner, tokens(text), 0, True
 
     def word(self):
         return self.tokens[self.at][1]
@@ -140,11 +142,9 @@ class Parser:
         return ("give", value)
 
     def type(self):
-        f = self.file
-        kept, f.tokens, f.at = (f.tokens, getattr(f, "at", 0)), self.tokens, self.at
-        t = f.type(self.owner)
-        self.at = f.at
-        f.tokens, f.at = kept
+        types = Types(self.file, self.tokens, self.at)
+        t = types.type(self.owner)
+        self.at = types.at
         return t
 
     def path(self):
@@ -179,13 +179,13 @@ class Parser:
         return out
 
     def binary(self, level):
-        if level == len(places.LEVELS):
+        if level == len(LEVELS):
             out = self.unary()
             while self.passes("as"):
                 out = ("cast", out, self.type())
             return out
         out = self.binary(level + 1)
-        while self.tokens[self.at][0] == "op" and self.word() in places.LEVELS[level]:
+        while self.tokens[self.at][0] == "op" and self.word() in LEVELS[level]:
             op = self.take()
             out = ("binary", op, out, self.binary(level + 1))
         return out
@@ -223,8 +223,8 @@ class Parser:
         kind, word = self.tokens[self.at][:2]
         if kind == "num":
             self.at += 1
-            digits = places.re.fullmatch(r"(.*?)([ui](?:8|16|32|64|size)|f64)?", word).group(1).replace("_", "")
-            if not digits.startswith("0x") and places.re.search(r"[.eE]", digits):
+            digits = re.fullmatch(r"(.*?)([ui](?:8|16|32|64|size)|f64)?", word).group(1).replace("_", "")
+            if not digits.startswith("0x") and re.search(r"[.eE]", digits):
                 return ("value", float(digits))
             return ("value", int(digits, 0))
         if kind in ("bytes", "byte"):
@@ -568,9 +568,9 @@ class Inputs:
     def __init__(self, world, function):
         self.world, self.rng = world, random.Random(function.path)
         numbers = [t for k, t, _, _ in function.file.tokens if k == "num"]
-        floats = [float(t.replace("_", "")) for t in numbers if places.re.fullmatch(r"[\d_]+(\.\d+)?([eE][+-]?\d+)?", t) and places.re.search(r"[.e]", t)]
+        floats = [float(t.replace("_", "")) for t in numbers if re.fullmatch(r"[\d_]+(\.\d+)?([eE][+-]?\d+)?", t) and re.search(r"[.e]", t)]
         self.special = self.SPECIAL + [s * y for x in floats for y in (x, math.nextafter(x, math.inf), math.nextafter(x, 0.0)) for s in (1, -1)]
-        whole = [int(t.replace("_", "")) for t in numbers if places.re.fullmatch(r"[\d_]+", t)]
+        whole = [int(t.replace("_", "")) for t in numbers if re.fullmatch(r"[\d_]+", t)]
         self.near = sorted({max(0, n + d) for n in whole if n < 1000 for d in (-1, 0, 1)}) or [0]
 
     def begin(self):
@@ -607,7 +607,7 @@ class Inputs:
 
     def make(self, kind, name=""):
         r = self.rng
-        kind = places.settled(kind)
+        kind = settled(kind)
         if kind == "f64":
             return self.double()
         if kind == "bool":
