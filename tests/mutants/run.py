@@ -33,6 +33,7 @@ import subprocess
 import sys
 
 import witness
+from machine import Machine
 from world import World
 
 def libraries():
@@ -328,7 +329,7 @@ def add_witness(root, crate, world):
     path = os.path.join(RESULTS, crate + ".tsv")
     with open(path, encoding="utf-8") as f:
         lines = f.read().splitlines()
-    machine, known, out = witness.Machine(world), {}, []
+    machine, known, out = Machine(world), {}, []
     for g in (g for file in world.files if file.crate == crate for g in file.find()):
         for m in mutants_of(g):
             known.setdefault(m.key, []).append(m)
