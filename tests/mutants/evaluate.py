@@ -17,6 +17,8 @@ def fits(pattern, value):
 
 
 class Evaluate:
+    """The part of Machine (machine.py) that is for expressions; run, call and the function that runs, f, are there."""
+
     def named(self, path):
         """What a path names in the function that runs."""
         file, owner = self.owners[self.f]

@@ -10,7 +10,7 @@ KNOWN = {"f64::from_bits": (["u64"], "f64"), "f64::to_bits": (["f64"], "u64"), "
 
 class Expressions(Marks):
     """Each function reads an expression and gives its type, or None where it is not known. structs: whether a brace after a name begins
-    a struct, which it does not in the condition of an `if`."""
+    a struct, which it does not in the condition of an `if`. Blocks, `if` and `match` are read by Body (bodies.py)."""
 
     structs = True
 

@@ -40,12 +40,12 @@ def mutants_of(function):
 
 def ordered(function):
     """The places and their texts: a place is tried once before any is tried twice, and the kinds of change take turns. Late places come last."""
-    passes = drawn(function)
+    draws = drawn(function)
     order = []
     for late in (False, True):
-        for turn in range(max((p[1] for p in passes), default=-1) + 1):
+        for turn in range(max((p[1] for p in draws), default=-1) + 1):
             kinds = {}
-            for p in sorted((p for p in passes if p[0] == late and p[1] == turn), key=lambda p: p[2]):
+            for p in sorted((p for p in draws if p[0] == late and p[1] == turn), key=lambda p: p[2]):
                 kinds.setdefault(p[3].kind, []).append(p)
             queues = [kinds[k] for k in sorted(kinds)]
             while queues:
