@@ -1,0 +1,41 @@
+"""The library crates: which they are, what a result of one rests on, and where its proofs are."""
+import hashlib
+import os
+import re
+
+
+def libraries():
+    """The library crates, in the order of crates.txt; `words` is a part of the test programs."""
+    if not os.path.exists("crates.txt"):
+        return []
+    with open("crates.txt", encoding="utf-8") as f:
+        names = re.findall(r"^(\w+):", f.read(), re.M)
+    return [n for n in names if n != "words" and os.path.exists(os.path.join("crates", n, "src", "lib.rt"))]
+
+
+CRATES = libraries()
+
+
+def source_sum(root, crate):
+    """What the result rests on: the crate's sources, definitions and proofs; lines of comments do not count."""
+    sums = hashlib.sha256()
+    top = os.path.join(root, "crates", crate)
+    for part in ("src", "specs", "proofs"):
+        for folder, _, names in sorted(os.walk(os.path.join(top, part))):
+            for name in sorted(names):
+                path = os.path.join(folder, name)
+                with open(path, encoding="utf-8") as f:
+                    lines = [l.strip() for l in f if l.strip() and not l.strip().startswith(("//", "-- "))]
+                sums.update("\0".join([os.path.relpath(path, top)] + lines).encode())
+    return sums.hexdigest()[:16]
+
+
+def own_file(root, function):
+    """The function's proof file: its own, or that of the cycle of calls that it is in."""
+    parts = function.path.split("::")[1:]
+    folder = os.path.join("proofs", *parts[:-1])
+    top = os.path.join(root, "crates", function.path.split("::")[0], folder)
+    for name in sorted(os.listdir(top)) if os.path.isdir(top) else []:
+        if name.startswith("+") and parts[-1] in name.split("+"):
+            return os.path.join(folder, name, "Proof.antt")
+    return os.path.join(folder, parts[-1], "Proof.antt")
