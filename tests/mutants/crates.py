@@ -5,12 +5,12 @@ import re
 
 
 def libraries():
-    """The library crates, in the order of crates.txt; `words` is a part of the test programs."""
+    """The library crates that have code, in the order of crates.txt: `words` is a part of the test programs, `theorems` has none."""
     if not os.path.exists("crates.txt"):
         return []
     with open("crates.txt", encoding="utf-8") as f:
         names = re.findall(r"^(\w+):", f.read(), re.M)
-    return [n for n in names if n != "words" and os.path.exists(os.path.join("crates", n, "src", "lib.rt"))]
+    return [n for n in names if n not in ("words", "theorems") and os.path.exists(os.path.join("crates", n, "src", "lib.rt"))]
 
 
 CRATES = libraries()
