@@ -54,59 +54,62 @@ fn reason(label: &str, side: &str) -> Option<(&'static str, &'static str)> {
     })
 }
 
-pub fn print(folder: &Path) -> Result<(), String> {
-    let mut frames = Counts::default();
-    let mut all = Counts::default();
-    let (mut frame_count, mut total) = (0, 0);
+/// What the frames alone reach and what all vectors do, with how many there are of each.
+fn count(folder: &Path) -> Result<[(Counts, usize); 2], String> {
+    let mut frames = (Counts::default(), 0);
+    let mut all = (Counts::default(), 0);
     for function in table::FUNCTIONS {
         for record in stored::read(folder, function)? {
             let input = &record[..function.takes];
             if function.name == "frame" {
-                frames.run("frame", input);
-                frame_count += 1;
+                frames.0.run("frame", input);
+                frames.1 += 1;
             }
-            all.run(function.name, input);
-            total += 1;
+            all.0.run(function.name, input);
+            all.1 += 1;
         }
     }
+    Ok([frames, all])
+}
+
+/// Why one side of a test is not reached, where it is not; an error where it is reached and named as unreachable.
+fn note(frames: &Counts, all: &Counts, label: &str, outcome: bool) -> Result<Option<String>, String> {
+    let side = if outcome { "yes" } else { "no" };
+    let reason = reason(label, side);
+    let claimed = reason.is_some_and(|(far, _)| far != "by no frame");
+    let (by_frames, by_all) = (frames.of(label, outcome), all.of(label, outcome));
+    if claimed && by_all > 0 || reason.is_some() && by_frames > 0 {
+        return Err(format!("{label}, {side}: named as unreachable, but reached"));
+    }
+    Ok(match reason {
+        Some((far, why)) if claimed || by_all > 0 => Some(format!("{side}: {far}: {why}")),
+        _ if by_all == 0 => Some(format!("{side}: {NOT_REACHED}")),
+        _ if by_frames == 0 => Some(format!("{side}: by no stored frame")),
+        _ => None,
+    })
+}
+
+const NOT_REACHED: &str = "NOT REACHED";
+
+pub fn print(folder: &Path) -> Result<(), String> {
+    let [(frames, frame_count), (all, total)] = count(folder)?;
     println!("\n## Tests of the Rust, and which way they came out\n");
     println!("{frame_count} frames, {total} vectors in all\n");
     println!("| test | frames: yes | frames: no | all vectors: yes | all vectors: no | |");
     println!("|---|---:|---:|---:|---:|---|");
     let mut missing = 0;
     for &label in reach::LABELS.iter().chain(&reach::LISTED) {
-        let mut notes = Vec::new();
         let outcomes: &[bool] = if is_place(label) { &[true] } else { &[true, false] };
-        for &outcome in outcomes {
-            let side = if outcome { "yes" } else { "no" };
-            let reason = reason(label, side);
-            let claimed = reason.is_some_and(|(far, _)| far != "by no frame");
-            if claimed && all.of(label, outcome) > 0 || reason.is_some() && frames.of(label, outcome) > 0 {
-                return Err(format!("{label}, {side}: named as unreachable, but reached"));
-            }
-            match reason {
-                Some((far, why)) if claimed || all.of(label, outcome) > 0 => {
-                    notes.push(format!("{side}: {far}: {why}"));
-                }
-                _ if all.of(label, outcome) == 0 => {
-                    missing += 1;
-                    notes.push(format!("{side}: NOT REACHED"));
-                }
-                _ if frames.of(label, outcome) == 0 => notes.push(format!("{side}: by no stored frame")),
-                _ => {}
-            }
-        }
-        let count = |counts: &Counts, outcome: bool| {
+        let notes: Vec<Option<String>> =
+            outcomes.iter().map(|&outcome| note(&frames, &all, label, outcome)).collect::<Result<_, _>>()?;
+        let notes: Vec<String> = notes.into_iter().flatten().collect();
+        missing += notes.iter().filter(|note| note.ends_with(NOT_REACHED)).count();
+        let shown = |counts: &Counts, outcome: bool| {
             if !outcome && is_place(label) { String::new() } else { counts.of(label, outcome).to_string() }
         };
-        println!(
-            "| {label} | {} | {} | {} | {} | {} |",
-            count(&frames, true),
-            count(&frames, false),
-            count(&all, true),
-            count(&all, false),
-            notes.join(". ")
-        );
+        let [frames_yes, frames_no] = [true, false].map(|outcome| shown(&frames, outcome));
+        let [all_yes, all_no] = [true, false].map(|outcome| shown(&all, outcome));
+        println!("| {label} | {frames_yes} | {frames_no} | {all_yes} | {all_no} | {} |", notes.join(". "));
     }
     println!("\nOutcomes neither reached nor named as unreachable: {missing}");
     Ok(())

@@ -30,35 +30,37 @@ pub(super) fn hand_refine() -> Vec<Input> {
     ]
 }
 
+/// Depths of three points, moved off by a little or much.
+fn moved_off(r: &mut Random, limit: u64) -> Input {
+    let bearings: [Vector; 3] = if r.chance(4) {
+        let base = r.direction();
+        let spread = power(r.between(-16, -3));
+        std::array::from_fn(|_| unit(plus(base, times(r.cube(), spread))))
+    } else {
+        std::array::from_fn(|_| r.direction())
+    };
+    let depths: Vector = std::array::from_fn(|_| r.range(0.3, 5.0));
+    let points: [Vector; 3] = std::array::from_fn(|i| times(bearings[i], depths[i]));
+    let edge = |i: usize, j: usize| {
+        let d = minus(points[i], points[j]);
+        dot(d, d)
+    };
+    let cosine = |i: usize, j: usize| dot(bearings[i], bearings[j]);
+    let off = power(r.between(-45, 1));
+    let start = depths.map(|d| d * (1.0 + off * r.range(-1.0, 1.0)));
+    let scale = if r.chance(4) { r.between(-40, 40) } else { 0 };
+    refine_input(
+        times(start, power(scale)),
+        times([edge(0, 1), edge(0, 2), edge(1, 2)], power(2 * scale)),
+        [cosine(0, 1), cosine(0, 2), cosine(1, 2)],
+        limit,
+    )
+}
+
 pub(super) fn refine(r: &mut Random) -> Input {
     let limit = if r.chance(5) { r.below(6) } else { 5 };
     match r.below(8) {
-        0..=3 => {
-            // Depths of three points, moved off by a little or much.
-            let bearings: [Vector; 3] = if r.chance(4) {
-                let base = r.direction();
-                let spread = power(r.between(-16, -3));
-                std::array::from_fn(|_| unit(plus(base, times(r.cube(), spread))))
-            } else {
-                std::array::from_fn(|_| r.direction())
-            };
-            let depths: Vector = std::array::from_fn(|_| r.range(0.3, 5.0));
-            let points: [Vector; 3] = std::array::from_fn(|i| times(bearings[i], depths[i]));
-            let edge = |i: usize, j: usize| {
-                let d = minus(points[i], points[j]);
-                dot(d, d)
-            };
-            let cosine = |i: usize, j: usize| dot(bearings[i], bearings[j]);
-            let off = power(r.between(-45, 1));
-            let start = depths.map(|d| d * (1.0 + off * r.range(-1.0, 1.0)));
-            let scale = if r.chance(4) { r.between(-40, 40) } else { 0 };
-            refine_input(
-                times(start, power(scale)),
-                times([edge(0, 1), edge(0, 2), edge(1, 2)], power(2 * scale)),
-                [cosine(0, 1), cosine(0, 2), cosine(1, 2)],
-                limit,
-            )
-        }
+        0..=3 => moved_off(r, limit),
         4 => {
             let d = std::array::from_fn(|_| r.range(0.1, 4.0));
             let a = std::array::from_fn(|_| r.range(0.1, 9.0));
