@@ -52,6 +52,7 @@ abbrev pub Reads : (size filled next listed : ℕ) → Turn → Type 0
 Reads size filled next listed (More after) = Fetched size filled next listed after
 Reads size filled next listed Over = Unit {0}
 
+-- by the course of the record: `put at` says that its lines stand in the listing's buffer and end at `at`, also those that close the listing
 abbrev pub Goes : (size : ℕ) → Course → State → (ℕ → Type 0) → Turn → Type 0
 Goes size Write state put turn = Writes state turn
 Goes size Read state put turn = Reads size (state .filled) (state .next) (state .listed) turn
