@@ -120,28 +120,9 @@ class Expressions(Marks):
         self.mark_exchanges(spans, kinds)
         return spans, kinds
 
-    def primary(self):
-        kind, word, start, _ = self.tokens[self.at]
-        if kind in ("num", "bytes", "byte") or word in ("true", "false"):
-            return self.value()
-        if self.passes("("):
-            inner = self.expression()
-            self.expect(")")
-            return inner
-        if self.passes("["):
-            return self.array()
-        if self.sees("{"):
-            return self.block()
-        if self.passes("if"):
-            return self.conditional()
-        if self.passes("match"):
-            return self.match()
-        if self.passes("return"):
-            join(self.expression(), self.f.result)
-            return "!"
-        if kind != "id":
-            self.fail(f"an expression begins with {word}")
-        return self.path_expression(start)
+    def returned(self):
+        join(self.expression(), self.f.result)
+        return "!"
 
     def value(self):
         """A number, a byte, a byte string or a truth value."""
@@ -178,8 +159,11 @@ class Expressions(Marks):
                 self.passes(",")
         return ("array", inner, None)
 
-    def path_expression(self, start):
+    def path_expression(self):
         """A local, a constant, a call, a variant or a struct."""
+        if self.kind() != "id":
+            self.fail(f"an expression begins with {self.word()}")
+        start = self.start()
         path = self.names()
         end = self.done()
         visible = self.visible()

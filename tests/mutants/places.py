@@ -2,7 +2,8 @@
 import re
 
 from changes import OPERATORS, near_floats, near_numbers
-from kinds import INTEGERS, Types, bare, settled
+from grammar import Grammar
+from kinds import INTEGERS, bare, settled
 
 
 class Place:
@@ -18,7 +19,7 @@ def signature(f):
     return [t for _, t in f.params], f.result
 
 
-class Marks(Types):
+class Marks(Grammar):
     """A cursor in a function's body that marks places. What may stand there is asked for at the end, when types are settled."""
 
     def __init__(self, file, f, body, owner):

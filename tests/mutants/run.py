@@ -24,7 +24,7 @@ three: what a public one returns rests on its contract too.
 
 Programs and test programs (poses, poses_runs, words, vectors, *_test) have no contracts that say what they write, and are left out.
 reasons.txt says why a survivor is equivalent."""
-# The other files, in the data's way. What the crates declare: crates, tokens, kinds, items, world. What can be changed in a body, and by what:
+# The other files, in the data's way. What the crates declare: crates, tokens, kinds, grammar, items, world. What can be changed in a body, and by what:
 # changes, places, expressions, bodies; in what order: mutants. The checks: bench, verdicts, rounds. Inputs at which a mutant differs: trees,
 # values, operations, evaluate, machine, inputs, witness. What is written: results, table.
 import os

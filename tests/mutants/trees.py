@@ -1,9 +1,9 @@
 """The body of a function as nested tuples, for the interpreter: the first entry says what it is, and the rest are its parts."""
-from kinds import Types
+from grammar import Grammar
 from tokens import ASSIGNMENTS, LEVELS, number_parts, tokens
 
 
-class Parser(Types):
+class Parser(Grammar):
     """Reads a text that begins with a body; the names in it are those of the file. structs: whether a brace after a name begins a struct,
     which it does not in the condition of an `if`."""
 
@@ -120,26 +120,13 @@ class Parser(Types):
         self.expect("(")
         return [self.expression() for _ in self.each(")")]
 
-    def primary(self):
+    def value(self):
         kind, word = self.tokens[self.at][:2]
-        if kind in ("num", "bytes", "byte") or word in ("true", "false"):
-            self.next()
-            return ("value", literal(kind, word))
-        if self.passes("("):
-            out = self.expression()
-            self.expect(")")
-            return out
-        if self.passes("["):
-            return self.array()
-        if self.sees("{"):
-            return self.block()
-        if self.passes("if"):
-            return self.conditional()
-        if self.passes("match"):
-            return self.match()
-        if self.passes("return"):
-            return ("block", [("return", self.expression())])
-        return self.path_expression()
+        self.next()
+        return ("value", literal(kind, word))
+
+    def returned(self):
+        return ("block", [("return", self.expression())])
 
     def array(self):
         out = []
