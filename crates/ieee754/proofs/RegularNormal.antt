@@ -100,7 +100,7 @@ mul-normal (inf s) (inf t) r = tt
 mul-normal (inf s) (fin t n d) r = cond-either (λ (z : Float). T (zeroOrNormal z)) (eqb n 0) tt tt
 mul-normal (fin s m e) nan r = tt
 mul-normal (fin s m e) (inf t) r = cond-either (λ (z : Float). T (zeroOrNormal z)) (eqb m 0) tt tt
-mul-normal (fin s m e) (fin t n d) r = round-normal (unlike s t) (m * up e * (n * up d)) (down e * down d) (mul-pos (down-pos e) (down-pos d)) r
+mul-normal (fin s m e) (fin t n d) r = round-normal _ _ _ (mul-pos (down-pos e) (down-pos d)) r
 
 pub div-normal : (x y : Float) → T (divRegular x y) → T (zeroOrNormal (div binary64 x y))
 unfolding div divRegular
@@ -112,7 +112,7 @@ div-normal (fin s m e) nan r = tt
 div-normal (fin s m e) (inf t) r = tt
 div-normal (fin s m e) (fin t zero d) r = absurd r
 div-normal (fin s m e) (fin t (suc n) d) r =
-    rw (eqb·suc-zero n) (round-normal (unlike s t) (m * up e * down d) (suc n * up d * down e) (mul-pos (mul-pos (zero-lt-suc n) (up-pos d)) (down-pos e)) (rw (eqb·suc-zero n) at r))
+    rw (eqb·suc-zero n) (round-normal _ _ _ (mul-pos (mul-pos (zero-lt-suc n) (up-pos d)) (down-pos e)) (rw (eqb·suc-zero n) at r))
 
 sum-normal : (s : Bool) (a : ℕ) (t : Bool) (b c : ℕ) → 0 < c → T (inRange 1 (magnitude s a t b) c) → T (zeroOrNormal (sum binary64 s a t b c))
 unfolding sum
@@ -120,9 +120,9 @@ sum-normal s a t b c C = go (Bool·beq s t) (ltb a b)
   where
     go : (x y : Bool) → T (inRange 1 (cond x (a + b) (cond y (b - a) (a - b))) c)
         → T (zeroOrNormal (cond x (round binary64 s (a + b) c) (cond y (round binary64 t (b - a) c) (round binary64 (s && ltb b a) (a - b) c))))
-    go true y r = round-normal s (a + b) c C r
-    go false true r = round-normal t (b - a) c C r
-    go false false r = round-normal (s && ltb b a) (a - b) c C r
+    go true y = round-normal _ _ c C
+    go false true = round-normal _ _ c C
+    go false false = round-normal _ _ c C
 
 pub add-normal : (x y : Float) → T (addRegular x y) → T (zeroOrNormal (add binary64 x y))
 unfolding add addRegular
@@ -132,7 +132,7 @@ add-normal (inf s) (inf t) r = cond-either (λ (z : Float). T (zeroOrNormal z)) 
 add-normal (inf s) (fin t n d) r = tt
 add-normal (fin s m e) nan r = tt
 add-normal (fin s m e) (inf t) r = tt
-add-normal (fin s m e) (fin t n d) r = sum-normal s (m * up e * down d) t (n * up d * down e) (down e * down d) (mul-pos (down-pos e) (down-pos d)) r
+add-normal (fin s m e) (fin t n d) r = sum-normal s _ t _ _ (mul-pos (down-pos e) (down-pos d)) r
 
 pub sub-normal : (x y : Float) → T (addRegular x (neg y)) → T (zeroOrNormal (sub binary64 x y))
 unfolding sub
@@ -154,7 +154,7 @@ fma-normal (fin s m e) (inf t) z r = special-normal (eqb m 0) (unlike s t) z
 fma-normal (fin s m e) (fin t n d) nan r = tt
 fma-normal (fin s m e) (fin t n d) (inf u) r = tt
 fma-normal (fin s m e) (fin t n d) (fin u l g) r =
-    sum-normal (unlike s t) (m * up e * (n * up d) * down g) u (l * up g * (down e * down d)) (down e * down d * down g) (mul-pos (mul-pos (down-pos e) (down-pos d)) (down-pos g)) r
+    sum-normal (unlike s t) _ u _ _ (mul-pos (mul-pos (down-pos e) (down-pos d)) (down-pos g)) r
 
 pub sqrt-normal : (x : Float) → T (sqrtRegular x) → T (zeroOrNormal (sqrt x))
 unfolding sqrt sqrtRegular
@@ -163,14 +163,14 @@ sqrt-normal (inf false) r = tt
 sqrt-normal (inf true) r = tt
 sqrt-normal (fin s zero e) r = tt
 sqrt-normal (fin true (suc m) e) r = tt
-sqrt-normal (fin false (suc m) e) r = roundRoot-normal 2 false (suc m * up e) (down e) (zero-lt-suc 1) (down-pos e) r
+sqrt-normal (fin false (suc m) e) r = roundRoot-normal 2 _ _ _ (zero-lt-suc 1) (down-pos e) r
 
 pub cbrt-normal : (x : Float) → T (cbrtRegular x) → T (zeroOrNormal (cbrt x))
 unfolding cbrt cbrtRegular
 cbrt-normal nan r = tt
 cbrt-normal (inf s) r = tt
 cbrt-normal (fin s zero e) r = tt
-cbrt-normal (fin s (suc m) e) r = roundRoot-normal 3 s (suc m * up e) (down e) (zero-lt-suc 2) (down-pos e) r
+cbrt-normal (fin s (suc m) e) r = roundRoot-normal 3 _ _ _ (zero-lt-suc 2) (down-pos e) r
 
 -- ---- the square root of a value of 2 ^ -1022 at least lies above 2 ^ -1022
 above-min : (x : Float) (w : ℕ) → HasValue x false w (2 ^ 1074) → 2 ^ 52 < w → lt minPositive x ≡ true

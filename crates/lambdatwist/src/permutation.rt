@@ -1,9 +1,8 @@
 // The choice of solve_best_conditioned_permutation (lambdatwist.rs): of the five other orderings of the points, the one whose
 // leading coefficient is the largest beside the others.
 ghost use mathlib.Core.Path.{_≡_};
-ghost use Rattle.lambdatwist.specs.Permutation.{points, rays, withCondition, better, bestPermutation};
+ghost use Rattle.lambdatwist.specs.Permutation.{withCondition, better, bestPermutation};
 use depths::condition::leading_cubic_condition;
-use linalg::vector3::Vector3;
 use p3p_common::input::Bearings;
 use p3p_common::input::P3pInput;
 use p3p_common::input::World;
@@ -13,18 +12,6 @@ pub struct Conditioned {
     pub condition: f64,
     pub world: World,
     pub bearings: Bearings,
-}
-
-pub fn points(p0: Vector3, p1: Vector3, p2: Vector3) -> World
-    ensures { λ r. ⌜ r ≡ points p0 p1 p2 ⌝ }
-{
-    World { p0, p1, p2 }
-}
-
-pub fn rays(f0: Vector3, f1: Vector3, f2: Vector3) -> Bearings
-    ensures { λ r. ⌜ r ≡ rays f0 f1 f2 ⌝ }
-{
-    Bearings { f0, f1, f2 }
 }
 
 pub fn with_condition(world: World, bearings: Bearings) -> Conditioned
@@ -60,9 +47,52 @@ pub fn best_permutation(input: P3pInput) -> Conditioned
     let f0 = bearings.f0;
     let f1 = bearings.f1;
     let f2 = bearings.f2;
-    let best = with_condition(points(p0, p2, p1), rays(f0, f2, f1));
-    let best = better(best, with_condition(points(p1, p0, p2), rays(f1, f0, f2)));
-    let best = better(best, with_condition(points(p1, p2, p0), rays(f1, f2, f0)));
-    let best = better(best, with_condition(points(p2, p0, p1), rays(f2, f0, f1)));
-    better(best, with_condition(points(p2, p1, p0), rays(f2, f1, f0)))
+    let best = with_condition(
+        World { p0, p1: p2, p2: p1 },
+        Bearings { f0, f1: f2, f2: f1 },
+    );
+    let best = better(
+        best,
+        with_condition(
+            World { p0: p1, p1: p0, p2 },
+            Bearings { f0: f1, f1: f0, f2 },
+        ),
+    );
+    let best = better(
+        best,
+        with_condition(
+            World {
+                p0: p1,
+                p1: p2,
+                p2: p0,
+            },
+            Bearings {
+                f0: f1,
+                f1: f2,
+                f2: f0,
+            },
+        ),
+    );
+    let best = better(
+        best,
+        with_condition(
+            World {
+                p0: p2,
+                p1: p0,
+                p2: p1,
+            },
+            Bearings {
+                f0: f2,
+                f1: f0,
+                f2: f1,
+            },
+        ),
+    );
+    better(
+        best,
+        with_condition(
+            World { p0: p2, p1, p2: p0 },
+            Bearings { f0: f2, f1, f2: f0 },
+        ),
+    )
 }

@@ -5,8 +5,7 @@ use Rattle.ieee754.specs.Scaling.{Both, At}
 use Rattle.ieee754.proofs.Degrees.{same, at-zero}
 use Rattle.polynomial.specs.PolishedRoot.{polishedCubicRoot}
 use Rattle.polynomial.specs.RootScaling.{AtRoots, two-at, one-at, refused-at}
-use Rattle.polynomial.specs.declared.Roots.{Roots}
-use Rattle.polynomial.specs.declared.Roots.the-variants.{Two, One, Refused}
+use Rattle.polynomial.specs.Types.{Roots, Two, One, Refused}
 
 module _ {k : ℤ} where
   -- an answer beside itself, at degree 0

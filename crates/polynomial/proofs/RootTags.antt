@@ -6,8 +6,7 @@ use native.Mathlib.Omega.{arith}
 use lib.Ieee.{Float}
 use types.Run.{OneOf}
 use denote.Enum.Declared.{tagOf}
-use Rattle.polynomial.specs.declared.Roots.{Roots}
-use Rattle.polynomial.specs.declared.Roots.the-variants.{Two, One, Refused}
+use Rattle.polynomial.specs.Types.{Roots, Two, One, Refused}
 use Rattle.polynomial.proofs.Roots.{the-type}
 
 module _ (P : Roots → Type 0) (refused : (n : ℕ) → P (Refused n)) where

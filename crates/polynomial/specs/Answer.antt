@@ -4,10 +4,7 @@ use Prim.Native.Nat.{ℕ}
 use mathlib.Core.List.{List, [], _∷_}
 use lib.Ieee.{Float}
 use Rattle.ieee754.specs.Traced.{Traced}
-use Rattle.polynomial.specs.declared.Roots.{Roots}
-use Rattle.polynomial.specs.declared.Roots.the-variants.{Two, One, Refused}
-use Rattle.polynomial.specs.declared.Step.{Step}
-use Rattle.polynomial.specs.declared.Step.the-variants.{Next, Stop}
+use Rattle.polynomial.specs.Types.{Roots, Two, One, Refused, Step, Next, Stop}
 
 -- ---- the refusals of the root finders
 

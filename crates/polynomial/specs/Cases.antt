@@ -8,7 +8,7 @@ use Rattle.ieee754.specs.Literal.{double}
 use Rattle.polynomial.specs.Answer.{number, values}
 use Rattle.polynomial.specs.Quadratic.{quadraticRealMonic}
 use Rattle.polynomial.specs.PolishedRoot.{polishedCubicRoot}
-use Rattle.polynomial.specs.declared.Roots.{Roots}
+use Rattle.polynomial.specs.Types.{Roots}
 
 -- the doubles' patterns are these words
 unfoldable pub haveBits : List Float → List ℕ → Bool

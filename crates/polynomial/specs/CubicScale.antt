@@ -6,19 +6,19 @@ use Rattle.ieee754.specs.Magnitude.{abs}
 use Rattle.ieee754.specs.Maximum.{max}
 use Rattle.ieee754.specs.Traced.{Traced, pure, _>>=_, if_then_else_, !_, √_, ∛_, _⊗_, _⊘_}
 use Rattle.polynomial.specs.Literal.{ten⁵⁰, ten¹⁰⁰, ten¹⁵⁰, ten⁻⁵⁰, ten⁻¹⁰⁰, ten⁻¹⁵⁰}
-use Rattle.polynomial.specs.declared.Monic.{Monic}
+use Rattle.polynomial.specs.Types.{Monic}
 
 -- b == 0.0 && c == 0.0 && d == 0.0
 unfoldable pub allZero : Float → Float → Float → Bool
-allZero b c d = eq b plusZero && (eq c plusZero && eq d plusZero)
+allZero b c d = eq b plusZero && eq c plusZero && eq d plusZero
 
 -- b.abs() > 1e50 || c.abs() > 1e100 || d.abs() > 1e150
 unfoldable pub large : Float → Float → Float → Bool
-large b c d = lt ten⁵⁰ (abs b) || (lt ten¹⁰⁰ (abs c) || lt ten¹⁵⁰ (abs d))
+large b c d = lt ten⁵⁰ (abs b) || lt ten¹⁰⁰ (abs c) || lt ten¹⁵⁰ (abs d)
 
 -- b.abs() < 1e-50 && c.abs() < 1e-100 && d.abs() < 1e-150
 unfoldable pub tiny : Float → Float → Float → Bool
-tiny b c d = lt (abs b) ten⁻⁵⁰ && (lt (abs c) ten⁻¹⁰⁰ && lt (abs d) ten⁻¹⁵⁰)
+tiny b c d = lt (abs b) ten⁻⁵⁰ && lt (abs c) ten⁻¹⁰⁰ && lt (abs d) ten⁻¹⁵⁰
 
 -- b.abs().max(c.abs().sqrt()).max(d.abs().cbrt()): of the magnitude of the largest root
 unfoldable pub rootMagnitude : Float → Float → Float → Traced Float

@@ -6,9 +6,7 @@ use Rattle.ieee754.specs.Traced.{Traced, pure, _>>=_, if_then_else_, !_, ⊝_, 
 use Rattle.polynomial.specs.Literal.{three, twentySeven}
 use Rattle.polynomial.specs.Answer.{after}
 use Rattle.polynomial.specs.Cardano.{cardanoSingleReal}
-use Rattle.polynomial.specs.declared.Monic.{Monic}
-use Rattle.polynomial.specs.declared.Step.{Step}
-use Rattle.polynomial.specs.declared.Step.the-variants.{Next, Stop}
+use Rattle.polynomial.specs.Types.{Monic, Step, Next, Stop}
 
 -- ((root + b) * root + c) * root + d
 unfoldable pub cubicValue : Monic → Float → Traced Float

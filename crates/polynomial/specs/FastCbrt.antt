@@ -1,6 +1,6 @@
 -- `fast_cbrt` of polynomial.rs: a cube root by two steps of Halley's method, from a start that divides the bit pattern by three. Document 01, module 3.
 use Prim.Native.Nat.{_+_, _/_}
-use mathlib.Core.Bool.{not}
+use mathlib.Core.Bool.{not, _||_}
 use lib.Ieee.{Float, binary64, toBits, ofBits, lt, eq}
 use lib.Ieee.Scale.{finite}
 use Rattle.ieee754.specs.Literal.{plusZero, one, two, minPositive}
@@ -8,8 +8,7 @@ use Rattle.ieee754.specs.Magnitude.{abs}
 use Rattle.ieee754.specs.CopySign.{copysign}
 use Rattle.ieee754.specs.Traced.{Traced, pure, _>>=_, if_then_else_, !_, ∛_, _⊗_, _⊘_, _⊕_}
 use Rattle.polynomial.specs.Answer.{after}
-use Rattle.polynomial.specs.declared.Step.{Step}
-use Rattle.polynomial.specs.declared.Step.the-variants.{Next, Stop}
+use Rattle.polynomial.specs.Types.{Step, Next, Stop}
 
 -- f64::from_bits(magnitude.to_bits() / 3 + 0x2A9F_7625_3119_D328)
 unfoldable pub cbrtStart : Float → Float
@@ -19,8 +18,7 @@ cbrtStart magnitude = ofBits binary64 (toBits binary64 magnitude / 3 + 0x2a9f_76
 unfoldable pub cbrtStep : Float → Float → Traced Step
 cbrtStep magnitude root = do
   cube ← ! root ⊗ ! root ⊗ ! root
-  if not (finite cube) then pure Stop
-      else if eq cube plusZero then pure Stop
+  if not (finite cube) || eq cube plusZero then pure Stop
       else do
         ratio ← ! magnitude ⊘ ! cube
         -- root *= (1.0 + 2.0 * ratio) / (2.0 + ratio);
@@ -38,6 +36,5 @@ cbrtSteps value magnitude = do
 unfoldable pub fastCbrt : Float → Traced Float
 fastCbrt value =
     if eq value plusZero then pure plusZero
-    else if not (finite (abs value)) then ∛ ! value
-    else if lt (abs value) minPositive then ∛ ! value
+    else if not (finite (abs value)) || lt (abs value) minPositive then ∛ ! value
     else cbrtSteps value (abs value)

@@ -1,6 +1,6 @@
 -- The Newton steps of `polished_cubic_root` of polynomial.rs, each with its stops. Document 01, module 3.
 use Prim.Native.Nat.{ℕ, zero, suc}
-use mathlib.Core.Bool.{not}
+use mathlib.Core.Bool.{not, _||_}
 use lib.Ieee.{Float, lt, eq}
 use lib.Ieee.Scale.{finite}
 use Rattle.ieee754.specs.Literal.{plusZero, two}
@@ -9,9 +9,7 @@ use Rattle.ieee754.specs.Traced.{Traced, pure, _>>=_, if_then_else_, !_, _⊗_,
 use Rattle.polynomial.specs.Literal.{three, ten⁻¹⁴}
 use Rattle.polynomial.specs.Answer.{after}
 use Rattle.polynomial.specs.CubicStart.{cubicValue}
-use Rattle.polynomial.specs.declared.Monic.{Monic}
-use Rattle.polynomial.specs.declared.Step.{Step}
-use Rattle.polynomial.specs.declared.Step.the-variants.{Next, Stop}
+use Rattle.polynomial.specs.Types.{Monic, Step, Next, Stop}
 
 unfoldable pub newtonStep : Monic → Float → Traced Step
 newtonStep p root = do
@@ -20,9 +18,7 @@ newtonStep p root = do
       else do
         -- let derivative = (3.0 * root + 2.0 * b) * root + c;
         derivative ← (! three ⊗ ! root ⊕ ! two ⊗ ! (p .b)) ⊗ ! root ⊕ ! (p .c)
-        if not (finite value) then pure Stop
-            else if not (finite derivative) then pure Stop
-            else if eq derivative plusZero then pure Stop
+        if not (finite value) || not (finite derivative) || eq derivative plusZero then pure Stop
             else do
               -- let candidate = root - value / derivative;
               candidate ← ! root ⊖ ! value ⊘ ! derivative

@@ -8,9 +8,7 @@ use Rattle.polynomial.specs.Answer.{notFinite, noRoot, after}
 use Rattle.polynomial.specs.CubicScale.{allZero, cubicVariableScale, normalised}
 use Rattle.polynomial.specs.CubicStart.{startRoot}
 use Rattle.polynomial.specs.Newton.{newtonSteps}
-use Rattle.polynomial.specs.declared.Monic.{Monic}
-use Rattle.polynomial.specs.declared.Roots.{Roots}
-use Rattle.polynomial.specs.declared.Roots.the-variants.{One}
+use Rattle.polynomial.specs.Types.{Monic, Roots, One}
 
 -- at most four Newton steps from the start, and the root of the coefficients as they came
 unfoldable pub rescaledRoot : Monic → Float → Float → Traced Roots

@@ -9,8 +9,7 @@ use Rattle.ieee754.specs.Maximum.{max}
 use Rattle.ieee754.specs.Traced.{Traced, pure, _>>=_, if_then_else_, !_, ⊝_, √_, _⊗_, _⊘_, _⊕_, mulAdd}
 use Rattle.polynomial.specs.Literal.{four, thirtyTwo}
 use Rattle.polynomial.specs.Answer.{notFinite, noRealRoots}
-use Rattle.polynomial.specs.declared.Roots.{Roots}
-use Rattle.polynomial.specs.declared.Roots.the-variants.{Two}
+use Rattle.polynomial.specs.Types.{Roots, Two}
 
 -- the roots where the discriminant is in the band or above it; the caller has cut a negative one to zero
 unfoldable pub quadraticPair : Float → Float → Float → Traced Roots

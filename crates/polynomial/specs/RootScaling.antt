@@ -3,8 +3,7 @@ use Prim.Native.Nat.{ℕ}
 use lib.IntN.{ℤ}
 use lib.Ieee.{Float}
 use Rattle.ieee754.specs.Scaling.{At}
-use Rattle.polynomial.specs.declared.Roots.{Roots}
-use Rattle.polynomial.specs.declared.Roots.the-variants.{Two, One, Refused}
+use Rattle.polynomial.specs.Types.{Roots, Two, One, Refused}
 
 pub data AtRoots (k n : ℤ) : Roots → Roots → Type 0 where
   two-at : {x x' y y' : Float} → At k n x x' → At k n y y' → AtRoots k n (Two x y) (Two x' y')

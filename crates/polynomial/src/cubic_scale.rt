@@ -10,34 +10,19 @@ use ieee754::sqrt::sqrt;
 pub fn all_zero(b: f64, c: f64, d: f64) -> bool
     ensures { λ r. ⌜ r ≡ allZero b c d ⌝ }
 {
-    if b == 0.0 {
-        if c == 0.0 { d == 0.0 } else { false }
-    } else {
-        false
-    }
+    (b == 0.0) & (c == 0.0) & (d == 0.0)
 }
 
 fn large(b: f64, c: f64, d: f64) -> bool
     ensures { λ r. ⌜ r ≡ large b c d ⌝ }
 {
-    if abs(b) > 1e50 {
-        return true;
-    }
-    if abs(c) > 1e100 {
-        return true;
-    }
-    abs(d) > 1e150
+    (abs(b) > 1e50) | (abs(c) > 1e100) | (abs(d) > 1e150)
 }
 
 fn tiny(b: f64, c: f64, d: f64) -> bool
     ensures { λ r. ⌜ r ≡ tiny b c d ⌝ }
 {
-    if abs(b) < 1e-50 {
-        if abs(c) < 1e-100 {
-            return abs(d) < 1e-150;
-        }
-    }
-    false
+    (abs(b) < 1e-50) & (abs(c) < 1e-100) & (abs(d) < 1e-150)
 }
 
 fn root_magnitude(b: f64, c: f64, d: f64) -> f64

@@ -24,10 +24,7 @@ fn cbrt_step(magnitude: f64, root: f64) -> Step
     ensures { λ r. ⌜ r ≡ cbrtStep magnitude root .value ⌝ }
 {
     let cube = root * root * root;
-    if !is_finite(cube) {
-        return Step::Stop;
-    }
-    if cube == 0.0 {
+    if !is_finite(cube) | (cube == 0.0) {
         return Step::Stop;
     }
     let ratio = magnitude / cube;
@@ -55,10 +52,7 @@ pub fn fast_cbrt(value: f64) -> f64
         return 0.0;
     }
     let magnitude = abs(value);
-    if !is_finite(magnitude) {
-        return cbrt(value);
-    }
-    if magnitude < MIN_POSITIVE {
+    if !is_finite(magnitude) | (magnitude < MIN_POSITIVE) {
         return cbrt(value);
     }
     cbrt_steps(value, magnitude)

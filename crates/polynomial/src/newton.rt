@@ -18,13 +18,7 @@ fn newton_step(p: Monic, root: f64) -> Step
         return Step::Stop;
     }
     let derivative = (3.0 * root + 2.0 * b) * root + c;
-    if !is_finite(value) {
-        return Step::Stop;
-    }
-    if !is_finite(derivative) {
-        return Step::Stop;
-    }
-    if derivative == 0.0 {
+    if !is_finite(value) | !is_finite(derivative) | (derivative == 0.0) {
         return Step::Stop;
     }
     let candidate = root - value / derivative;

@@ -3,11 +3,9 @@ use borrow.Author.Needs.{needs}
 use Rattle.words.proofs.agrees.Statement.{statement}
 use Rattle.words.proofs.agrees.Tie as tie
 
-to-bits-requires : tie.Need-to-bits-requires
-to-bits-requires c κs = search needs
-
 returns : tie.Need-returns
 returns c = rw (c .to-bits .ensures)
 
 pub agrees-spec : {M : Type 1} → statement M
-agrees-spec = tie.close (tie.spec to-bits-requires returns)
+agrees-spec =
+    tie.close (tie.spec (λ c _. search needs) returns)

@@ -8,15 +8,6 @@ use lib.ListN.{length, getD, List·getD-eq-default}
 use Rattle.words.proofs.byte.Statement.{statement}
 use Rattle.words.proofs.byte.Tie as tie
 
-sub-if2 : tie.Need-sub-if2
-sub-if2 c = search needs
-
-add-result : tie.Need-add-result
-add-result c = search needs
-
-shared-slice-read-result : tie.Need-shared-slice-read-result
-shared-slice-read-result c = search needs
-
 cast-result : tie.Need-cast-result
 cast-result c = let a = c .before .before .before .args in omega (arith, c .shared-slice-known .given (a .at + a .i))
 
@@ -34,5 +25,4 @@ returns-3 c = let a = c .before .args in (past (a .s .now) (a .at + a .i) (omega
 
 pub byte-spec : {M : Type 1} → statement M
 byte-spec =
-    tie.close
-    (tie.spec sub-if2 add-result shared-slice-read-result cast-result returns returns-2 returns-3)
+    tie.close (tie.spec (λ c. search needs) (λ c. search needs) (λ c. search needs) cast-result returns returns-2 returns-3)

@@ -5,18 +5,9 @@ use borrow.Author.Needs.{needs}
 use Rattle.choice.proofs.choose.better.Statement.{statement}
 use Rattle.choice.proofs.choose.better.Tie as tie
 
-is-finite-requires : tie.Need-is-finite-requires
-is-finite-requires c κs = search needs
-
 returns : tie.Need-returns
 unfolding better lower
 returns c = rw (← c .before .is-finite .ensures, not-true (c .before .is-finite .result) (c .if1 .taken))
-
-enum-known-best : tie.Need-enum-known-best
-enum-known-best c = search needs
-
-enum-told : tie.Need-enum-told
-enum-told c = search needs
 
 returns-2 : tie.Need-returns-2
 unfolding better lower
@@ -32,5 +23,4 @@ returns-4 c = rw (← c .before .before .before .before .before .is-finite .ensu
 
 pub better-spec : {M : Type 1} → statement M
 better-spec =
-    tie.close
-    (tie.spec is-finite-requires returns enum-known-best enum-told returns-2 returns-3 returns-4)
+    tie.close (tie.spec (λ c _. search needs) returns (λ c. search needs) (λ c. search needs) returns-2 returns-3 returns-4)

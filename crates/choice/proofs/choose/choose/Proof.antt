@@ -16,32 +16,8 @@ Inv-loop count target bearing poses n best₀ at₀ best at =
 abbrev μ-loop : tie.MeasureT-loop
 μ-loop count target bearing poses n best₀ at₀ best at = n - at
 
-cut-requires : tie.Need-cut-requires Inv-loop μ-loop
-cut-requires c κs = search needs
-
 loop-holds : tie.Need-loop-holds Inv-loop μ-loop
 loop-holds c = (search needs, refl)
-
-cast-score : tie.Need-cast-score Inv-loop μ-loop
-cast-score c = search needs
-
-mul-score : tie.Need-mul-score Inv-loop μ-loop
-mul-score c = search needs
-
-array-copy-out-score : tie.Need-array-copy-out-score Inv-loop μ-loop
-array-copy-out-score c = search needs
-
-score-requires : tie.Need-score-requires Inv-loop μ-loop
-score-requires c κs = search needs
-
-add-better : tie.Need-add-better Inv-loop μ-loop
-add-better c = search needs
-
-better-requires : tie.Need-better-requires Inv-loop μ-loop
-better-requires c κs = search needs
-
-add-at : tie.Need-add-at Inv-loop μ-loop
-add-at c = search needs
 
 loop-less : tie.Need-loop-less Inv-loop μ-loop
 loop-less c = omega arith
@@ -62,19 +38,6 @@ returns c =
 
 pub choose-spec : {M : Type 1} → statement M
 choose-spec =
-    tie.close
-    (tie.spec
-    Inv-loop
-    μ-loop
-    cut-requires
-    loop-holds
-    cast-score
-    mul-score
-    array-copy-out-score
-    score-requires
-    add-better
-    better-requires
-    add-at
-    loop-less
-    loop-again
-    returns)
+    tie.close (tie.spec Inv-loop μ-loop (λ c _. search needs) loop-holds (λ c. search needs) (λ c. search needs)
+    (λ c. search needs) (λ c _. search needs) (λ c. search needs) (λ c _. search needs) (λ c. search needs)
+    loop-less loop-again returns)

@@ -4,23 +4,10 @@ use borrow.Author.Needs.{needs}
 use Rattle.choice.proofs.score.score.Statement.{statement}
 use Rattle.choice.proofs.score.score.Tie as tie
 
-camera-point-requires : tie.Need-camera-point-requires
-camera-point-requires c κs = search needs
-
-cross-requires : tie.Need-cross-requires
-cross-requires c κs = search needs
-
-norm-squared-requires : tie.Need-norm-squared-requires
-norm-squared-requires c κs = search needs
-
-dot-requires : tie.Need-dot-requires
-dot-requires c κs = search needs
-
 returns : tie.Need-returns
 unfolding score
 returns c = cc
 
 pub score-spec : {M : Type 1} → statement M
 score-spec =
-    tie.close
-    (tie.spec camera-point-requires cross-requires norm-squared-requires dot-requires returns)
+    tie.close (tie.spec (λ c _. search needs) (λ c _. search needs) (λ c _. search needs) (λ c _. search needs) returns)

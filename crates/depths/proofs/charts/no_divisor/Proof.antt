@@ -8,12 +8,10 @@ returns : tie.Need-returns
 unfolding noDivisor
 returns c = rw (c .if1 .taken)
 
-is-finite-requires : tie.Need-is-finite-requires
-is-finite-requires c κs = search needs
-
 returns-2 : tie.Need-returns-2
 unfolding noDivisor
 returns-2 c = rw (c .before .if1 .left, ← c .is-finite .ensures)
 
 pub no-divisor-spec : {M : Type 1} → statement M
-no-divisor-spec = tie.close (tie.spec returns is-finite-requires returns-2)
+no-divisor-spec =
+    tie.close (tie.spec returns (λ c _. search needs) returns-2)

@@ -4,15 +4,9 @@ use Rattle.depths.specs.Charts.{secondChart}
 use Rattle.depths.proofs.charts.second_chart.Statement.{statement}
 use Rattle.depths.proofs.charts.second_chart.Tie as tie
 
-no-divisor-requires : tie.Need-no-divisor-requires
-no-divisor-requires c κs = search needs
-
 returns : tie.Need-returns
 unfolding secondChart
 returns c = rw (← c .before .no-divisor .ensures, c .if1 .taken)
-
-weight-chart-requires : tie.Need-weight-chart-requires
-weight-chart-requires c κs = search needs
 
 returns-2 : tie.Need-returns-2
 unfolding secondChart
@@ -20,4 +14,4 @@ returns-2 c = rw (← c .before .before .no-divisor .ensures, c .before .if1 .le
 
 pub second-chart-spec : {M : Type 1} → statement M
 second-chart-spec =
-    tie.close (tie.spec no-divisor-requires returns weight-chart-requires returns-2)
+    tie.close (tie.spec (λ c _. search needs) returns (λ c _. search needs) returns-2)

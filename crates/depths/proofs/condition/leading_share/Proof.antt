@@ -5,22 +5,13 @@ use Rattle.depths.specs.Condition.{leadingShare}
 use Rattle.depths.proofs.condition.leading_share.Statement.{statement}
 use Rattle.depths.proofs.condition.leading_share.Tie as tie
 
-folded-scale-requires : tie.Need-folded-scale-requires
-folded-scale-requires c κs = search needs
-
 returns : tie.Need-returns
 unfolding leadingShare
 returns c = rw (← c .before .folded-scale .ensures, c .if1 .taken)
 
-is-finite-requires : tie.Need-is-finite-requires
-is-finite-requires c κs = search needs
-
 returns-2 : tie.Need-returns-2
 unfolding leadingShare
 returns-2 c = rw (← c .before .before .before .folded-scale .ensures, c .before .before .if1 .left, ← c .before .is-finite .ensures, not-true (c .before .is-finite .result) (c .if2 .taken))
-
-abs-requires : tie.Need-abs-requires
-abs-requires c κs = search needs
 
 returns-3 : tie.Need-returns-3
 unfolding leadingShare
@@ -28,5 +19,4 @@ returns-3 c = rw (← c .before .before .before .before .folded-scale .ensures, 
 
 pub leading-share-spec : {M : Type 1} → statement M
 leading-share-spec =
-    tie.close
-    (tie.spec folded-scale-requires returns is-finite-requires returns-2 abs-requires returns-3)
+    tie.close (tie.spec (λ c _. search needs) returns (λ c _. search needs) returns-2 (λ c _. search needs) returns-3)

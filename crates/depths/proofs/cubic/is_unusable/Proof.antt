@@ -5,18 +5,9 @@ use Rattle.depths.specs.Cubic.{isUnusable}
 use Rattle.depths.proofs.cubic.is_unusable.Statement.{statement}
 use Rattle.depths.proofs.cubic.is_unusable.Tie as tie
 
-coefficient-scale-requires : tie.Need-coefficient-scale-requires
-coefficient-scale-requires c κs = search needs
-
-is-finite-requires : tie.Need-is-finite-requires
-is-finite-requires c κs = search needs
-
 returns : tie.Need-returns
 unfolding isUnusable
 returns c = rw (← c .before .before .coefficient-scale .ensures, ← c .before .is-finite .ensures, not-true (c .before .is-finite .result) (c .if1 .taken))
-
-abs-requires : tie.Need-abs-requires
-abs-requires c κs = search needs
 
 returns-2 : tie.Need-returns-2
 unfolding isUnusable
@@ -24,5 +15,4 @@ returns-2 c = rw (← c .before .before .before .coefficient-scale .ensures, ←
 
 pub is-unusable-spec : {M : Type 1} → statement M
 is-unusable-spec =
-    tie.close
-    (tie.spec coefficient-scale-requires is-finite-requires returns abs-requires returns-2)
+    tie.close (tie.spec (λ c _. search needs) (λ c _. search needs) returns (λ c _. search needs) returns-2)

@@ -4,21 +4,9 @@ use Rattle.eigen.specs.EigenPair.{byMagnitude}
 use Rattle.eigen.proofs.eigenvalues.by_magnitude.Statement.{statement}
 use Rattle.eigen.proofs.eigenvalues.by_magnitude.Tie as tie
 
-abs-requires : tie.Need-abs-requires
-abs-requires c κs = search needs
-
-abs-requires-2 : tie.Need-abs-requires-2
-abs-requires-2 c κs = search needs
-
-nonzero-pair-requires : tie.Need-nonzero-pair-requires
-nonzero-pair-requires c κs = search needs
-
 returns : tie.Need-returns
 unfolding byMagnitude
 returns c = rw (← c .before .before .before .abs .ensures, ← c .before .before .abs2 .ensures, c .before .if1 .taken, ← c .nonzero-pair .ensures)
-
-nonzero-pair-requires-2 : tie.Need-nonzero-pair-requires-2
-nonzero-pair-requires-2 c κs = search needs
 
 returns-2 : tie.Need-returns-2
 unfolding byMagnitude
@@ -26,11 +14,5 @@ returns-2 c = rw (← c .before .before .before .abs .ensures, ← c .before .be
 
 pub by-magnitude-spec : {M : Type 1} → statement M
 by-magnitude-spec =
-    tie.close
-    (tie.spec
-    abs-requires
-    abs-requires-2
-    nonzero-pair-requires
-    returns
-    nonzero-pair-requires-2
+    tie.close (tie.spec (λ c _. search needs) (λ c _. search needs) (λ c _. search needs) returns (λ c _. search needs)
     returns-2)

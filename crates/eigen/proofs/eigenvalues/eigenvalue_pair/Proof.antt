@@ -5,24 +5,9 @@ use Rattle.eigen.specs.EigenPair.{eigenvaluePair, pairOfRoots}
 use Rattle.eigen.proofs.eigenvalues.eigenvalue_pair.Statement.{statement}
 use Rattle.eigen.proofs.eigenvalues.eigenvalue_pair.Tie as tie
 
-trace-requires : tie.Need-trace-requires
-trace-requires c κs = search needs
-
-pair-coefficient-requires : tie.Need-pair-coefficient-requires
-pair-coefficient-requires c κs = search needs
-
-quadratic-real-monic-requires : tie.Need-quadratic-real-monic-requires
-quadratic-real-monic-requires c κs = search needs
-
-enum-known-first : tie.Need-enum-known-first
-enum-known-first c = search needs
-
 returns : tie.Need-returns
 unfolding eigenvaluePair pairOfRoots
 returns c = rw (← c .before .before .before .trace .ensures, ← c .before .before .pair-coefficient .ensures, ← c .before .quadratic-real-monic .ensures) (no-pair (c .before .quadratic-real-monic .result) (c .match .keys2))
-
-by-magnitude-requires : tie.Need-by-magnitude-requires
-by-magnitude-requires c κs = search needs
 
 returns-2 : tie.Need-returns-2
 unfolding eigenvaluePair pairOfRoots
@@ -30,12 +15,5 @@ returns-2 c = rw (← c .before .before .before .before .before .before .trace .
 
 pub eigenvalue-pair-spec : {M : Type 1} → statement M
 eigenvalue-pair-spec =
-    tie.close
-    (tie.spec
-    trace-requires
-    pair-coefficient-requires
-    quadratic-real-monic-requires
-    enum-known-first
-    returns
-    by-magnitude-requires
-    returns-2)
+    tie.close (tie.spec (λ c _. search needs) (λ c _. search needs) (λ c _. search needs) (λ c. search needs) returns
+    (λ c _. search needs) returns-2)

@@ -5,12 +5,6 @@ use Rattle.eigen.specs.EigenvectorOf.{eigenvectorByDivision, ifFinite}
 use Rattle.eigen.proofs.eigenvector.eigenvector_by_division.Statement.{statement}
 use Rattle.eigen.proofs.eigenvector.eigenvector_by_division.Tie as tie
 
-sqrt-requires : tie.Need-sqrt-requires
-sqrt-requires c κs = search needs
-
-all-finite-requires : tie.Need-all-finite-requires
-all-finite-requires c κs = search needs
-
 returns : tie.Need-returns
 unfolding eigenvectorByDivision ifFinite
 returns c = rw (← c .before .before .sqrt .ensures, ← c .before .all-finite .ensures, not-true (c .before .all-finite .result) (c .if1 .taken))
@@ -21,4 +15,4 @@ returns-2 c = rw (← c .before .before .sqrt .ensures, ← c .before .all-finit
 
 pub eigenvector-by-division-spec : {M : Type 1} → statement M
 eigenvector-by-division-spec =
-    tie.close (tie.spec sqrt-requires all-finite-requires returns returns-2)
+    tie.close (tie.spec (λ c _. search needs) (λ c _. search needs) returns returns-2)

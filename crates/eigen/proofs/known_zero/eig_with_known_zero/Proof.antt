@@ -5,41 +5,17 @@ use Rattle.eigen.specs.KnownZero.{eigWithKnownZero, orNotFound, orNoPair
 use Rattle.eigen.proofs.known_zero.eig_with_known_zero.Statement.{statement}
 use Rattle.eigen.proofs.known_zero.eig_with_known_zero.Tie as tie
 
-all-finite-requires : tie.Need-all-finite-requires
-all-finite-requires c κs = search needs
-
 returns : tie.Need-returns
 unfolding eigWithKnownZero orNotFound orNoPair
 returns c = rw (← c .before .all-finite .ensures, not-true (c .before .all-finite .result) (c .if1 .taken))
-
-zero-vector-requires : tie.Need-zero-vector-requires
-zero-vector-requires c κs = search needs
-
-enum-known-zero : tie.Need-enum-known-zero
-enum-known-zero c = search needs
-
-enum-told : tie.Need-enum-told
-enum-told c = search needs
 
 returns-2 : tie.Need-returns-2
 unfolding eigWithKnownZero orNotFound orNoPair
 returns-2 c = rw (← c .before .before .before .before .all-finite .ensures, not-false (c .before .before .before .before .all-finite .result) (c .before .before .before .if1 .left), ← c .before .before .zero-vector .ensures, c .enum-told .given .1)
 
-eigenvalue-pair-requires : tie.Need-eigenvalue-pair-requires
-eigenvalue-pair-requires c κs = search needs
-
-enum-known-first : tie.Need-enum-known-first
-enum-known-first c = search needs
-
-enum-told-2 : tie.Need-enum-told-2
-enum-told-2 c = search needs
-
 returns-3 : tie.Need-returns-3
 unfolding eigWithKnownZero orNotFound orNoPair
 returns-3 c = rw (← c .before .before .before .before .before .before .before .before .before .all-finite .ensures, not-false (c .before .before .before .before .before .before .before .before .before .all-finite .result) (c .before .before .before .before .before .before .before .before .if1 .left), ← c .before .before .before .before .before .before .before .zero-vector .ensures, c .before .before .before .before .before .zero .given .1, ← c .before .before .eigenvalue-pair .ensures, c .enum-told2 .given .1)
-
-system-of-pair-requires : tie.Need-system-of-pair-requires
-system-of-pair-requires c κs = search needs
 
 returns-4 : tie.Need-returns-4
 unfolding eigWithKnownZero orNotFound orNoPair
@@ -47,17 +23,5 @@ returns-4 c = rw (← c .before .before .before .before .before .before .before 
 
 pub eig-with-known-zero-spec : {M : Type 1} → statement M
 eig-with-known-zero-spec =
-    tie.close
-    (tie.spec
-    all-finite-requires
-    returns
-    zero-vector-requires
-    enum-known-zero
-    enum-told
-    returns-2
-    eigenvalue-pair-requires
-    enum-known-first
-    enum-told-2
-    returns-3
-    system-of-pair-requires
-    returns-4)
+    tie.close (tie.spec (λ c _. search needs) returns (λ c _. search needs) (λ c. search needs) (λ c. search needs) returns-2
+    (λ c _. search needs) (λ c. search needs) (λ c. search needs) returns-3 (λ c _. search needs) returns-4)

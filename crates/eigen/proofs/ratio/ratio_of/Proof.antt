@@ -5,9 +5,6 @@ use Rattle.eigen.specs.RatioOf.{ratioOf}
 use Rattle.eigen.proofs.ratio.ratio_of.Statement.{statement}
 use Rattle.eigen.proofs.ratio.ratio_of.Tie as tie
 
-is-finite-requires : tie.Need-is-finite-requires
-is-finite-requires c κs = search needs
-
 returns : tie.Need-returns
 unfolding ratioOf
 returns c = rw (← c .before .is-finite .ensures, not-true (c .before .is-finite .result) (c .if1 .taken))
@@ -16,16 +13,10 @@ returns-2 : tie.Need-returns-2
 unfolding ratioOf
 returns-2 c = rw (← c .before .before .is-finite .ensures, not-false (c .before .before .is-finite .result) (c .before .if1 .left), c .if2 .taken)
 
-max-requires : tie.Need-max-requires
-max-requires c κs = search needs
-
-sqrt-requires : tie.Need-sqrt-requires
-sqrt-requires c κs = search needs
-
 returns-3 : tie.Need-returns-3
 unfolding ratioOf
 returns-3 c = rw (← c .before .before .before .before .is-finite .ensures, not-false (c .before .before .before .before .is-finite .result) (c .before .before .before .if1 .left), c .before .before .if2 .left, ← c .before .max .ensures, ← c .sqrt .ensures)
 
 pub ratio-of-spec : {M : Type 1} → statement M
 ratio-of-spec =
-    tie.close (tie.spec is-finite-requires returns returns-2 max-requires sqrt-requires returns-3)
+    tie.close (tie.spec (λ c _. search needs) returns returns-2 (λ c _. search needs) (λ c _. search needs) returns-3)

@@ -4,15 +4,6 @@ use Rattle.eigen.specs.RowCrosses.{unitVector}
 use Rattle.eigen.proofs.row_crosses.unit_vector.Statement.{statement}
 use Rattle.eigen.proofs.row_crosses.unit_vector.Tie as tie
 
-norm-requires : tie.Need-norm-requires
-norm-requires c κs = search needs
-
-div-requires : tie.Need-div-requires
-div-requires c κs = search needs
-
-is-finite-requires : tie.Need-is-finite-requires
-is-finite-requires c κs = search needs
-
 returns : tie.Need-returns
 unfolding unitVector
 returns c = rw (← c .before .before .before .before .norm .ensures, ← c .before .before .before .div .ensures, c .before .before .if1 .taken, ← c .before .is-finite .ensures, c .if2 .taken)
@@ -27,4 +18,4 @@ returns-3 c = rw (← c .before .before .norm .ensures, ← c .before .div .ensu
 
 pub unit-vector-spec : {M : Type 1} → statement M
 unit-vector-spec =
-    tie.close (tie.spec norm-requires div-requires is-finite-requires returns returns-2 returns-3)
+    tie.close (tie.spec (λ c _. search needs) (λ c _. search needs) (λ c _. search needs) returns returns-2 returns-3)

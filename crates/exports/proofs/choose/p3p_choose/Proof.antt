@@ -6,33 +6,6 @@ use Rattle.exports.proofs.ChooseLent.{as-chosen}
 use Rattle.exports.proofs.choose.p3p_choose.Statement.{statement}
 use Rattle.exports.proofs.choose.p3p_choose.Tie as tie
 
-pose-at-requires : tie.Need-pose-at-requires
-pose-at-requires c κs = search needs
-
-pose-at-requires-2 : tie.Need-pose-at-requires-2
-pose-at-requires-2 c κs = search needs
-
-pose-at-requires-3 : tie.Need-pose-at-requires-3
-pose-at-requires-3 c κs = search needs
-
-pose-at-requires-4 : tie.Need-pose-at-requires-4
-pose-at-requires-4 c κs = search needs
-
-vector-at-requires : tie.Need-vector-at-requires
-vector-at-requires c κs = search needs
-
-vector-at-requires-2 : tie.Need-vector-at-requires-2
-vector-at-requires-2 c κs = search needs
-
-choose-requires : tie.Need-choose-requires
-choose-requires c κs = search needs
-
-enum-known-choice : tie.Need-enum-known-choice
-enum-known-choice c = search needs
-
-enum-known-choice-2 : tie.Need-enum-known-choice-2
-enum-known-choice-2 c = search needs
-
 -- the choice that was made is the one of the definition
 found : (c : tie.After-choose) → c .choose .result ≡ chosen (c .before .before .before .before .before .before .before .before .before .args .poses .now) (c .before .before .before .before .before .before .before .before .before .args .count) (c .before .before .before .before .before .before .before .before .before .args .target .now) (c .before .before .before .before .before .before .before .before .before .args .bearing .now)
 found c =
@@ -47,16 +20,6 @@ returns-2 c = rw (← found (c .before .before .before), c .before .choice2 .giv
 
 pub p3p-choose-spec : {M : Type 1} → statement M
 p3p-choose-spec =
-    tie.close
-    (tie.spec
-    pose-at-requires
-    pose-at-requires-2
-    pose-at-requires-3
-    pose-at-requires-4
-    vector-at-requires
-    vector-at-requires-2
-    choose-requires
-    enum-known-choice
-    enum-known-choice-2
-    returns
-    returns-2)
+    tie.close (tie.spec (λ c _. search needs) (λ c _. search needs) (λ c _. search needs) (λ c _. search needs)
+    (λ c _. search needs) (λ c _. search needs) (λ c _. search needs) (λ c. search needs) (λ c. search needs)
+    returns returns-2)

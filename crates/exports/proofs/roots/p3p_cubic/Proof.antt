@@ -4,18 +4,6 @@ use mathlib.Core.Path.{refl}
 use Rattle.exports.proofs.roots.p3p_cubic.Statement.{statement}
 use Rattle.exports.proofs.roots.p3p_cubic.Tie as tie
 
-polished-cubic-root-requires : tie.Need-polished-cubic-root-requires
-polished-cubic-root-requires c κs = search needs
-
-enum-known-roots : tie.Need-enum-known-roots
-enum-known-roots c = search needs
-
-enum-known-roots-2 : tie.Need-enum-known-roots-2
-enum-known-roots-2 c = search needs
-
-enum-known-roots-3 : tie.Need-enum-known-roots-3
-enum-known-roots-3 c = search needs
-
 returns : tie.Need-returns
 returns c = rw (← c .before .before .before .polished-cubic-root .ensures, c .before .roots .given .1) (refl, refl)
 
@@ -27,12 +15,5 @@ returns-3 c = rw (← c .before .before .before .polished-cubic-root .ensures, c
 
 pub p3p-cubic-spec : {M : Type 1} → statement M
 p3p-cubic-spec =
-    tie.close
-    (tie.spec
-    polished-cubic-root-requires
-    enum-known-roots
-    enum-known-roots-2
-    enum-known-roots-3
-    returns
-    returns-2
+    tie.close (tie.spec (λ c _. search needs) (λ c. search needs) (λ c. search needs) (λ c. search needs) returns returns-2
     returns-3)

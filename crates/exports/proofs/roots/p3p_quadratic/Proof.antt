@@ -4,18 +4,6 @@ use mathlib.Core.Path.{refl}
 use Rattle.exports.proofs.roots.p3p_quadratic.Statement.{statement}
 use Rattle.exports.proofs.roots.p3p_quadratic.Tie as tie
 
-quadratic-real-monic-requires : tie.Need-quadratic-real-monic-requires
-quadratic-real-monic-requires c κs = search needs
-
-enum-known-roots : tie.Need-enum-known-roots
-enum-known-roots c = search needs
-
-enum-known-roots-2 : tie.Need-enum-known-roots-2
-enum-known-roots-2 c = search needs
-
-enum-known-roots-3 : tie.Need-enum-known-roots-3
-enum-known-roots-3 c = search needs
-
 returns : tie.Need-returns
 returns c = rw (← c .before .before .before .quadratic-real-monic .ensures, c .before .roots .given .1) (refl, (refl, refl))
 
@@ -27,12 +15,5 @@ returns-3 c = rw (← c .before .before .before .quadratic-real-monic .ensures, 
 
 pub p3p-quadratic-spec : {M : Type 1} → statement M
 p3p-quadratic-spec =
-    tie.close
-    (tie.spec
-    quadratic-real-monic-requires
-    enum-known-roots
-    enum-known-roots-2
-    enum-known-roots-3
-    returns
-    returns-2
+    tie.close (tie.spec (λ c _. search needs) (λ c. search needs) (λ c. search needs) (λ c. search needs) returns returns-2
     returns-3)

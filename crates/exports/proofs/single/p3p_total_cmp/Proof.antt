@@ -3,18 +3,6 @@ use borrow.Author.Needs.{needs}
 use Rattle.exports.proofs.single.p3p_total_cmp.Statement.{statement}
 use Rattle.exports.proofs.single.p3p_total_cmp.Tie as tie
 
-total-cmp-requires : tie.Need-total-cmp-requires
-total-cmp-requires c κs = search needs
-
-enum-told : tie.Need-enum-told
-enum-told c = search needs
-
-enum-told-2 : tie.Need-enum-told-2
-enum-told-2 c = search needs
-
-enum-told-3 : tie.Need-enum-told-3
-enum-told-3 c = search needs
-
 returns : tie.Need-returns
 returns c = rw (← c .before .before .total-cmp .ensures, c .enum-told .given .1)
 
@@ -26,5 +14,5 @@ returns-3 c = rw (← c .before .before .total-cmp .ensures, c .enum-told3 .give
 
 pub p3p-total-cmp-spec : {M : Type 1} → statement M
 p3p-total-cmp-spec =
-    tie.close
-    (tie.spec total-cmp-requires enum-told enum-told-2 enum-told-3 returns returns-2 returns-3)
+    tie.close (tie.spec (λ c _. search needs) (λ c. search needs) (λ c. search needs) (λ c. search needs) returns returns-2
+    returns-3)

@@ -7,15 +7,6 @@ use Rattle.exports.proofs.SolveLent.{as-solved, when-refused, when-answ
 use Rattle.exports.proofs.solve.p3p_solve.Statement.{statement}
 use Rattle.exports.proofs.solve.p3p_solve.Tie as tie
 
-world-of-requires : tie.Need-world-of-requires
-world-of-requires c κs = search needs
-
-bearings-of-requires : tie.Need-bearings-of-requires
-bearings-of-requires c κs = search needs
-
-solve-requires : tie.Need-solve-requires
-solve-requires c κs = search needs
-
 returns : tie.Need-returns
 unfolding posesAfter updatesAfter countAfter
 returns c =
@@ -24,21 +15,6 @@ returns c =
     let found = as-solved (start .args .input .now) (after .before .before .world-of .ensures) (after .before .bearings-of .ensures) (after .solve .ensures) in
     let number = c .if1 .taken in
     rw (← found) (refl, (when-refused _ _ number, (when-refused _ _ number, when-refused _ _ number)))
-
-array-copy-out-p0 : tie.Need-array-copy-out-p0
-array-copy-out-p0 c = search needs
-
-array-copy-out-p1 : tie.Need-array-copy-out-p1
-array-copy-out-p1 c = search needs
-
-array-copy-out-p2 : tie.Need-array-copy-out-p2
-array-copy-out-p2 c = search needs
-
-array-copy-out-p3 : tie.Need-array-copy-out-p3
-array-copy-out-p3 c = search needs
-
-all-entries-requires : tie.Need-all-entries-requires
-all-entries-requires c κs = search needs
 
 returns-2 : tie.Need-returns-2
 unfolding posesAfter updatesAfter countAfter
@@ -53,15 +29,5 @@ returns-2 c =
 
 pub p3p-solve-spec : {M : Type 1} → statement M
 p3p-solve-spec =
-    tie.close
-    (tie.spec
-    world-of-requires
-    bearings-of-requires
-    solve-requires
-    returns
-    array-copy-out-p0
-    array-copy-out-p1
-    array-copy-out-p2
-    array-copy-out-p3
-    all-entries-requires
-    returns-2)
+    tie.close (tie.spec (λ c _. search needs) (λ c _. search needs) (λ c _. search needs) returns (λ c. search needs)
+    (λ c. search needs) (λ c. search needs) (λ c. search needs) (λ c _. search needs) returns-2)

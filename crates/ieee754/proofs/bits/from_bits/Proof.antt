@@ -15,8 +15,6 @@ returns c = zero-over-zero ∙ sym (nan-of _ (ne-self _ ∙ sym (nanBits-is bina
 float-from-bits-result : tie.Need-float-from-bits-result
 float-from-bits-result c = rw (nanBits-above binary64 (c .before .args .pattern)) (le→nltb _ _ (c .if1 .left))
 
-returns-2 : tie.Need-returns-2
-returns-2 c = search needs
-
 pub from-bits-spec : {M : Type 1} → statement M
-from-bits-spec = tie.close (tie.spec returns float-from-bits-result returns-2)
+from-bits-spec =
+    tie.close (tie.spec returns float-from-bits-result (λ c. search needs))

@@ -16,8 +16,6 @@ returns c = nan-bits ∙ sym (ap (toBits binary64) (nan-of (c .before .args .x) 
 float-to-bits-result : tie.Need-float-to-bits-result
 float-to-bits-result c = not-nan (c .before .args .x) (c .if1 .left)
 
-returns-2 : tie.Need-returns-2
-returns-2 c = search needs
-
 pub to-bits-spec : {M : Type 1} → statement M
-to-bits-spec = tie.close (tie.spec returns float-to-bits-result returns-2)
+to-bits-spec =
+    tie.close (tie.spec returns float-to-bits-result (λ c. search needs))

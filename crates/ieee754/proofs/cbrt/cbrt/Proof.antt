@@ -16,17 +16,12 @@ itself nan h = refl
 itself (inf s) h = refl
 itself (fin s m e) h = absurd h
 
-is-finite-requires : tie.Need-is-finite-requires
-is-finite-requires c κs = search needs
-
 cbrt-finite-requires : tie.Need-cbrt-finite-requires
 cbrt-finite-requires c κs = answered (c .before .is-finite .ensures) (c .if1 .taken)
-
-returns : tie.Need-returns
-returns c = search needs
 
 returns-2 : tie.Need-returns-2
 returns-2 c = itself (c .before .before .args .x) (denied (c .before .is-finite .ensures) (c .if1 .left))
 
 pub cbrt-spec : {M : Type 1} → statement M
-cbrt-spec = tie.close (tie.spec is-finite-requires cbrt-finite-requires returns returns-2)
+cbrt-spec =
+    tie.close (tie.spec (λ c _. search needs) cbrt-finite-requires (λ c. search needs) returns-2)

@@ -9,9 +9,6 @@ use Rattle.ieee754.proofs.Exponent.{normal-value, normal-pos}
 use Rattle.ieee754.proofs.cbrt.cbrt_finite.Statement.{statement}
 use Rattle.ieee754.proofs.cbrt.cbrt_finite.Tie as tie
 
-unpack-requires : tie.Need-unpack-requires
-unpack-requires c κs = search needs
-
 returns : tie.Need-returns
 returns c =
     let u = c .before .before in
@@ -20,9 +17,6 @@ returns c =
 
 normalise-requires : tie.Need-normalise-requires
 normalise-requires c κs = (c .before .before .unpack .ensures .digits, pos-of-ne-zero (c .if1 .left))
-
-scaled-requires : tie.Need-scaled-requires
-scaled-requires c κs = search needs
 
 returns-2 : tie.Need-returns-2
 returns-2 c =
@@ -35,4 +29,5 @@ returns-2 c =
     ∙ sym (cbrt-of x (a .negative) (n .result .sig * 2 ^ n .result .exp) (2 ^ 1126) (normal-pos x (a .negative) (a .sig) (a .exp) (n .result) is (n .ensures)) (lit< tt) (normal-value x (a .negative) (a .sig) (a .exp) (n .result) is (n .ensures)))
 
 pub cbrt-finite-spec : {M : Type 1} → statement M
-cbrt-finite-spec = tie.close (tie.spec unpack-requires returns normalise-requires scaled-requires returns-2)
+cbrt-finite-spec =
+    tie.close (tie.spec (λ c _. search needs) returns normalise-requires (λ c _. search needs) returns-2)

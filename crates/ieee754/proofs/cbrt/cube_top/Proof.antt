@@ -39,12 +39,6 @@ sum-lt h l u t x y a b d e f =
     let p : x * y < 2 ^ 108 = product-lt 54 54 a b in
     high-below 53 64 h l (u + (0 * 2 ^ 64 + t)) e (omega arith)
 
-product-requires : tie.Need-product-requires
-product-requires c κs = search needs
-
-product-requires-2 : tie.Need-product-requires-2
-product-requires-2 c κs = search needs
-
 -- the digits from 2 ^ 54 on of the square, and of the low part times h
 square-upper : (c : tie.After-shift-right) → c .shift-right .result < 2 ^ 54
 square-upper c =
@@ -102,4 +96,6 @@ returns c =
     (c .shift-right3 .ensures ∙ ap (λ (x : ℕ). x / 2 ^ 53) (w .add-wide .ensures ∙ ap (λ (x : ℕ). x + (0 * 2 ^ 64 + w .before .shift-right2 .result)) (d .product3 .ensures)))
 
 pub cube-top-spec : {M : Type 1} → statement M
-cube-top-spec = tie.close (tie.spec product-requires product-requires-2 shift-right-requires product-requires-3 shift-right-requires-2 add-wide-requires shift-right-requires-3 returns)
+cube-top-spec =
+    tie.close (tie.spec (λ c _. search needs) (λ c _. search needs) shift-right-requires product-requires-3
+    shift-right-requires-2 add-wide-requires shift-right-requires-3 returns)

@@ -5,15 +5,6 @@ use Rattle.ieee754.proofs.Exponent.{moved-range, moved-nearest}
 use Rattle.ieee754.proofs.cbrt.nearest.Statement.{statement}
 use Rattle.ieee754.proofs.cbrt.nearest.Tie as tie
 
-shl-n : tie.Need-shl-n
-shl-n c = search needs
-
-guess-requires : tie.Need-guess-requires
-guess-requires c κs = search needs
-
-settled-requires : tie.Need-settled-requires
-settled-requires c κs = search needs
-
 by-halving-requires : tie.Need-by-halving-requires
 by-halving-requires c κs = let s = c .before .before .before in moved-range 3 (s .args .m) (s .args .t) (s .pre .0) (s .pre .1) (s .pre .2) (lit≤ tt)
 
@@ -24,4 +15,6 @@ returns-2 : tie.Need-returns-2
 returns-2 c = let s = c .before .before .before in moved-nearest 3 (s .args .m) (s .args .t) (s .pre .0) (s .pre .1) (s .pre .2) (lit≤ tt) (c .before .settled .ensures (c .if1 .left))
 
 pub nearest-spec : {M : Type 1} → statement M
-nearest-spec = tie.close (tie.spec shl-n guess-requires settled-requires by-halving-requires returns returns-2)
+nearest-spec =
+    tie.close (tie.spec (λ c. search needs) (λ c _. search needs) (λ c _. search needs) by-halving-requires returns
+    returns-2)

@@ -13,44 +13,11 @@ use Rattle.ieee754.proofs.cbrt.settled.Tie as tie
 between : (n q : ℕ) {a b x y : ℕ} → a ≡ cubeTop x → b ≡ cubeTop y → x ≡ 2 * q - 1 → y ≡ 2 * q + 1 → a < n → n ≤ b → IsNearest 3 (n * 2 ^ 104) q
 between n q e f g h l r = nearest-cube n q (lt-of-le-of-lt (le-of-eq (sym (e ∙ ap cubeTop g))) l) (le-trans r (le-of-eq (f ∙ ap cubeTop h)))
 
-mul-cube-top : tie.Need-mul-cube-top
-mul-cube-top c = search needs
-
-add-cube-top : tie.Need-add-cube-top
-add-cube-top c = search needs
-
-cube-top-requires : tie.Need-cube-top-requires
-cube-top-requires c κs = search needs
-
-mul-cube-top-2 : tie.Need-mul-cube-top-2
-mul-cube-top-2 c = search needs
-
-add-cube-top-2 : tie.Need-add-cube-top-2
-add-cube-top-2 c = search needs
-
-cube-top-requires-2 : tie.Need-cube-top-requires-2
-cube-top-requires-2 c κs = search needs
-
-add-result : tie.Need-add-result
-add-result c = search needs
-
 returns : tie.Need-returns
 returns c =
     λ _.
     let s = c .before .before .before .before in
     between (s .args .n) (s .args .q + 1) (c .before .before .before .cube-top .ensures) (c .before .cube-top2 .ensures) (omega arith) (omega arith) (c .before .before .if1 .taken) (c .if2 .taken)
-
-returns-2 : tie.Need-returns-2
-returns-2 c = search needs
-
-mul-cube-top-3 : tie.Need-mul-cube-top-3
-mul-cube-top-3 c = search needs
-
-sub-cube-top : tie.Need-sub-cube-top
-sub-cube-top c = search needs
-
-cube-top-requires-3 : tie.Need-cube-top-requires-3
-cube-top-requires-3 c κs = search needs
 
 returns-3 : tie.Need-returns-3
 returns-3 c =
@@ -76,29 +43,9 @@ returns-4 c =
     let s = c .before .before .before .before .before .before in
     between (s .args .n) (s .args .q - 1) (c .before .cube-top4 .ensures) (c .before .before .before .cube-top3 .ensures) (omega (arith, s .pre)) (omega (arith, s .pre)) (c .if4 .taken) (c .before .before .if3 .left)
 
-returns-5 : tie.Need-returns-5
-returns-5 c = search needs
-
 pub settled-spec : {M : Type 1} → statement M
 settled-spec =
-    tie.close
-    (tie.spec
-    mul-cube-top
-    add-cube-top
-    cube-top-requires
-    mul-cube-top-2
-    add-cube-top-2
-    cube-top-requires-2
-    add-result
-    returns
-    returns-2
-    mul-cube-top-3
-    sub-cube-top
-    cube-top-requires-3
-    returns-3
-    mul-cube-top-4
-    sub-cube-top-2
-    cube-top-requires-4
-    sub-result
-    returns-4
-    returns-5)
+    tie.close (tie.spec (λ c. search needs) (λ c. search needs) (λ c _. search needs) (λ c. search needs) (λ c. search needs)
+    (λ c _. search needs) (λ c. search needs) returns (λ c. search needs) (λ c. search needs) (λ c. search needs)
+    (λ c _. search needs) returns-3 mul-cube-top-4 sub-cube-top-2 cube-top-requires-4 sub-result returns-4
+    (λ c. search needs))

@@ -4,9 +4,6 @@ use Rattle.ieee754.specs.Clamp.{clamp}
 use Rattle.ieee754.proofs.clamp.clamp.Statement.{statement}
 use Rattle.ieee754.proofs.clamp.clamp.Tie as tie
 
-raised-requires : tie.Need-raised-requires
-raised-requires c κs = search needs
-
 returns : tie.Need-returns
 unfolding clamp
 returns c = rw (← c .before .raised .ensures, c .if1 .taken)
@@ -16,4 +13,5 @@ unfolding clamp
 returns-2 c = rw (← c .before .raised .ensures, c .if1 .left)
 
 pub clamp-spec : {M : Type 1} → statement M
-clamp-spec = tie.close (tie.spec raised-requires returns returns-2)
+clamp-spec =
+    tie.close (tie.spec (λ c _. search needs) returns returns-2)

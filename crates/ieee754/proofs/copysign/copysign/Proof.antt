@@ -20,15 +20,6 @@ plus nan y h = refl
 plus (inf s) y h = rw h
 plus (fin s m e) y h = rw h
 
-negative-requires : tie.Need-negative-requires
-negative-requires c κs = search needs
-
-abs-requires : tie.Need-abs-requires
-abs-requires c κs = search needs
-
-abs-requires-2 : tie.Need-abs-requires-2
-abs-requires-2 c κs = search needs
-
 returns : tie.Need-returns
 returns c = ap neg (c .abs .ensures) ∙ minus _ _ (sym (c .before .before .negative .ensures) ∙ c .before .if1 .taken)
 
@@ -37,4 +28,4 @@ returns-2 c = c .abs2 .ensures ∙ plus _ _ (sym (c .before .before .negative .e
 
 pub copysign-spec : {M : Type 1} → statement M
 copysign-spec =
-    tie.close (tie.spec negative-requires abs-requires abs-requires-2 returns returns-2)
+    tie.close (tie.spec (λ c _. search needs) (λ c _. search needs) (λ c _. search needs) returns returns-2)

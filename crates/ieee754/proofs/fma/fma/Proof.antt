@@ -31,15 +31,6 @@ factor (fin s m e) nan z a = refl
 factor (fin s m e) (inf t) z a = refl
 factor (fin s m e) (fin t n d) z a = absurd a
 
-is-finite-requires : tie.Need-is-finite-requires
-is-finite-requires c κs = search needs
-
-is-finite-requires-2 : tie.Need-is-finite-requires-2
-is-finite-requires-2 c κs = search needs
-
-is-finite-requires-3 : tie.Need-is-finite-requires-3
-is-finite-requires-3 c κs = search needs
-
 -- what is known where all three were asked
 x-finite : (c : tie.After-is-finite3) → T (finite (c .before .before .before .before .before .args .x))
 x-finite c = answered (c .before .before .before .before .is-finite .ensures) (c .before .before .before .if1 .taken)
@@ -49,9 +40,6 @@ y-finite c = answered (c .before .before .is-finite2 .ensures) (c .before .if2 .
 
 fma-finite-requires : tie.Need-fma-finite-requires
 fma-finite-requires c κs = (x-finite (c .before), (y-finite (c .before), answered (c .before .is-finite3 .ensures) (c .if3 .taken)))
-
-returns : tie.Need-returns
-returns c = search needs
 
 returns-2 : tie.Need-returns-2
 returns-2 c =
@@ -68,4 +56,6 @@ returns-3 c =
     (λ w. not-both-left (finite x) (finite y) (denied (c .before .is-finite .ensures) (w .left))) (c .if1 .came))
 
 pub fma-spec : {M : Type 1} → statement M
-fma-spec = tie.close (tie.spec is-finite-requires is-finite-requires-2 is-finite-requires-3 fma-finite-requires returns returns-2 returns-3)
+fma-spec =
+    tie.close (tie.spec (λ c _. search needs) (λ c _. search needs) (λ c _. search needs) fma-finite-requires
+    (λ c. search needs) returns-2 returns-3)

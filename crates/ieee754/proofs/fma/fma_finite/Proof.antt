@@ -100,30 +100,6 @@ module _ (m n x y p e : ℕ) (h : p ≡ moved m n) (a : p < 2 ^ 64 → e ≡ 0) 
   even : p % 2 ≡ 0
   even = let f : n * 512 ≡ n * 256 * 2 = omega arith in ap (λ (u : ℕ). u % 2) (h ∙ ap (λ (u : ℕ). m * 512 * u) f ∙ sym (mul-assoc (m * 512) (n * 256) 2)) ∙ mul-mod-left (m * 512 * (n * 256)) 2
 
-unpack-requires : tie.Need-unpack-requires
-unpack-requires c κs = search needs
-
-unpack-requires-2 : tie.Need-unpack-requires-2
-unpack-requires-2 c κs = search needs
-
-mul-product : tie.Need-mul-product
-mul-product c = search needs
-
-mul-product-2 : tie.Need-mul-product-2
-mul-product-2 c = search needs
-
-product-requires : tie.Need-product-requires
-product-requires c κs = search needs
-
-add-product-exp : tie.Need-add-product-exp
-add-product-exp c = search needs
-
-product-exp-requires : tie.Need-product-exp-requires
-product-exp-requires c κs = search needs
-
-unpack-requires-3 : tie.Need-unpack-requires-3
-unpack-requires-3 c κs = search needs
-
 add-leading-requires : tie.Need-add-leading-requires
 add-leading-requires c κs =
     let k = c .before .before .before in
@@ -169,4 +145,7 @@ returns c =
     whole (c .add-leading .result) (s .x) (s .y) (s .z) (a .result .negative) (b .result .negative) (d .result .negative) (p * 2 ^ e .result) x y z (a .ensures .is) (b .ensures .is) (d .ensures .is) is (c .add-leading .ensures)
 
 pub fma-finite-spec : {M : Type 1} → statement M
-fma-finite-spec = tie.close (tie.spec unpack-requires unpack-requires-2 mul-product mul-product-2 product-requires add-product-exp product-exp-requires unpack-requires-3 add-leading-requires returns)
+fma-finite-spec =
+    tie.close (tie.spec (λ c _. search needs) (λ c _. search needs) (λ c. search needs) (λ c. search needs)
+    (λ c _. search needs) (λ c. search needs) (λ c _. search needs) (λ c _. search needs) add-leading-requires
+    returns)

@@ -82,24 +82,6 @@ ordered false x y e = le-of-lt (leb-false y x (sym e))
 shift-right-requires : tie.Need-shift-right-requires
 shift-right-requires c κs = (lit< tt, lit< tt, high-below 62 64 (c .args .p .hi) (c .args .p .lo) (value (c .args .p)) refl (lt-of-lt-of-le (c .pre .0 .short) (lit≤ tt)))
 
-mul-b : tie.Need-mul-b
-mul-b c = search needs
-
-add-a-exp : tie.Need-add-a-exp
-add-a-exp c = search needs
-
-add-b-exp : tie.Need-add-b-exp
-add-b-exp c = search needs
-
-choose-requires : tie.Need-choose-requires
-choose-requires c κs = search needs
-
-choose-requires-2 : tie.Need-choose-requires-2
-choose-requires-2 c κs = search needs
-
-choose-requires-3 : tie.Need-choose-requires-3
-choose-requires-3 c κs = search needs
-
 sub-shift : tie.Need-sub-shift
 sub-shift c =
     let f = c .before .before in
@@ -107,12 +89,6 @@ sub-shift c =
     let x = s .p-exp + 62 in
     let y = s .c .exp + 1083 in
     le-trans (le-of-eq (c .choose3 .ensures)) (le-trans (ordered (leb y x) x y refl) (le-of-eq (sym (f .choose .ensures))))
-
-shift-requires : tie.Need-shift-requires
-shift-requires c κs = search needs
-
-choose-requires-4 : tie.Need-choose-requires-4
-choose-requires-4 c κs = search needs
 
 -- the words have 62 digits at most
 product-short : (p a : ℕ) → p < 2 ^ 124 → a ≡ p / 2 ^ 62 → a < 2 ^ 62
@@ -151,21 +127,12 @@ settle-requires c κs =
     down : (e : ℕ) → e ≤ 2045 → e + 1083 < 4900
     down e h = omega arith
 
-add-scaled-requires : tie.Need-add-scaled-requires
-add-scaled-requires c κs = search needs
-
-choose-sign-requires : tie.Need-choose-sign-requires
-choose-sign-requires c κs = search needs
-
 pack-requires : tie.Need-pack-requires
 pack-requires c κs =
     let n = c .before in
     let w = n .before .before .settle in
     let h = w .ensures (pos-of-ne-zero (n .if1 .left)) in
     (le-of-lt (h .short), λ g. h .full, h .within)
-
-returns : tie.Need-returns
-returns c = search needs
 
 returns-2 : tie.Need-returns-2
 returns-2 c =
@@ -199,5 +166,7 @@ returns-2 c =
 
 pub add-leading-spec : {M : Type 1} → statement M
 add-leading-spec =
-    tie.close
-    (tie.spec shift-right-requires mul-b add-a-exp add-b-exp choose-requires choose-requires-2 choose-requires-3 sub-shift shift-requires choose-requires-4 signed-sum-requires settle-requires add-scaled-requires choose-sign-requires pack-requires returns returns-2)
+    tie.close (tie.spec shift-right-requires (λ c. search needs) (λ c. search needs) (λ c. search needs)
+    (λ c _. search needs) (λ c _. search needs) (λ c _. search needs) sub-shift (λ c _. search needs)
+    (λ c _. search needs) signed-sum-requires settle-requires (λ c _. search needs) (λ c _. search needs)
+    pack-requires (λ c. search needs) returns-2)

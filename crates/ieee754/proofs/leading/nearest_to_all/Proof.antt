@@ -12,23 +12,12 @@ use Rattle.ieee754.proofs.leading.nearest_to_all.Tie as tie
 within : (w m l : ℕ) → let q = (w + m + 512) / 1024 in (w + l) / 1024 ≡ q → l < 512 → (q * 1024 < w + 512) × (w + m < q * 1024 + 512)
 within w m l e h = (omega arith, omega arith)
 
-add-q : tie.Need-add-q
-add-q c = search needs
-
-add-q-2 : tie.Need-add-q-2
-add-q-2 c = search needs
-
-add-if1 : tie.Need-add-if1
-add-if1 c = search needs
-
 returns : tie.Need-returns
 returns c =
     let h = both (c .if1 .taken) in
     let r = within (c .before .args .w) (c .before .args .m) _ (eqb-true _ _ (h .0)) (lit< tt) in
     λ g. (ltb-true _ _ (h .1), r .0, r .1)
 
-returns-2 : tie.Need-returns-2
-returns-2 c = search needs
-
 pub nearest-to-all-spec : {M : Type 1} → statement M
-nearest-to-all-spec = tie.close (tie.spec add-q add-q-2 add-if1 returns returns-2)
+nearest-to-all-spec =
+    tie.close (tie.spec (λ c. search needs) (λ c. search needs) (λ c. search needs) returns (λ c. search needs))

@@ -6,14 +6,9 @@ use lib.Pow.{pow-mono}
 use Rattle.ieee754.proofs.leading.shift.Statement.{statement}
 use Rattle.ieee754.proofs.leading.shift.Tie as tie
 
-shr-result : tie.Need-shr-result
-shr-result c = search needs
-
-returns : tie.Need-returns
-returns c = search needs
-
 returns-2 : tie.Need-returns-2
 returns-2 c = sym (div-eq-of-lt (lt-of-lt-of-le (c .before .fits .w .fits) (pow-mono (c .if1 .left))))
 
 pub shift-spec : {M : Type 1} → statement M
-shift-spec = tie.close (tie.spec shr-result returns returns-2)
+shift-spec =
+    tie.close (tie.spec (λ c. search needs) (λ c. search needs) returns-2)

@@ -14,12 +14,6 @@ like same a b h = rw h (omega arith)
 unlike : (same : Bool) (a b r : ℕ) → same ≡ false → b < 2 ^ 62 → (r + b) % 2 ^ 64 ≡ a → r < 2 ^ 63 → r + cond same 0 b ≡ a + cond same b 0
 unlike same a b r h l e g = let short : r + b < 2 ^ 64 = omega arith in rw h (omega (arith, e, mod-eq-of-lt short))
 
-add-result : tie.Need-add-result
-add-result c = search needs
-
-wrapping-sub-u64-requires : tie.Need-wrapping-sub-u64-requires
-wrapping-sub-u64-requires c κs = search needs
-
 returns : tie.Need-returns
 returns c = let s = c .before .args in λ g. like (s .same) (s .a) (s .b) (c .if1 .taken)
 
@@ -31,4 +25,5 @@ returns-2 c =
     unlike (s .args .same) (s .args .a) (s .args .b) (r .result) (f .if1 .left) (s .pre .1) (r .ensures)
 
 pub signed-sum-spec : {M : Type 1} → statement M
-signed-sum-spec = tie.close (tie.spec add-result wrapping-sub-u64-requires returns returns-2)
+signed-sum-spec =
+    tie.close (tie.spec (λ c. search needs) (λ c _. search needs) returns returns-2)

@@ -22,9 +22,6 @@ returns-4 : tie.Need-returns-4
 unfolding max
 returns-4 c = rw (sym (ne-self _) ∙ c .before .before .before .if1 .left, sym (ne-self _) ∙ c .before .before .if2 .left, c .before .if3 .left, c .if4 .taken)
 
-negative-requires : tie.Need-negative-requires
-negative-requires c κs = search needs
-
 returns-5 : tie.Need-returns-5
 unfolding max
 returns-5 c =
@@ -39,5 +36,4 @@ returns-6 c =
 
 pub max-spec : {M : Type 1} → statement M
 max-spec =
-    tie.close
-    (tie.spec returns returns-2 returns-3 returns-4 negative-requires returns-5 returns-6)
+    tie.close (tie.spec returns returns-2 returns-3 returns-4 (λ c _. search needs) returns-5 returns-6)

@@ -40,9 +40,6 @@ lowest n e l f = ⊎-elim lt-one (λ (g : 1 ≤ e). absurd (not-le-of-lt l (f g)
 count : (c : tie.Else1) → (leadingZeros 64 (c .before .args .sig) ≤ 63) × (12 ≤ leadingZeros 64 (c .before .args .sig))
 count c = zeros (c .before .args .sig) (c .before .pre .1) (c .if1 .left)
 
-add-t6 : tie.Need-add-t6
-add-t6 c = search needs
-
 sub-t7 : tie.Need-sub-t7
 sub-t7 c = omega (arith, count c)
 
@@ -87,4 +84,5 @@ returns-2 c =
     }
 
 pub normalise-spec : {M : Type 1} → statement M
-normalise-spec = tie.close (tie.spec add-t6 sub-t7 cast-t8 shl-t9 cast-t10 sub-t11 returns returns-2)
+normalise-spec =
+    tie.close (tie.spec (λ c. search needs) sub-t7 cast-t8 shl-t9 cast-t10 sub-t11 returns returns-2)

@@ -66,12 +66,6 @@ cast-n c = zeros-fits (c .before .before .before .args .v .hi)
 sub-n : tie.Need-sub-n
 sub-n c = leading-le 64 (c .before .before .before .args .v .hi)
 
-jam-wide-requires : tie.Need-jam-wide-requires
-jam-wide-requires c κs = search needs
-
-add-t9 : tie.Need-add-t9
-add-t9 c = search needs
-
 cast-n-2 : tie.Need-cast-n-2
 cast-n-2 c = zeros-fits (c .before .before .before .before .before .args .v .lo)
 
@@ -126,4 +120,6 @@ returns-3 c =
     }
 
 pub normalise-wide-spec : {M : Type 1} → statement M
-normalise-wide-spec = tie.close (tie.spec cast-n sub-n jam-wide-requires add-t9 cast-n-2 shl-t13 sub-t14 returns returns-2 returns-3)
+normalise-wide-spec =
+    tie.close (tie.spec cast-n sub-n (λ c _. search needs) (λ c. search needs) cast-n-2 shl-t13 sub-t14 returns returns-2
+    returns-3)

@@ -23,18 +23,6 @@ packed s q k r a b e =
     ap (λ (x : ℕ). ofBits binary64 (signBit s + x)) f ∙ units-infinite binary64 q k a b s g)
     (lt-or-ge (k * 2 ^ 52 + q) (2047 * 2 ^ 52))
 
-mul-bits : tie.Need-mul-bits
-mul-bits c = search needs
-
-add-bits : tie.Need-add-bits
-add-bits c = search needs
-
-capped-requires : tie.Need-capped-requires
-capped-requires c κs = search needs
-
-with-sign-requires : tie.Need-with-sign-requires
-with-sign-requires c κs = search needs
-
 returns : tie.Need-returns
 returns c =
     let s = c .before .before in
@@ -42,4 +30,5 @@ returns c =
     c .with-sign .ensures ∙ packed (s .args .negative) (s .args .sig) (s .args .exp) (k .result) (s .pre .0) (s .pre .1) (k .ensures)
 
 pub pack-spec : {M : Type 1} → statement M
-pack-spec = tie.close (tie.spec mul-bits add-bits capped-requires with-sign-requires returns)
+pack-spec =
+    tie.close (tie.spec (λ c. search needs) (λ c. search needs) (λ c _. search needs) (λ c _. search needs) returns)

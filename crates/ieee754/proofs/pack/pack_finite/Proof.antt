@@ -7,12 +7,6 @@ use Rattle.ieee754.proofs.Patterns.{units-finite}
 use Rattle.ieee754.proofs.pack.pack_finite.Statement.{statement}
 use Rattle.ieee754.proofs.pack.pack_finite.Tie as tie
 
-mul-with-sign : tie.Need-mul-with-sign
-mul-with-sign c = search needs
-
-add-with-sign : tie.Need-add-with-sign
-add-with-sign c = search needs
-
 with-sign-requires : tie.Need-with-sign-requires
 with-sign-requires c κs = le-of-lt (c .pre .2)
 
@@ -22,4 +16,5 @@ returns c =
     c .with-sign .ensures ∙ units-finite binary64 (s .args .sig) (s .args .exp) (s .pre .0) (s .pre .1) (s .args .negative) (s .pre .2)
 
 pub pack-finite-spec : {M : Type 1} → statement M
-pack-finite-spec = tie.close (tie.spec mul-with-sign add-with-sign with-sign-requires returns)
+pack-finite-spec =
+    tie.close (tie.spec (λ c. search needs) (λ c. search needs) with-sign-requires returns)

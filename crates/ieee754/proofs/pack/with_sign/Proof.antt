@@ -24,9 +24,6 @@ signed-fits s g b e h = record { fits = omega (arith, sign-le s) }
 no-nan : (s : Bool) (g b : ℕ) → g ≡ signBit s → b ≤ 2047 * 2 ^ 52 → T (not (nanBits binary64 (g + b)))
 no-nan s g b e h = subst (λ (x : ℕ). T (not (nanBits binary64 (x + b)))) (sym e) (no-nan-signed binary64 s b h)
 
-sign-bit-requires : tie.Need-sign-bit-requires
-sign-bit-requires c κs = search needs
-
 add-result : tie.Need-add-result
 add-result c = let s = c .before in signed-fits (s .args .negative) (c .sign-bit .result) (s .args .bits) (c .sign-bit .ensures) (s .pre)
 
@@ -37,4 +34,5 @@ returns : tie.Need-returns
 returns c = ap (λ (g : ℕ). ofBits binary64 (g + c .before .args .bits)) (c .sign-bit .ensures)
 
 pub with-sign-spec : {M : Type 1} → statement M
-with-sign-spec = tie.close (tie.spec sign-bit-requires add-result float-from-bits-result returns)
+with-sign-spec =
+    tie.close (tie.spec (λ c _. search needs) add-result float-from-bits-result returns)

@@ -36,23 +36,11 @@ cut-alike s w e j h i =
     ∙ round-jam binary64 s 1092 e (1081 - e) w (Kept.fine (omega arith))
 
 -- ---- the function
-sub-jam : tie.Need-sub-jam
-sub-jam c = search needs
-
-jam-requires : tie.Need-jam-requires
-jam-requires c κs = search needs
-
-nearest-requires : tie.Need-nearest-requires
-nearest-requires c κs = search needs
-
 pack-requires : tie.Need-pack-requires
 pack-requires c κs =
     let s = c .before .before .before in
     let j = c .before .jam in
     (short (j .result) (c .nearest .result) (cut-lt (s .args .w) (s .args .exp) (j .result) (s .fits .w .fits) (j .ensures)) (c .nearest .ensures), λ h. search needs, search needs)
-
-nearest-requires-2 : tie.Need-nearest-requires-2
-nearest-requires-2 c κs = search needs
 
 raised : (e : ℕ) → 0 < e - 1081 → 1081 < e
 raised e h = omega arith
@@ -82,4 +70,6 @@ returns-2 c =
     ∙ ap (λ (x : ℕ). rounded (s .args .negative) (s .args .w * 2 ^ x)) (sub-add-cancel (n .before .if1 .left))
 
 pub round-pack-spec : {M : Type 1} → statement M
-round-pack-spec = tie.close (tie.spec sub-jam jam-requires nearest-requires pack-requires nearest-requires-2 pack-requires-2 returns returns-2)
+round-pack-spec =
+    tie.close (tie.spec (λ c. search needs) (λ c _. search needs) (λ c _. search needs) pack-requires (λ c _. search needs)
+    pack-requires-2 returns returns-2)

@@ -12,17 +12,8 @@ use Rattle.ieee754.proofs.sqrt.nearest.Tie as tie
 digits-range : (b : ℕ) → (2 ^ 52 ≤ b % 2 ^ 52 + 2 ^ 52) × (b % 2 ^ 52 + 2 ^ 52 < 2 ^ 53)
 digits-range b = rw (add-comm (b % 2 ^ 52) (2 ^ 52)) (field-range b)
 
-shl-n : tie.Need-shl-n
-shl-n c = search needs
-
-guess-requires : tie.Need-guess-requires
-guess-requires c κs = search needs
-
 float-to-bits-digits : tie.Need-float-to-bits-digits
 float-to-bits-digits c = below-not-nan _ _ (c .if1 .taken)
-
-add-digits : tie.Need-add-digits
-add-digits c = search needs
 
 settled-requires : tie.Need-settled-requires
 settled-requires c κs = let s = c .before .before in (moved-range 2 (s .args .m) (s .args .odd) (s .pre .0) (s .pre .1) (s .pre .2) (lit≤ tt) .1, digits-range _ .0, digits-range _ .1)
@@ -37,4 +28,6 @@ returns-2 : tie.Need-returns-2
 returns-2 c = let s = c .before .before .before in moved-nearest 2 (s .args .m) (s .args .odd) (s .pre .0) (s .pre .1) (s .pre .2) (lit≤ tt) (c .by-digits .ensures)
 
 pub nearest-spec : {M : Type 1} → statement M
-nearest-spec = tie.close (tie.spec shl-n guess-requires float-to-bits-digits add-digits settled-requires returns by-digits-requires returns-2)
+nearest-spec =
+    tie.close (tie.spec (λ c. search needs) (λ c _. search needs) float-to-bits-digits (λ c. search needs) settled-requires
+    returns by-digits-requires returns-2)

@@ -22,36 +22,6 @@ next n q r e a b = nearest-square n (q + 1) (omega arith) (omega arith)
 exact : (c : tie.Else1) → let r = c .before .residue .result in let s = c .before .before in r .lo + s .args .q * s .args .q ≡ s .args .n * 2 ^ 52 + 2 ^ 55
 exact c = c .before .residue .ensures .exact (c .if1 .left)
 
-residue-requires : tie.Need-residue-requires
-residue-requires c κs = search needs
-
-returns : tie.Need-returns
-returns c = search needs
-
-mul-if2 : tie.Need-mul-if2
-mul-if2 c = search needs
-
-add-if2 : tie.Need-add-if2
-add-if2 c = search needs
-
-add-if2-2 : tie.Need-add-if2-2
-add-if2-2 c = search needs
-
-returns-2 : tie.Need-returns-2
-returns-2 c = search needs
-
-add-if3 : tie.Need-add-if3
-add-if3 c = search needs
-
-returns-3 : tie.Need-returns-3
-returns-3 c = search needs
-
-add-if4 : tie.Need-add-if4
-add-if4 c = search needs
-
-add-result : tie.Need-add-result
-add-result c = search needs
-
 returns-4 : tie.Need-returns-4
 returns-4 c =
     let f = c .before .before .before .before .before .before in
@@ -65,4 +35,7 @@ returns-5 c =
     λ _. same (r .before .args .n * 2 ^ 52) (r .before .args .q) (r .residue .result .lo) (exact f) (omega arith) (omega arith)
 
 pub settled-spec : {M : Type 1} → statement M
-settled-spec = tie.close (tie.spec residue-requires returns mul-if2 add-if2 add-if2-2 returns-2 add-if3 returns-3 add-if4 add-result returns-4 returns-5)
+settled-spec =
+    tie.close (tie.spec (λ c _. search needs) (λ c. search needs) (λ c. search needs) (λ c. search needs) (λ c. search needs)
+    (λ c. search needs) (λ c. search needs) (λ c. search needs) (λ c. search needs) (λ c. search needs) returns-4
+    returns-5)

@@ -26,14 +26,8 @@ itself (inf true) h l = absurd (true≢false l)
 itself (inf false) h l = refl
 itself (fin s m e) h l = absurd h
 
-is-finite-requires : tie.Need-is-finite-requires
-is-finite-requires c κs = search needs
-
 sqrt-finite-requires : tie.Need-sqrt-finite-requires
 sqrt-finite-requires c κs = answered (c .before .is-finite .ensures) (c .if1 .taken)
-
-returns : tie.Need-returns
-returns c = search needs
 
 returns-2 : tie.Need-returns-2
 returns-2 c = let f = c .before .before in below-zero (f .before .args .x) (denied (f .is-finite .ensures) (c .before .if1 .left)) (c .if2 .taken)
@@ -42,4 +36,5 @@ returns-3 : tie.Need-returns-3
 returns-3 c = let f = c .before .before in itself (f .before .args .x) (denied (f .is-finite .ensures) (c .before .if1 .left)) (c .if2 .left)
 
 pub sqrt-spec : {M : Type 1} → statement M
-sqrt-spec = tie.close (tie.spec is-finite-requires sqrt-finite-requires returns returns-2 returns-3)
+sqrt-spec =
+    tie.close (tie.spec (λ c _. search needs) sqrt-finite-requires (λ c. search needs) returns-2 returns-3)

@@ -49,24 +49,6 @@ module _ (x : Float) (b : ℕ) (is : toBits binary64 x ≡ b) (h : T (fits binar
 float-to-bits-bits : tie.Need-float-to-bits-bits
 float-to-bits-bits c = finite-not-nan (c .args .x) (c .pre)
 
-sqrt-other-requires : tie.Need-sqrt-other-requires
-sqrt-other-requires c κs = search needs
-
-returns : tie.Need-returns
-returns c = search needs
-
-sqrt-other-requires-2 : tie.Need-sqrt-other-requires-2
-sqrt-other-requires-2 c κs = search needs
-
-returns-2 : tie.Need-returns-2
-returns-2 c = search needs
-
-add-sig : tie.Need-add-sig
-add-sig c = search needs
-
-add-exp : tie.Need-add-exp
-add-exp c = search needs
-
 scaled-requires : tie.Need-scaled-requires
 scaled-requires c κs =
     let s = c .before .before in
@@ -81,4 +63,6 @@ returns-3 c =
     c .scaled .ensures ∙ sym (root (s .args .x) (toBits binary64 (s .args .x)) refl (passes _ (s .good .0 .1)) (s .pre) (f .before .if1 .left) (f .if2 .left))
 
 pub sqrt-finite-spec : {M : Type 1} → statement M
-sqrt-finite-spec = tie.close (tie.spec float-to-bits-bits sqrt-other-requires returns sqrt-other-requires-2 returns-2 add-sig add-exp scaled-requires returns-3)
+sqrt-finite-spec =
+    tie.close (tie.spec float-to-bits-bits (λ c _. search needs) (λ c. search needs) (λ c _. search needs)
+    (λ c. search needs) (λ c. search needs) (λ c. search needs) scaled-requires returns-3)

@@ -17,9 +17,6 @@ use Rattle.ieee754.proofs.sqrt.sqrt_other.Tie as tie
 signed : (c : tie.After-unpack) {s : Bool} → let a = c .unpack .result in a .negative ≡ s → HasValue (c .before .args .x) s (a .sig * 2 ^ a .exp) (2 ^ 1074)
 signed c e = let a = c .unpack .result in subst (λ (s : Bool). HasValue (c .before .args .x) s (a .sig * 2 ^ a .exp) (2 ^ 1074)) e (c .unpack .ensures .is)
 
-unpack-requires : tie.Need-unpack-requires
-unpack-requires c κs = search needs
-
 returns : tie.Need-returns
 returns c =
     let u = c .before .before in
@@ -35,9 +32,6 @@ returns-2 c =
 normalise-requires : tie.Need-normalise-requires
 normalise-requires c κs = (c .before .before .before .unpack .ensures .digits, pos-of-ne-zero (c .before .if1 .left))
 
-scaled-requires : tie.Need-scaled-requires
-scaled-requires c κs = search needs
-
 returns-3 : tie.Need-returns-3
 returns-3 c =
     let n = c .before .normalise in
@@ -50,4 +44,5 @@ returns-3 c =
     ∙ sym (sqrt-of x (n .result .sig * 2 ^ n .result .exp) (2 ^ 1126) (normal-pos x false (a .sig) (a .exp) (n .result) is (n .ensures)) (lit< tt) (normal-value x false (a .sig) (a .exp) (n .result) is (n .ensures)))
 
 pub sqrt-other-spec : {M : Type 1} → statement M
-sqrt-other-spec = tie.close (tie.spec unpack-requires returns returns-2 normalise-requires scaled-requires returns-3)
+sqrt-other-spec =
+    tie.close (tie.spec (λ c _. search needs) returns returns-2 normalise-requires (λ c _. search needs) returns-3)

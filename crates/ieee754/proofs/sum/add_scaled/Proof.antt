@@ -102,18 +102,6 @@ room₁ h m a b = omega arith
 room₂ : (h g : ℕ) → h < 2 ^ 60 → g < 2 ^ 62 → h + g + 1 < 2 ^ 64
 room₂ h g a b = omega arith
 
-mul-t7 : tie.Need-mul-t7
-mul-t7 c = search needs
-
-add-q-exp : tie.Need-add-q-exp
-add-q-exp c = search needs
-
-sub-jam-wide : tie.Need-sub-jam-wide
-sub-jam-wide c = search needs
-
-jam-wide-requires : tie.Need-jam-wide-requires
-jam-wide-requires c κs = search needs
-
 sum-aligned-requires : tie.Need-sum-aligned-requires
 sum-aligned-requires c κs =
     let s = c .before .before .before .before in
@@ -129,9 +117,6 @@ sum-aligned-requires c κs =
 
     up : (x : ℕ) → x ≤ 2045 → x + 1019 < 4900
     up x h = omega arith
-
-jam-wide-requires-2 : tie.Need-jam-wide-requires-2
-jam-wide-requires-2 c κs = search needs
 
 sum-aligned-requires-2 : tie.Need-sum-aligned-requires-2
 sum-aligned-requires-2 c κs =
@@ -174,4 +159,6 @@ returns-2 c =
     cut-addend (r .result) (a .negative) (a .c .negative) (value (a .p)) (a .p-exp) (a .c .sig) (a .c .exp) (value (j .result)) (s .pre .1 .short) full (s .pre .0 .even) (f .if1 .left) (j .ensures) (r .ensures)
 
 pub add-scaled-spec : {M : Type 1} → statement M
-add-scaled-spec = tie.close (tie.spec mul-t7 add-q-exp sub-jam-wide jam-wide-requires sum-aligned-requires jam-wide-requires-2 sum-aligned-requires-2 returns returns-2)
+add-scaled-spec =
+    tie.close (tie.spec (λ c. search needs) (λ c. search needs) (λ c. search needs) (λ c _. search needs)
+    sum-aligned-requires (λ c _. search needs) sum-aligned-requires-2 returns returns-2)

@@ -30,29 +30,11 @@ module _ (s : Bool) (a : ℕ) (t : Bool) (b e : ℕ) where
   not-below : (v : ℕ) (g : Bool) → Bool·beq s t ≡ false → ltb a b ≡ false → g ≡ ltb b a → v + b ≡ a → rounded (s && g) (v * 2 ^ e) ≡ summed s (a * 2 ^ e) t (b * 2 ^ e)
   not-below v g h l m x = let y : v ≡ a - b = omega arith in rw (y, scaled, h, l, m)
 
-add-wide-requires : tie.Need-add-wide-requires
-add-wide-requires c κs = search needs
-
-round-wide-requires : tie.Need-round-wide-requires
-round-wide-requires c κs = search needs
-
-less-wide-requires : tie.Need-less-wide-requires
-less-wide-requires c κs = search needs
-
 sub-wide-requires : tie.Need-sub-wide-requires
 sub-wide-requires c κs = le-of-lt (ltb-true _ _ (sym (c .before .less-wide .ensures) ∙ c .if2 .taken))
 
-round-wide-requires-2 : tie.Need-round-wide-requires-2
-round-wide-requires-2 c κs = search needs
-
-less-wide-requires-2 : tie.Need-less-wide-requires-2
-less-wide-requires-2 c κs = search needs
-
 sub-wide-requires-2 : tie.Need-sub-wide-requires-2
 sub-wide-requires-2 c κs = ltb-false _ _ (sym (c .before .before .less-wide .ensures) ∙ c .before .if2 .left)
-
-round-wide-requires-3 : tie.Need-round-wide-requires-3
-round-wide-requires-3 c κs = search needs
 
 returns : tie.Need-returns
 returns c =
@@ -79,4 +61,7 @@ returns-3 c =
     ∙ not-below (s .a-negative) (value (s .a)) (s .b-negative) (value (s .b)) (s .exp) (value (v .result)) (g .less-wide2 .result) (f .before .if1 .left) (sym (f .less-wide .ensures) ∙ g .before .if2 .left) (g .less-wide2 .ensures) (v .ensures)
 
 pub sum-aligned-spec : {M : Type 1} → statement M
-sum-aligned-spec = tie.close (tie.spec add-wide-requires round-wide-requires less-wide-requires sub-wide-requires round-wide-requires-2 less-wide-requires-2 sub-wide-requires-2 round-wide-requires-3 returns returns-2 returns-3)
+sum-aligned-spec =
+    tie.close (tie.spec (λ c _. search needs) (λ c _. search needs) (λ c _. search needs) sub-wide-requires
+    (λ c _. search needs) (λ c _. search needs) sub-wide-requires-2 (λ c _. search needs) returns returns-2
+    returns-3)

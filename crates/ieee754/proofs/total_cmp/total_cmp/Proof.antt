@@ -5,12 +5,6 @@ use Rattle.ieee754.specs.TotalOrder.{totalCmp}
 use Rattle.ieee754.proofs.total_cmp.total_cmp.Statement.{statement}
 use Rattle.ieee754.proofs.total_cmp.total_cmp.Tie as tie
 
-total-order-requires : tie.Need-total-order-requires
-total-order-requires c κs = search needs
-
-total-order-requires-2 : tie.Need-total-order-requires-2
-total-order-requires-2 c κs = search needs
-
 returns : tie.Need-returns
 unfolding totalCmp
 returns c = rw (sym (c .before .before .before .total-order .ensures) ∙ c .before .before .if1 .taken, sym (c .before .total-order2 .ensures) ∙ c .if2 .taken)
@@ -25,4 +19,4 @@ returns-3 c = rw (sym (c .before .total-order .ensures) ∙ c .if1 .left)
 
 pub total-cmp-spec : {M : Type 1} → statement M
 total-cmp-spec =
-    tie.close (tie.spec total-order-requires total-order-requires-2 returns returns-2 returns-3)
+    tie.close (tie.spec (λ c _. search needs) (λ c _. search needs) returns returns-2 returns-3)

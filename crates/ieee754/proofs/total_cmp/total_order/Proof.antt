@@ -14,17 +14,11 @@ returns-2 : tie.Need-returns-2
 unfolding totalOrder
 returns-2 c = rw (sym (ne-self _) ∙ c .before .if1 .left, c .if2 .taken)
 
-negative-requires : tie.Need-negative-requires
-negative-requires c κs = search needs
-
 returns-3 : tie.Need-returns-3
 unfolding totalOrder
 returns-3 c =
     let e = c .before .before in
     rw (sym (ne-self _) ∙ e .before .before .if1 .left, e .before .if2 .left, e .if3 .taken, sym (c .before .negative .ensures) ∙ c .if4 .taken)
-
-negative-requires-2 : tie.Need-negative-requires-2
-negative-requires-2 c κs = search needs
 
 returns-4 : tie.Need-returns-4
 unfolding totalOrder
@@ -38,12 +32,4 @@ returns-5 c = rw (sym (ne-self _) ∙ c .before .before .if1 .left, c .before .i
 
 pub total-order-spec : {M : Type 1} → statement M
 total-order-spec =
-    tie.close
-    (tie.spec
-    returns
-    returns-2
-    negative-requires
-    returns-3
-    negative-requires-2
-    returns-4
-    returns-5)
+    tie.close (tie.spec returns returns-2 (λ c _. search needs) returns-3 (λ c _. search needs) returns-4 returns-5)

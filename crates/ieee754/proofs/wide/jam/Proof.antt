@@ -16,12 +16,6 @@ back k w h = mod-eq-of-lt (lt-of-le-of-lt (div-mul-le-self w (2 ^ k)) h)
 marked : (k w : ℕ) → w < 2 ^ 64 → 64 ≤ k → jam k w ≡ min 1 w
 marked k w h l = jam-small k w (lt-of-lt-of-le h (pow-mono l))
 
-shr-kept : tie.Need-shr-kept
-shr-kept c = search needs
-
-shl-if2 : tie.Need-shl-if2
-shl-if2 c = search needs
-
 returns : tie.Need-returns
 returns c =
     let s = c .before .before in
@@ -39,4 +33,5 @@ returns-4 : tie.Need-returns-4
 returns-4 c = let s = c .before .before in let e : s .args .w ≡ 0 → ⊥ = c .if3 .left in omega (arith, marked (s .args .k) (s .args .w) (s .fits .w .fits) (c .before .if1 .left))
 
 pub jam-spec : {M : Type 1} → statement M
-jam-spec = tie.close (tie.spec shr-kept shl-if2 returns returns-2 returns-3 returns-4)
+jam-spec =
+    tie.close (tie.spec (λ c. search needs) (λ c. search needs) returns returns-2 returns-3 returns-4)

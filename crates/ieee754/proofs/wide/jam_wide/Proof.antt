@@ -26,29 +26,11 @@ words k h l r b e = ap (λ (x : ℕ). h / 2 ^ k * 2 ^ 64 + (h * 2 ^ (64 - k) % 2
 top : (k n t r : ℕ) → 64 ≤ k → t ≡ jam 64 n → r ≡ jam (k - 64) t → 0 * 2 ^ 64 + r ≡ jam k n
 top k n t r b d e = omega (arith, e, ap (jam (k - 64)) d, jam-jam 64 (k - 64) n, ap (λ (x : ℕ). jam x n) (add-sub-of-le b))
 
-shr-t7 : tie.Need-shr-t7
-shr-t7 c = search needs
-
-sub-t8 : tie.Need-sub-t8
-sub-t8 c = search needs
-
-shl-t9 : tie.Need-shl-t9
-shl-t9 c = search needs
-
-jam-requires : tie.Need-jam-requires
-jam-requires c κs = search needs
-
 add-t11 : tie.Need-add-t11
 add-t11 c =
     let t = c .before .before .before in
     let s = t .before .before in
     low-fits (s .args .k) (s .args .v .hi) (s .args .v .lo) (c .jam .result) (t .if2 .taken) (c .before .before .struct-known .given .1 .0 .fits) (c .jam .ensures)
-
-jam-top-requires : tie.Need-jam-top-requires
-jam-top-requires c κs = search needs
-
-jam-requires-2 : tie.Need-jam-requires-2
-jam-requires-2 c κs = search needs
 
 returns : tie.Need-returns
 returns c = let v = c .before .args .v in whole (c .before .args .k) (v .hi * 2 ^ 64 + v .lo) (c .if1 .taken)
@@ -66,4 +48,6 @@ returns-3 c =
     top (s .args .k) (s .args .v .hi * 2 ^ 64 + s .args .v .lo) (c .before .jam-top .result) (c .jam2 .result) (t .if2 .left) (c .before .jam-top .ensures) (c .jam2 .ensures)
 
 pub jam-wide-spec : {M : Type 1} → statement M
-jam-wide-spec = tie.close (tie.spec shr-t7 sub-t8 shl-t9 jam-requires add-t11 jam-top-requires jam-requires-2 returns returns-2 returns-3)
+jam-wide-spec =
+    tie.close (tie.spec (λ c. search needs) (λ c. search needs) (λ c. search needs) (λ c _. search needs) add-t11
+    (λ c _. search needs) (λ c _. search needs) returns returns-2 returns-3)

@@ -6,15 +6,6 @@ use Rattle.ieee754.proofs.Carry.{shifted, shifted-lt}
 use Rattle.ieee754.proofs.wide.shift_right.Statement.{statement}
 use Rattle.ieee754.proofs.wide.shift_right.Tie as tie
 
-sub-result : tie.Need-sub-result
-sub-result c = search needs
-
-shl-result : tie.Need-shl-result
-shl-result c = search needs
-
-shr-result : tie.Need-shr-result
-shr-result c = search needs
-
 add-result : tie.Need-add-result
 add-result c =
     let s = c .before .before in
@@ -28,4 +19,5 @@ returns c =
     shifted 64 (s .args .k) (v .hi) (v .lo) (le-of-lt (s .pre .1)) (s .pre .2) (c .struct-known2 .given .1 .0 .fits)
 
 pub shift-right-spec : {M : Type 1} → statement M
-shift-right-spec = tie.close (tie.spec sub-result shl-result shr-result add-result returns)
+shift-right-spec =
+    tie.close (tie.spec (λ c. search needs) (λ c. search needs) (λ c. search needs) add-result returns)

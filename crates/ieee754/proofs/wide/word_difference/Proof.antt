@@ -15,12 +15,6 @@ with-borrow a₁ a b₁ b r hb hr e l h = omega (arith, borrowed 64 a b r hb hr 
 without : (a₁ a b₁ b r : ℕ) → b < 2 ^ 64 → r < 2 ^ 64 → (r + b) % 2 ^ 64 ≡ a → b ≤ a → a₁ ≡ b₁ → r + (b₁ * 2 ^ 64 + b) ≡ a₁ * 2 ^ 64 + a
 without a₁ a b₁ b r hb hr e l h = omega (arith, not-borrowed 64 a b r hb hr e l)
 
-wrapping-sub-u64-requires : tie.Need-wrapping-sub-u64-requires
-wrapping-sub-u64-requires c κs = search needs
-
-add-if2 : tie.Need-add-if2
-add-if2 c = search needs
-
 returns : tie.Need-returns
 returns c =
     λ _.
@@ -44,4 +38,5 @@ returns-4 : tie.Need-returns-4
 returns-4 c = λ h. absurd (true≢false h)
 
 pub word-difference-spec : {M : Type 1} → statement M
-word-difference-spec = tie.close (tie.spec wrapping-sub-u64-requires add-if2 returns returns-2 returns-3 returns-4)
+word-difference-spec =
+    tie.close (tie.spec (λ c _. search needs) (λ c. search needs) returns returns-2 returns-3 returns-4)

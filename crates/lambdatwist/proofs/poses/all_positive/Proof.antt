@@ -4,12 +4,10 @@ use Rattle.lambdatwist.specs.Poses.{allPositive}
 use Rattle.lambdatwist.proofs.poses.all_positive.Statement.{statement}
 use Rattle.lambdatwist.proofs.poses.all_positive.Tie as tie
 
-all-finite-requires : tie.Need-all-finite-requires
-all-finite-requires c κs = search needs
-
 returns : tie.Need-returns
 unfolding allPositive
 returns c = cc
 
 pub all-positive-spec : {M : Type 1} → statement M
-all-positive-spec = tie.close (tie.spec all-finite-requires returns)
+all-positive-spec =
+    tie.close (tie.spec (λ c _. search needs) returns)

@@ -5,18 +5,9 @@ use Rattle.lambdatwist.specs.Poses.{poseTurn}
 use Rattle.lambdatwist.proofs.poses.pose_turn.Statement.{statement}
 use Rattle.lambdatwist.proofs.poses.pose_turn.Tie as tie
 
-refine-depths-requires : tie.Need-refine-depths-requires
-refine-depths-requires c κs = search needs
-
-all-positive-requires : tie.Need-all-positive-requires
-all-positive-requires c κs = search needs
-
 returns : tie.Need-returns
 unfolding poseTurn
 returns c = rw (← c .before .before .refine-depths .ensures, ← c .before .all-positive .ensures, not-true (c .before .all-positive .result) (c .if1 .taken))
-
-push-depths-requires : tie.Need-push-depths-requires
-push-depths-requires c κs = search needs
 
 returns-2 : tie.Need-returns-2
 unfolding poseTurn
@@ -24,5 +15,4 @@ returns-2 c = rw (← c .before .before .before .refine-depths .ensures, ← c .
 
 pub pose-turn-spec : {M : Type 1} → statement M
 pose-turn-spec =
-    tie.close
-    (tie.spec refine-depths-requires all-positive-requires returns push-depths-requires returns-2)
+    tie.close (tie.spec (λ c _. search needs) (λ c _. search needs) returns (λ c _. search needs) returns-2)

@@ -17,9 +17,6 @@ Inv-loop view edges cosines inverse count depths output₀ at₀ output at =
 abbrev μ-loop : tie.MeasureT-loop
 μ-loop view edges cosines inverse count depths output₀ at₀ output at = 4 - at
 
-empty-requires : tie.Need-empty-requires Inv-loop μ-loop
-empty-requires c κs = search needs
-
 loop-holds : tie.Need-loop-holds Inv-loop μ-loop
 loop-holds c = (search needs, refl)
 
@@ -29,18 +26,6 @@ returns c =
     let loop = c .before .before .loop in
     let found = c .before .before .before .before .before .args .found in
     rw (← c .before .before .before .empty .ensures) (turns-end _ _ _ _ (found .count) (found .depths) (loop .at) (loop .output) (omega (arith, c .if1 .taken)) ∙ loop .inv .1)
-
-mul-pose-turn : tie.Need-mul-pose-turn Inv-loop μ-loop
-mul-pose-turn c = search needs
-
-array-copy-out-pose-turn : tie.Need-array-copy-out-pose-turn Inv-loop μ-loop
-array-copy-out-pose-turn c = search needs
-
-pose-turn-requires : tie.Need-pose-turn-requires Inv-loop μ-loop
-pose-turn-requires c κs = search needs
-
-add-at : tie.Need-add-at Inv-loop μ-loop
-add-at c = search needs
 
 loop-less : tie.Need-loop-less Inv-loop μ-loop
 loop-less c = omega arith
@@ -63,17 +48,5 @@ returns-2 c =
 
 pub poses-spec : {M : Type 1} → statement M
 poses-spec =
-    tie.close
-    (tie.spec
-    Inv-loop
-    μ-loop
-    empty-requires
-    loop-holds
-    returns
-    mul-pose-turn
-    array-copy-out-pose-turn
-    pose-turn-requires
-    add-at
-    loop-less
-    loop-again
-    returns-2)
+    tie.close (tie.spec Inv-loop μ-loop (λ c _. search needs) loop-holds returns (λ c. search needs) (λ c. search needs)
+    (λ c _. search needs) (λ c. search needs) loop-less loop-again returns-2)

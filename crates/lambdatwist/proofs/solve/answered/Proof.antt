@@ -5,12 +5,10 @@ use Rattle.lambdatwist.specs.Solve.{answered}
 use Rattle.lambdatwist.proofs.solve.answered.Statement.{statement}
 use Rattle.lambdatwist.proofs.solve.answered.Tie as tie
 
-cast-t5 : tie.Need-cast-t5
-cast-t5 c = search needs
-
 returns : tie.Need-returns
 unfolding answered
 returns c = refl
 
 pub answered-spec : {M : Type 1} → statement M
-answered-spec = tie.close (tie.spec cast-t5 returns)
+answered-spec =
+    tie.close (tie.spec (λ c. search needs) returns)

@@ -5,19 +5,14 @@ use Rattle.lambdatwist.specs.Solve.{ifKept}
 use Rattle.lambdatwist.proofs.solve.if_kept.Statement.{statement}
 use Rattle.lambdatwist.proofs.solve.if_kept.Tie as tie
 
-refused-requires : tie.Need-refused-requires
-refused-requires c κs = search needs
-
 returns : tie.Need-returns
 unfolding ifKept
 returns c = rw (eq-eqb _ _ (c .before .if1 .taken), ← c .refused .ensures)
-
-answered-requires : tie.Need-answered-requires
-answered-requires c κs = search needs
 
 returns-2 : tie.Need-returns-2
 unfolding ifKept
 returns-2 c = rw (ne-eqb _ _ (c .before .if1 .left), ← c .answered .ensures)
 
 pub if-kept-spec : {M : Type 1} → statement M
-if-kept-spec = tie.close (tie.spec refused-requires returns answered-requires returns-2)
+if-kept-spec =
+    tie.close (tie.spec (λ c _. search needs) returns (λ c _. search needs) returns-2)

@@ -5,9 +5,6 @@ use Rattle.lambdatwist.specs.Solve.{refused}
 use Rattle.lambdatwist.proofs.solve.refused.Statement.{statement}
 use Rattle.lambdatwist.proofs.solve.refused.Tie as tie
 
-empty-requires : tie.Need-empty-requires
-empty-requires c κs = search needs
-
 answered-requires : tie.Need-answered-requires
 answered-requires c κs = rw (c .empty .ensures) (empty-kept .few)
 
@@ -16,4 +13,5 @@ unfolding refused
 returns c = cc
 
 pub refused-spec : {M : Type 1} → statement M
-refused-spec = tie.close (tie.spec empty-requires answered-requires returns)
+refused-spec =
+    tie.close (tie.spec (λ c _. search needs) answered-requires returns)

@@ -5,18 +5,9 @@ use Rattle.lambdatwist.specs.Solve.{solve}
 use Rattle.lambdatwist.proofs.solve.solve.Statement.{statement}
 use Rattle.lambdatwist.proofs.solve.solve.Tie as tie
 
-input-finite-requires : tie.Need-input-finite-requires
-input-finite-requires c κs = search needs
-
-refused-requires : tie.Need-refused-requires
-refused-requires c κs = search needs
-
 returns : tie.Need-returns
 unfolding solve
 returns c = rw (← c .before .before .input-finite .ensures, not-true (c .before .before .input-finite .result) (c .before .if1 .taken), ← c .refused .ensures)
-
-solve-ordered-requires : tie.Need-solve-ordered-requires
-solve-ordered-requires c κs = search needs
 
 returns-2 : tie.Need-returns-2
 unfolding solve
@@ -24,5 +15,4 @@ returns-2 c = rw (← c .before .before .input-finite .ensures, not-false (c .be
 
 pub solve-spec : {M : Type 1} → statement M
 solve-spec =
-    tie.close
-    (tie.spec input-finite-requires refused-requires returns solve-ordered-requires returns-2)
+    tie.close (tie.spec (λ c _. search needs) (λ c _. search needs) returns (λ c _. search needs) returns-2)

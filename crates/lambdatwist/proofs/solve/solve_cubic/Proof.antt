@@ -5,21 +5,9 @@ use Rattle.lambdatwist.specs.Solve.{solveCubic, orNoRoot}
 use Rattle.lambdatwist.proofs.solve.solve_cubic.Statement.{statement}
 use Rattle.lambdatwist.proofs.solve.solve_cubic.Tie as tie
 
-polished-cubic-root-requires : tie.Need-polished-cubic-root-requires
-polished-cubic-root-requires c κs = search needs
-
-enum-known-g : tie.Need-enum-known-g
-enum-known-g c = search needs
-
-refused-requires : tie.Need-refused-requires
-refused-requires c κs = search needs
-
 returns : tie.Need-returns
 unfolding solveCubic orNoRoot
 returns c = rw (← c .before .before .polished-cubic-root .ensures, c .refused .ensures) (no-root (c .before .before .polished-cubic-root .result) _ (c .before .match .keys2))
-
-solve-root-requires : tie.Need-solve-root-requires
-solve-root-requires c κs = search needs
 
 returns-2 : tie.Need-returns-2
 unfolding solveCubic orNoRoot
@@ -27,11 +15,5 @@ returns-2 c = rw (← c .before .before .before .before .polished-cubic-root .en
 
 pub solve-cubic-spec : {M : Type 1} → statement M
 solve-cubic-spec =
-    tie.close
-    (tie.spec
-    polished-cubic-root-requires
-    enum-known-g
-    refused-requires
-    returns
-    solve-root-requires
+    tie.close (tie.spec (λ c _. search needs) (λ c. search needs) (λ c _. search needs) returns (λ c _. search needs)
     returns-2)

@@ -4,18 +4,6 @@ use borrow.Author.Needs.{needs}
 use Rattle.listing.proofs.digits.glyph.Statement.{statement}
 use Rattle.listing.proofs.digits.glyph.Tie as tie
 
-cast-result : tie.Need-cast-result
-cast-result c = search needs
-
-add-result : tie.Need-add-result
-add-result c = search needs
-
-cast-result-2 : tie.Need-cast-result-2
-cast-result-2 c = search needs
-
-add-result-2 : tie.Need-add-result-2
-add-result-2 c = search needs
-
 returns : tie.Need-returns
 returns c = rw (lt-ltb (c .before .args .digit) 10 (c .if1 .taken))
 
@@ -24,4 +12,4 @@ returns-2 c = rw (le-ltb (c .before .args .digit) 10 (c .if1 .left))
 
 pub glyph-spec : {M : Type 1} → statement M
 glyph-spec =
-    tie.close (tie.spec cast-result add-result cast-result-2 add-result-2 returns returns-2)
+    tie.close (tie.spec (λ c. search needs) (λ c. search needs) (λ c. search needs) (λ c. search needs) returns returns-2)

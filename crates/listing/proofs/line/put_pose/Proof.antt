@@ -7,38 +7,8 @@ use Rattle.listing.proofs.Writing.{written, not-written}
 use Rattle.listing.proofs.line.put_pose.Statement.{statement}
 use Rattle.listing.proofs.line.put_pose.Tie as tie
 
-left-requires : tie.Need-left-requires
-left-requires c κs = search needs
-
 returns : tie.Need-returns
 returns c = not-written _ _ _ _ (omega (arith, c .if1 .taken, c .before .left .ensures))
-
-put-decimal-requires : tie.Need-put-decimal-requires
-put-decimal-requires c κs = search needs
-
-put-byte-requires : tie.Need-put-byte-requires
-put-byte-requires c κs = search needs
-
-put-decimal-requires-2 : tie.Need-put-decimal-requires-2
-put-decimal-requires-2 c κs = search needs
-
-slice-aggregate-put-text : tie.Need-slice-aggregate-put-text
-slice-aggregate-put-text c = search needs
-
-put-text-requires : tie.Need-put-text-requires
-put-text-requires c κs = search needs
-
-put-decimal-requires-3 : tie.Need-put-decimal-requires-3
-put-decimal-requires-3 c κs = search needs
-
-put-words-requires : tie.Need-put-words-requires
-put-words-requires c κs = search needs
-
-put-byte-requires-2 : tie.Need-put-byte-requires-2
-put-byte-requires-2 c κs = search needs
-
-same-length : tie.Need-same-length
-same-length c = search needs
 
 returns-2 : tie.Need-returns-2
 unfolding poseLine
@@ -55,17 +25,6 @@ returns-2 c =
 
 pub put-pose-spec : {M : Type 1} → statement M
 put-pose-spec =
-    tie.close
-    (tie.spec
-    left-requires
-    returns
-    put-decimal-requires
-    put-byte-requires
-    put-decimal-requires-2
-    slice-aggregate-put-text
-    put-text-requires
-    put-decimal-requires-3
-    put-words-requires
-    put-byte-requires-2
-    same-length
-    returns-2)
+    tie.close (tie.spec (λ c _. search needs) returns (λ c _. search needs) (λ c _. search needs) (λ c _. search needs)
+    (λ c. search needs) (λ c _. search needs) (λ c _. search needs) (λ c _. search needs) (λ c _. search needs)
+    (λ c. search needs) returns-2)

@@ -7,29 +7,8 @@ use Rattle.listing.proofs.Writing.{written, not-written}
 use Rattle.listing.proofs.line.put_refused.Statement.{statement}
 use Rattle.listing.proofs.line.put_refused.Tie as tie
 
-left-requires : tie.Need-left-requires
-left-requires c κs = search needs
-
 returns : tie.Need-returns
 returns c = not-written _ _ _ _ (omega (arith, c .if1 .taken, c .before .left .ensures))
-
-put-decimal-requires : tie.Need-put-decimal-requires
-put-decimal-requires c κs = search needs
-
-slice-aggregate-put-text : tie.Need-slice-aggregate-put-text
-slice-aggregate-put-text c = search needs
-
-put-text-requires : tie.Need-put-text-requires
-put-text-requires c κs = search needs
-
-put-decimal-requires-2 : tie.Need-put-decimal-requires-2
-put-decimal-requires-2 c κs = search needs
-
-put-byte-requires : tie.Need-put-byte-requires
-put-byte-requires c κs = search needs
-
-same-length : tie.Need-same-length
-same-length c = search needs
 
 returns-2 : tie.Need-returns-2
 unfolding refusedLine
@@ -43,14 +22,5 @@ returns-2 c =
 
 pub put-refused-spec : {M : Type 1} → statement M
 put-refused-spec =
-    tie.close
-    (tie.spec
-    left-requires
-    returns
-    put-decimal-requires
-    slice-aggregate-put-text
-    put-text-requires
-    put-decimal-requires-2
-    put-byte-requires
-    same-length
-    returns-2)
+    tie.close (tie.spec (λ c _. search needs) returns (λ c _. search needs) (λ c. search needs) (λ c _. search needs)
+    (λ c _. search needs) (λ c _. search needs) (λ c. search needs) returns-2)

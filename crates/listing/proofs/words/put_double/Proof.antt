@@ -11,18 +11,6 @@ use Rattle.listing.proofs.Storing.{stored-as, then}
 use Rattle.listing.proofs.words.put_double.Statement.{statement}
 use Rattle.listing.proofs.words.put_double.Tie as tie
 
-to-bits-requires : tie.Need-to-bits-requires
-to-bits-requires c κs = search needs
-
-put-byte-requires : tie.Need-put-byte-requires
-put-byte-requires c κs = search needs
-
-put-word-requires : tie.Need-put-word-requires
-put-word-requires c κs = search needs
-
-same-length : tie.Need-same-length
-same-length c = search needs
-
 returns : tie.Need-returns
 unfolding wordOf
 returns c =
@@ -34,4 +22,5 @@ returns c =
     )
 
 pub put-double-spec : {M : Type 1} → statement M
-put-double-spec = tie.close (tie.spec to-bits-requires put-byte-requires put-word-requires same-length returns)
+put-double-spec =
+    tie.close (tie.spec (λ c _. search needs) (λ c _. search needs) (λ c _. search needs) (λ c. search needs) returns)

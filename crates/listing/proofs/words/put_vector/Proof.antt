@@ -6,18 +6,6 @@ use Rattle.listing.proofs.Storing.{then}
 use Rattle.listing.proofs.words.put_vector.Statement.{statement}
 use Rattle.listing.proofs.words.put_vector.Tie as tie
 
-put-double-requires : tie.Need-put-double-requires
-put-double-requires c κs = search needs
-
-put-double-requires-2 : tie.Need-put-double-requires-2
-put-double-requires-2 c κs = search needs
-
-put-double-requires-3 : tie.Need-put-double-requires-3
-put-double-requires-3 c κs = search needs
-
-same-length : tie.Need-same-length
-same-length c = search needs
-
 returns : tie.Need-returns
 unfolding wordsOf
 returns c =
@@ -30,5 +18,4 @@ returns c =
 
 pub put-vector-spec : {M : Type 1} → statement M
 put-vector-spec =
-    tie.close
-    (tie.spec put-double-requires put-double-requires-2 put-double-requires-3 same-length returns)
+    tie.close (tie.spec (λ c _. search needs) (λ c _. search needs) (λ c _. search needs) (λ c. search needs) returns)

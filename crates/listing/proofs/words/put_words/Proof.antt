@@ -7,30 +7,6 @@ use Rattle.listing.proofs.Storing.{stored-as, then}
 use Rattle.listing.proofs.words.put_words.Statement.{statement}
 use Rattle.listing.proofs.words.put_words.Tie as tie
 
-column0-requires : tie.Need-column0-requires
-column0-requires c κs = search needs
-
-column1-requires : tie.Need-column1-requires
-column1-requires c κs = search needs
-
-column2-requires : tie.Need-column2-requires
-column2-requires c κs = search needs
-
-put-vector-requires : tie.Need-put-vector-requires
-put-vector-requires c κs = search needs
-
-put-vector-requires-2 : tie.Need-put-vector-requires-2
-put-vector-requires-2 c κs = search needs
-
-put-vector-requires-3 : tie.Need-put-vector-requires-3
-put-vector-requires-3 c κs = search needs
-
-put-vector-requires-4 : tie.Need-put-vector-requires-4
-put-vector-requires-4 c κs = search needs
-
-same-length : tie.Need-same-length
-same-length c = search needs
-
 returns : tie.Need-returns
 unfolding poseWords
 returns c =
@@ -48,14 +24,5 @@ returns c =
 
 pub put-words-spec : {M : Type 1} → statement M
 put-words-spec =
-    tie.close
-    (tie.spec
-    column0-requires
-    column1-requires
-    column2-requires
-    put-vector-requires
-    put-vector-requires-2
-    put-vector-requires-3
-    put-vector-requires-4
-    same-length
-    returns)
+    tie.close (tie.spec (λ c _. search needs) (λ c _. search needs) (λ c _. search needs) (λ c _. search needs)
+    (λ c _. search needs) (λ c _. search needs) (λ c _. search needs) (λ c. search needs) returns)

@@ -11,12 +11,6 @@ use Rattle.listing_run.proofs.AnswerLines.{refused-lines, accepted-line
 use Rattle.listing_run.proofs.frame.put_answer.Statement.{statement}
 use Rattle.listing_run.proofs.frame.put_answer.Tie as tie
 
-put-refused-requires : tie.Need-put-refused-requires
-put-refused-requires c κs = search needs
-
-same-length : tie.Need-same-length
-same-length c = search needs
-
 returns : tie.Need-returns
 returns c =
     let p = c .before .before in
@@ -25,24 +19,12 @@ returns c =
     let room : start .args .at + 320 ≤ length (start .args .out .now) = omega (arith, start .pre) in
     (stored-as (refused-lines _ _ _ _ (yes .if1 .taken)) (stored room (p .put-refused .ensures)), omega (arith, p .put-refused .ensures .fits))
 
-choose-requires : tie.Need-choose-requires
-choose-requires c κs = search needs
-
-place-of-requires : tie.Need-place-of-requires
-place-of-requires c κs = search needs
-
-put-accepted-requires : tie.Need-put-accepted-requires
-put-accepted-requires c κs = search needs
-
 put-poses-requires : tie.Need-put-poses-requires
 put-poses-requires c κs =
     let p = c .before .before .before in
     let start = p .before .before .before .before .before .before .before .before in
     let room : start .args .at + 320 ≤ length (start .args .out .now) = omega (arith, start .pre) in
     omega (arith, start .pre, p .put-accepted .ensures .fits, stored-length (stored room (p .put-accepted .ensures)))
-
-same-length-2 : tie.Need-same-length-2
-same-length-2 c = search needs
 
 returns-2 : tie.Need-returns-2
 returns-2 c =
@@ -58,14 +40,5 @@ returns-2 c =
 
 pub put-answer-spec : {M : Type 1} → statement M
 put-answer-spec =
-    tie.close
-    (tie.spec
-    put-refused-requires
-    same-length
-    returns
-    choose-requires
-    place-of-requires
-    put-accepted-requires
-    put-poses-requires
-    same-length-2
-    returns-2)
+    tie.close (tie.spec (λ c _. search needs) (λ c. search needs) returns (λ c _. search needs) (λ c _. search needs)
+    (λ c _. search needs) put-poses-requires (λ c. search needs) returns-2)

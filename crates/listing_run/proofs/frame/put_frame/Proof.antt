@@ -11,22 +11,13 @@ use Rattle.listing_run.specs.FrameLines.{answerLines, frameLines}
 use Rattle.listing_run.proofs.frame.put_frame.Statement.{statement}
 use Rattle.listing_run.proofs.frame.put_frame.Tie as tie
 
-left-requires : tie.Need-left-requires
-left-requires c κs = search needs
-
 returns : tie.Need-returns
 returns c = not-written _ _ _ _ (omega (arith, c .if1 .taken, c .before .left .ensures))
-
-solve-requires : tie.Need-solve-requires
-solve-requires c κs = search needs
 
 put-answer-requires : tie.Need-put-answer-requires
 put-answer-requires c κs =
     let e = c .before .before .before .before .before .before .before .before .before .before in
     omega (arith, e .if1 .left, e .before .left .ensures)
-
-same-length : tie.Need-same-length
-same-length c = search needs
 
 returns-2 : tie.Need-returns-2
 unfolding frameLines
@@ -41,11 +32,5 @@ returns-2 c =
 
 pub put-frame-spec : {M : Type 1} → statement M
 put-frame-spec =
-    tie.close
-    (tie.spec
-    left-requires
-    returns
-    solve-requires
-    put-answer-requires
-    same-length
+    tie.close (tie.spec (λ c _. search needs) returns (λ c _. search needs) put-answer-requires (λ c. search needs)
     returns-2)

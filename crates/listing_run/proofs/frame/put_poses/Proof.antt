@@ -21,45 +21,18 @@ abbrev μ-loop : tie.MeasureT-loop
 μ-loop out₀ at number count poses updates n next₀ place₀ out next place = n - place
 
 -- src/frame.rt:55:9
-listed-requires : tie.Need-listed-requires Inv-loop μ-loop
-listed-requires c κs = search needs
-
 -- src/frame.rt:58:5
 loop-holds : tie.Need-loop-holds Inv-loop μ-loop
 loop-holds c = (search needs, none-stored _ _ _ _ _, search needs, refl)
 
 -- src/frame.rt:59:26
-cast-pose : tie.Need-cast-pose Inv-loop μ-loop
-cast-pose c = search needs
-
 -- src/frame.rt:59:20
-mul-pose : tie.Need-mul-pose Inv-loop μ-loop
-mul-pose c = search needs
-
 -- src/frame.rt:59:20
-array-copy-out-pose : tie.Need-array-copy-out-pose Inv-loop μ-loop
-array-copy-out-pose c = search needs
-
 -- src/frame.rt:60:28
-cast-made : tie.Need-cast-made Inv-loop μ-loop
-cast-made c = search needs
-
 -- src/frame.rt:60:20
-mul-made : tie.Need-mul-made Inv-loop μ-loop
-mul-made c = search needs
-
 -- src/frame.rt:60:20
-array-read-made : tie.Need-array-read-made Inv-loop μ-loop
-array-read-made c = search needs
-
 -- src/frame.rt:61:9
-add-place : tie.Need-add-place Inv-loop μ-loop
-add-place c = search needs
-
 -- src/frame.rt:62:9
-put-pose-requires : tie.Need-put-pose-requires Inv-loop μ-loop
-put-pose-requires c κs = search needs
-
 -- src/frame.rt:58:5
 loop-less : tie.Need-loop-less Inv-loop μ-loop
 loop-less c = omega arith
@@ -93,21 +66,6 @@ returns c =
 
 pub put-poses-spec : {M : Type 1} → statement M
 put-poses-spec =
-    tie.close
-    (tie.spec
-    Inv-loop
-    μ-loop
-    listed-requires
-    loop-holds
-    cast-pose
-    mul-pose
-    array-copy-out-pose
-    cast-made
-    mul-made
-    array-read-made
-    add-place
-    put-pose-requires
-    loop-less
-    loop-again
-    same-length
-    returns)
+    tie.close (tie.spec Inv-loop μ-loop (λ c _. search needs) loop-holds (λ c. search needs) (λ c. search needs)
+    (λ c. search needs) (λ c. search needs) (λ c. search needs) (λ c. search needs) (λ c. search needs)
+    (λ c _. search needs) loop-less loop-again same-length returns)

@@ -13,15 +13,6 @@ use Rattle.listing_run.proofs.record.put_found.Tie as tie
 room : (c : tie.Start) → c .args .at + 320 ≤ length (c .args .out .now)
 room c = omega (arith, c .pre)
 
-enum-told : tie.Need-enum-told
-enum-told c = search needs
-
-put-end-requires : tie.Need-put-end-requires
-put-end-requires c κs = search needs
-
-same-length : tie.Need-same-length
-same-length c = search needs
-
 returns : tie.Need-returns
 unfolding recordLines following waits turnLines turnCourse
 returns c =
@@ -30,12 +21,6 @@ returns c =
     let told = yes .before in
     rw (told .enum-told .given .1, yes .if1 .taken) (stored (room (told .before .before .before)) (p .put-end .ensures), (omega (arith, p .put-end .ensures .fits), refl))
 
-enum-known-found : tie.Need-enum-known-found
-enum-known-found c = search needs
-
-stop-waits-requires : tie.Need-stop-waits-requires
-stop-waits-requires c κs = search needs
-
 returns-2 : tie.Need-returns-2
 unfolding recordLines following waits turnLines turnCourse
 returns-2 c =
@@ -43,27 +28,9 @@ returns-2 c =
     let f = w .before .before in
     rw (f .found .given .1, ← w .stop-waits .ensures, c .if2 .taken) (none _ _, (omega arith, refl))
 
-put-stop-requires : tie.Need-put-stop-requires
-put-stop-requires c κs = search needs
-
-enum-known-found-2 : tie.Need-enum-known-found-2
-enum-known-found-2 c = search needs
-
-put-refused-requires : tie.Need-put-refused-requires
-put-refused-requires c κs = search needs
-
-enum-known-found-3 : tie.Need-enum-known-found-3
-enum-known-found-3 c = search needs
-
-put-frame-requires : tie.Need-put-frame-requires
-put-frame-requires c κs = search needs
-
 returns-3 : tie.Need-returns-3
 unfolding recordLines following waits turnLines turnCourse
 returns-3 c = rw (c .before .enum-told .given .1, c .if1 .left) (none _ _, (omega arith, refl))
-
-same-length-2 : tie.Need-same-length-2
-same-length-2 c = search needs
 
 returns-4 : tie.Need-returns-4
 unfolding recordLines following waits turnLines turnCourse
@@ -74,18 +41,12 @@ returns-4 c =
     let f = w .before .before in
     rw (f .found .given .1, ← w .stop-waits .ensures, no .if2 .left) (stored (room (f .before .before .before)) (p .put-stop .ensures), (omega (arith, p .put-stop .ensures .fits), refl))
 
-same-length-3 : tie.Need-same-length-3
-same-length-3 c = search needs
-
 returns-5 : tie.Need-returns-5
 unfolding recordLines following waits turnLines turnCourse
 returns-5 c =
     let p = c .before .before in
     let f = p .before .before .before in
     rw (f .found2 .given .1) (stored (room (f .before .before .before)) (p .put-refused .ensures), (omega (arith, p .put-refused .ensures .fits), refl))
-
-same-length-4 : tie.Need-same-length-4
-same-length-4 c = search needs
 
 returns-6 : tie.Need-returns-6
 unfolding recordLines following waits turnLines turnCourse
@@ -96,24 +57,7 @@ returns-6 c =
 
 pub put-found-spec : {M : Type 1} → statement M
 put-found-spec =
-    tie.close
-    (tie.spec
-    enum-told
-    put-end-requires
-    same-length
-    returns
-    enum-known-found
-    stop-waits-requires
-    returns-2
-    put-stop-requires
-    enum-known-found-2
-    put-refused-requires
-    enum-known-found-3
-    put-frame-requires
-    returns-3
-    same-length-2
-    returns-4
-    same-length-3
-    returns-5
-    same-length-4
-    returns-6)
+    tie.close (tie.spec (λ c. search needs) (λ c _. search needs) (λ c. search needs) returns (λ c. search needs)
+    (λ c _. search needs) returns-2 (λ c _. search needs) (λ c. search needs) (λ c _. search needs)
+    (λ c. search needs) (λ c _. search needs) returns-3 (λ c. search needs) returns-4 (λ c. search needs)
+    returns-5 (λ c. search needs) returns-6)

@@ -11,9 +11,6 @@ use Rattle.listing_run.specs.RecordLines.{turnLines, turnCourse, courseO
 use Rattle.listing_run.proofs.record.put_record.Statement.{statement}
 use Rattle.listing_run.proofs.record.put_record.Tie as tie
 
-left-requires : tie.Need-left-requires
-left-requires c κs = search needs
-
 returns : tie.Need-returns
 unfolding courseOf
 returns c =
@@ -21,14 +18,8 @@ returns c =
     let short : length (start .args .out .now) - start .args .at < 1600 = omega (arith, c .if1 .taken, c .before .left .ensures) in
     (not-written _ _ _ _ short, rw (lt-leb 1600 (length (start .args .out .now) - start .args .at) short))
 
-read-requires : tie.Need-read-requires
-read-requires c κs = search needs
-
 put-found-requires : tie.Need-put-found-requires
 put-found-requires c κs = let e = c .before .before in omega (arith, e .if1 .left, e .before .left .ensures)
-
-same-length : tie.Need-same-length
-same-length c = search needs
 
 returns-2 : tie.Need-returns-2
 unfolding courseOf
@@ -45,4 +36,5 @@ returns-2 c =
     )
 
 pub put-record-spec : {M : Type 1} → statement M
-put-record-spec = tie.close (tie.spec left-requires returns read-requires put-found-requires same-length returns-2)
+put-record-spec =
+    tie.close (tie.spec (λ c _. search needs) returns (λ c _. search needs) put-found-requires (λ c. search needs) returns-2)

@@ -15,24 +15,6 @@ fetched : (size filled next count n : ℕ) (b : Bool) → next < size → filled
     → Fetched size filled next count record { filled = n; next = next; at = 0; listed = count; ended = b }
 fetched size filled next count n b l from to same = record { again = λ g. absurd (not-le-of-lt l g); on = λ _. (refl, from, to, same); at = refl; listed = refl }
 
-returns : tie.Need-returns
-returns c = search needs
-
-fill-requires : tie.Need-fill-requires
-fill-requires c κs = search needs
-
-enum-known-filling : tie.Need-enum-known-filling
-enum-known-filling c = search needs
-
-enum-told : tie.Need-enum-told
-enum-told c = search needs
-
-enum-told-2 : tie.Need-enum-told-2
-enum-told-2 c = search needs
-
-same-length : tie.Need-same-length
-same-length c = search needs
-
 returns-2 : tie.Need-returns-2
 returns-2 c =
     let f = c .before .before .before .before .before in
@@ -40,9 +22,6 @@ returns-2 c =
     let size = length (now (s .args .input)) in
     let more = subst (λ (r : Filling). Fills size (s .args .filled) r) (c .before .filling .given .1) (f .fill .ensures .0) in
     (fetched size (s .args .filled) (s .args .next) (s .args .listed) (c .before .filling .given .0 .0) false (f .before .before .if1 .left) (more .0) (more .1) (λ e. absurd (false≢true e)), f .fill .ensures .1)
-
-same-length-2 : tie.Need-same-length-2
-same-length-2 c = search needs
 
 returns-3 : tie.Need-returns-3
 returns-3 c =
@@ -52,11 +31,7 @@ returns-3 c =
     let room = subst (λ (r : Filling). Fills size (s .args .filled) r) (c .enum-told .given .1) (f .fill .ensures .0) in
     (fetched size (s .args .filled) (s .args .next) (s .args .listed) (s .args .filled) true (f .before .before .if1 .left) (le-refl (s .args .filled)) (le-of-lt room) (λ _. refl), f .fill .ensures .1)
 
-same-length-3 : tie.Need-same-length-3
-same-length-3 c = search needs
-
-returns-4 : tie.Need-returns-4
-returns-4 c = search needs
-
 pub read-on-spec : {M : Type 1} → statement M
-read-on-spec = tie.close (tie.spec returns fill-requires enum-known-filling enum-told enum-told-2 same-length returns-2 same-length-2 returns-3 same-length-3 returns-4)
+read-on-spec =
+    tie.close (tie.spec (λ c. search needs) (λ c _. search needs) (λ c. search needs) (λ c. search needs) (λ c. search needs)
+    (λ c. search needs) returns-2 (λ c. search needs) returns-3 (λ c. search needs) (λ c. search needs))

@@ -27,95 +27,32 @@ put : (p : tie.After-put-record)
     (p .put-record .result .0) (p .put-record .last .1 .1 .1 .0)
 put p = rw (← p .before .before .before .before .wrapping-add-u64 .ensures, ← p .before .before .before .least .ensures) (p .put-record .ensures .0)
 
-wrapping-add-u64-requires : tie.Need-wrapping-add-u64-requires
-wrapping-add-u64-requires c κs = search needs
-
-least-requires : tie.Need-least-requires
-least-requires c κs = search needs
-
 slice-reshare-prefix-put-record : tie.Need-slice-reshare-prefix-put-record
 slice-reshare-prefix-put-record c = omega (arith, c .least .ensures, min-le-right (c .before .before .before .before .args .state .filled) (length (c .before .before .before .before .args .input .now)))
 
 slice-aggregate-put-record : tie.Need-slice-aggregate-put-record
 slice-aggregate-put-record c = simp length-take (omega (arith, c .before .least .ensures, min-le-right (c .before .before .before .before .before .args .state .filled) (length (c .before .before .before .before .before .args .input .now))))
 
-put-record-requires : tie.Need-put-record-requires
-put-record-requires c κs = search needs
-
-enum-told : tie.Need-enum-told
-enum-told c = search needs
-
-write-on-requires : tie.Need-write-on-requires
-write-on-requires c κs = search needs
-
-enum-told-2 : tie.Need-enum-told-2
-enum-told-2 c = search needs
-
-flush-requires : tie.Need-flush-requires
-flush-requires c κs = search needs
-
-same-length : tie.Need-same-length
-same-length c = search needs
-
-same-length-2 : tie.Need-same-length-2
-same-length-2 c = search needs
-
 returns : tie.Need-returns
 returns c =
     let t = c .before .before .before in
     rw (← course-is (t .before .before .before .before), t .enum-told2 .given .1) (tt, refl)
-
-read-on-requires : tie.Need-read-on-requires
-read-on-requires c κs = search needs
-
-enum-known-course : tie.Need-enum-known-course
-enum-known-course c = search needs
-
-enum-told-3 : tie.Need-enum-told-3
-enum-told-3 c = search needs
-
-flush-requires-2 : tie.Need-flush-requires-2
-flush-requires-2 c κs = search needs
-
-same-length-3 : tie.Need-same-length-3
-same-length-3 c = search needs
-
-same-length-4 : tie.Need-same-length-4
-same-length-4 c = search needs
 
 returns-2 : tie.Need-returns-2
 returns-2 c =
     let t = c .before .before in
     rw (← course-is (t .before .before .before .before), t .enum-told .given .1) (c .write-on .ensures, refl)
 
-same-length-5 : tie.Need-same-length-5
-same-length-5 c = search needs
-
-same-length-6 : tie.Need-same-length-6
-same-length-6 c = search needs
-
 returns-3 : tie.Need-returns-3
 returns-3 c =
     let t = c .before .before .before .before .before .before .before in
     rw (← course-is (t .before .before .before .before), t .enum-told2 .given .1) (c .before .before .read-on .ensures)
-
-same-length-7 : tie.Need-same-length-7
-same-length-7 c = search needs
-
-same-length-8 : tie.Need-same-length-8
-same-length-8 c = search needs
 
 returns-4 : tie.Need-returns-4
 returns-4 c =
     let f = c .before in
     let p = f .before .before .before .before in
     rw (← course-is p, f .course .given .1) (record { filled = refl; begins = refl; at = put p; listed = p .before .before .before .before .wrapping-add-u64 .ensures; ended = refl }, refl)
-
-same-length-9 : tie.Need-same-length-9
-same-length-9 c = search needs
-
-same-length-10 : tie.Need-same-length-10
-same-length-10 c = search needs
 
 returns-5 : tie.Need-returns-5
 returns-5 c =
@@ -125,33 +62,9 @@ returns-5 c =
 
 pub step-spec : {M : Type 1} → statement M
 step-spec =
-    tie.close
-    (tie.spec
-    wrapping-add-u64-requires
-    least-requires
-    slice-reshare-prefix-put-record
-    slice-aggregate-put-record
-    put-record-requires
-    enum-told
-    write-on-requires
-    enum-told-2
-    flush-requires
-    same-length
-    same-length-2
-    returns
-    read-on-requires
-    enum-known-course
-    enum-told-3
-    flush-requires-2
-    same-length-3
-    same-length-4
-    returns-2
-    same-length-5
-    same-length-6
-    returns-3
-    same-length-7
-    same-length-8
-    returns-4
-    same-length-9
-    same-length-10
-    returns-5)
+    tie.close (tie.spec (λ c _. search needs) (λ c _. search needs) slice-reshare-prefix-put-record
+    slice-aggregate-put-record (λ c _. search needs) (λ c. search needs) (λ c _. search needs) (λ c. search needs)
+    (λ c _. search needs) (λ c. search needs) (λ c. search needs) returns (λ c _. search needs)
+    (λ c. search needs) (λ c. search needs) (λ c _. search needs) (λ c. search needs) (λ c. search needs)
+    returns-2 (λ c. search needs) (λ c. search needs) returns-3 (λ c. search needs) (λ c. search needs) returns-4
+    (λ c. search needs) (λ c. search needs) returns-5)

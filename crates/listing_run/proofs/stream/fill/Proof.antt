@@ -14,35 +14,11 @@ use Rattle.listing_run.proofs.stream.fill.Tie as tie
 kept : (f : tie.Else1) → let s = f .before .before .args in (ys : List ℕ) → take (s .filled) (putMid (s .filled) (length (now (s .input)) - s .filled) (now (s .input)) ys) ≡ take (s .filled) (now (s .input))
 kept f ys = let s = f .before .before .args in take-put (s .filled) (length (now (s .input)) - s .filled) (now (s .input)) ys (le-of-lt (f .if1 .left))
 
-returns : tie.Need-returns
-returns c = search needs
-
-sub-part : tie.Need-sub-part
-sub-part c = search needs
-
-part-part-start : tie.Need-part-part-start
-part-part-start c = search needs
-
-part-part-end : tie.Need-part-part-end
-part-part-end c = search needs
-
-read-requires : tie.Need-read-requires
-read-requires c κs = search needs
-
-same-length : tie.Need-same-length
-same-length c = search needs
-
 returns-2 : tie.Need-returns-2
 returns-2 c =
     let r = c .before .before .before .before .before in
     let f = r .before .before .before in
     (f .if1 .left, kept f (r .read .last .1 .0))
-
-errno-requires : tie.Need-errno-requires
-errno-requires c κs = search needs
-
-same-length-2 : tie.Need-same-length-2
-same-length-2 c = search needs
 
 returns-3 : tie.Need-returns-3
 returns-3 c =
@@ -50,22 +26,10 @@ returns-3 c =
     let f = r .before .before .before in
     ((le-refl (f .before .before .args .filled), le-of-lt (f .if1 .left)), kept f (r .read .last .1 .0))
 
-same-length-3 : tie.Need-same-length-3
-same-length-3 c = search needs
-
 returns-4 : tie.Need-returns-4
 returns-4 c =
     let r = c .before .before .before .before .before .before .before .before in
     (tt, kept (r .before .before .before) (r .read .last .1 .0))
-
-count-requires : tie.Need-count-requires
-count-requires c κs = search needs
-
-add-t16 : tie.Need-add-t16
-add-t16 c = search needs
-
-same-length-4 : tie.Need-same-length-4
-same-length-4 c = search needs
 
 returns-5 : tie.Need-returns-5
 returns-5 c =
@@ -73,4 +37,7 @@ returns-5 c =
     ((search needs, search needs), kept (r .before .before .before) (r .read .last .1 .0))
 
 pub fill-spec : {M : Type 1} → statement M
-fill-spec = tie.close (tie.spec returns sub-part part-part-start part-part-end read-requires same-length returns-2 errno-requires same-length-2 returns-3 same-length-3 returns-4 count-requires add-t16 same-length-4 returns-5)
+fill-spec =
+    tie.close (tie.spec (λ c. search needs) (λ c. search needs) (λ c. search needs) (λ c. search needs) (λ c _. search needs)
+    (λ c. search needs) returns-2 (λ c _. search needs) (λ c. search needs) returns-3 (λ c. search needs)
+    returns-4 (λ c _. search needs) (λ c. search needs) (λ c. search needs) returns-5)

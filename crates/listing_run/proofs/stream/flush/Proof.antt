@@ -6,17 +6,12 @@ use borrow.Author.Needs.{needs}
 use Rattle.listing_run.proofs.stream.flush.Statement.{statement}
 use Rattle.listing_run.proofs.stream.flush.Tie as tie
 
-returns : tie.Need-returns
-returns c = search needs
-
 slice-aggregate-write-all : tie.Need-slice-aggregate-write-all
 slice-aggregate-write-all c = simp length-take (omega arith)
-
-write-all-requires : tie.Need-write-all-requires
-write-all-requires c κs = search needs
 
 returns-2 : tie.Need-returns-2
 returns-2 c = λ l. absurd (not-le-of-lt l (c .before .before .if1 .left))
 
 pub flush-spec : {M : Type 1} → statement M
-flush-spec = tie.close (tie.spec returns slice-aggregate-write-all write-all-requires returns-2)
+flush-spec =
+    tie.close (tie.spec (λ c. search needs) slice-aggregate-write-all (λ c _. search needs) returns-2)

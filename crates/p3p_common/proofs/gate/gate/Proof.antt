@@ -5,18 +5,9 @@ use Rattle.p3p_common.specs.Gate.{gate, ifValid}
 use Rattle.p3p_common.proofs.gate.gate.Statement.{statement}
 use Rattle.p3p_common.proofs.gate.gate.Tie as tie
 
-has-near-orthonormal-columns-requires : tie.Need-has-near-orthonormal-columns-requires
-has-near-orthonormal-columns-requires c κs = search needs
-
-projected-gate-requires : tie.Need-projected-gate-requires
-projected-gate-requires c κs = search needs
-
 returns : tie.Need-returns
 unfolding gate ifValid
 returns c = rw (← c .before .before .has-near-orthonormal-columns .ensures, not-true (c .before .before .has-near-orthonormal-columns .result) (c .before .if1 .taken)) (c .projected-gate .ensures)
-
-all-finite-requires : tie.Need-all-finite-requires
-all-finite-requires c κs = search needs
 
 returns-2 : tie.Need-returns-2
 unfolding gate ifValid
@@ -28,11 +19,4 @@ returns-3 c = rw (← c .before .before .before .has-near-orthonormal-columns .e
 
 pub gate-spec : {M : Type 1} → statement M
 gate-spec =
-    tie.close
-    (tie.spec
-    has-near-orthonormal-columns-requires
-    projected-gate-requires
-    returns
-    all-finite-requires
-    returns-2
-    returns-3)
+    tie.close (tie.spec (λ c _. search needs) (λ c _. search needs) returns (λ c _. search needs) returns-2 returns-3)

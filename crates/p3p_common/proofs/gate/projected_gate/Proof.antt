@@ -6,40 +6,13 @@ use Rattle.p3p_common.specs.Gate.{projectedGate, keepPoint0, ifValid}
 use Rattle.p3p_common.proofs.gate.projected_gate.Statement.{statement}
 use Rattle.p3p_common.proofs.gate.projected_gate.Tie as tie
 
-project-to-rotation-requires : tie.Need-project-to-rotation-requires
-project-to-rotation-requires c κs = search needs
-
-enum-known-rotation : tie.Need-enum-known-rotation
-enum-known-rotation c = search needs
-
-enum-told : tie.Need-enum-told
-enum-told c = search needs
-
 returns : tie.Need-returns
 unfolding projectedGate keepPoint0 ifValid cameraPoint
 returns c = rw (← c .before .before .project-to-rotation .ensures, c .enum-told .given .1)
 
-mul-vector-requires : tie.Need-mul-vector-requires
-mul-vector-requires c κs = search needs
-
-add-requires : tie.Need-add-requires
-add-requires c κs = search needs
-
-mul-vector-requires-2 : tie.Need-mul-vector-requires-2
-mul-vector-requires-2 c κs = search needs
-
-sub-requires : tie.Need-sub-requires
-sub-requires c κs = search needs
-
-projected-pose-fits-minimal-sample-requires : tie.Need-projected-pose-fits-minimal-sample-requires
-projected-pose-fits-minimal-sample-requires c κs = search needs
-
 returns-2 : tie.Need-returns-2
 unfolding projectedGate keepPoint0 ifValid cameraPoint
 returns-2 c = rw (← c .before .before .before .before .before .before .before .before .before .before .before .project-to-rotation .ensures, c .before .before .before .before .before .before .before .before .before .rotation .given .1, ← c .before .before .before .before .before .mul-vector .ensures, ← c .before .before .before .before .add .ensures, ← c .before .before .before .mul-vector2 .ensures, ← c .before .before .sub .ensures, ← c .before .projected-pose-fits-minimal-sample .ensures, not-true (c .before .projected-pose-fits-minimal-sample .result) (c .if1 .taken))
-
-all-finite-requires : tie.Need-all-finite-requires
-all-finite-requires c κs = search needs
 
 returns-3 : tie.Need-returns-3
 unfolding projectedGate keepPoint0 ifValid cameraPoint
@@ -51,18 +24,6 @@ returns-4 c = rw (← c .before .before .before .before .before .before .before 
 
 pub projected-gate-spec : {M : Type 1} → statement M
 projected-gate-spec =
-    tie.close
-    (tie.spec
-    project-to-rotation-requires
-    enum-known-rotation
-    enum-told
-    returns
-    mul-vector-requires
-    add-requires
-    mul-vector-requires-2
-    sub-requires
-    projected-pose-fits-minimal-sample-requires
-    returns-2
-    all-finite-requires
-    returns-3
-    returns-4)
+    tie.close (tie.spec (λ c _. search needs) (λ c. search needs) (λ c. search needs) returns (λ c _. search needs)
+    (λ c _. search needs) (λ c _. search needs) (λ c _. search needs) (λ c _. search needs) returns-2
+    (λ c _. search needs) returns-3 returns-4)

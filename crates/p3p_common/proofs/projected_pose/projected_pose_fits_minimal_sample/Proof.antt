@@ -5,22 +5,13 @@ use Rattle.p3p_common.specs.ProjectedPose.{projectedPoseFitsMinimalSampl
 use Rattle.p3p_common.proofs.projected_pose.projected_pose_fits_minimal_sample.Statement.{statement}
 use Rattle.p3p_common.proofs.projected_pose.projected_pose_fits_minimal_sample.Tie as tie
 
-observation-fits-requires : tie.Need-observation-fits-requires
-observation-fits-requires c κs = search needs
-
 returns : tie.Need-returns
 unfolding projectedPoseFitsMinimalSample
 returns c = rw (← c .before .observation-fits .ensures, not-true (c .before .observation-fits .result) (c .if1 .taken))
 
-observation-fits-requires-2 : tie.Need-observation-fits-requires-2
-observation-fits-requires-2 c κs = search needs
-
 returns-2 : tie.Need-returns-2
 unfolding projectedPoseFitsMinimalSample
 returns-2 c = rw (← c .before .before .before .observation-fits .ensures, not-false (c .before .before .before .observation-fits .result) (c .before .before .if1 .left), ← c .before .observation-fits2 .ensures, not-true (c .before .observation-fits2 .result) (c .if2 .taken))
-
-observation-fits-requires-3 : tie.Need-observation-fits-requires-3
-observation-fits-requires-3 c κs = search needs
 
 returns-3 : tie.Need-returns-3
 unfolding projectedPoseFitsMinimalSample
@@ -28,11 +19,4 @@ returns-3 c = rw (← c .before .before .before .before .observation-fits .ensur
 
 pub projected-pose-fits-minimal-sample-spec : {M : Type 1} → statement M
 projected-pose-fits-minimal-sample-spec =
-    tie.close
-    (tie.spec
-    observation-fits-requires
-    returns
-    observation-fits-requires-2
-    returns-2
-    observation-fits-requires-3
-    returns-3)
+    tie.close (tie.spec (λ c _. search needs) returns (λ c _. search needs) returns-2 (λ c _. search needs) returns-3)

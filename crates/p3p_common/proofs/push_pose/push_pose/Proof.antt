@@ -4,24 +4,6 @@ use Rattle.p3p_common.specs.PushPose.{pushPose, pushGated}
 use Rattle.p3p_common.proofs.push_pose.push_pose.Statement.{statement}
 use Rattle.p3p_common.proofs.push_pose.push_pose.Tie as tie
 
-gate-requires : tie.Need-gate-requires
-gate-requires c κs = search needs
-
-enum-known-pose : tie.Need-enum-known-pose
-enum-known-pose c = search needs
-
-push-requires : tie.Need-push-requires
-push-requires c κs = search needs
-
-enum-known-pose-2 : tie.Need-enum-known-pose-2
-enum-known-pose-2 c = search needs
-
-push-requires-2 : tie.Need-push-requires-2
-push-requires-2 c κs = search needs
-
-enum-told : tie.Need-enum-told
-enum-told c = search needs
-
 returns : tie.Need-returns
 unfolding pushPose pushGated
 returns c = rw (← c .before .before .before .before .gate .ensures, c .before .before .pose .given .1) (c .push .ensures)
@@ -36,14 +18,5 @@ returns-3 c = rw (← c .before .before .gate .ensures, c .enum-told .given .1)
 
 pub push-pose-spec : {M : Type 1} → statement M
 push-pose-spec =
-    tie.close
-    (tie.spec
-    gate-requires
-    enum-known-pose
-    push-requires
-    enum-known-pose-2
-    push-requires-2
-    enum-told
-    returns
-    returns-2
-    returns-3)
+    tie.close (tie.spec (λ c _. search needs) (λ c. search needs) (λ c _. search needs) (λ c. search needs)
+    (λ c _. search needs) (λ c. search needs) returns returns-2 returns-3)

@@ -7,12 +7,6 @@ use Rattle.p3p_common.specs.RayFits.{rayFits}
 use Rattle.p3p_common.proofs.ray_fits.ray_fits.Statement.{statement}
 use Rattle.p3p_common.proofs.ray_fits.ray_fits.Tie as tie
 
-dot-requires : tie.Need-dot-requires
-dot-requires c κs = search needs
-
-is-finite-requires : tie.Need-is-finite-requires
-is-finite-requires c κs = search needs
-
 returns : tie.Need-returns
 unfolding rayFits
 returns c = rw (← c .before .before .dot .ensures, ← c .before .is-finite .ensures, not-true (c .before .is-finite .result) (c .if1 .taken))
@@ -21,24 +15,11 @@ returns-2 : tie.Need-returns-2
 unfolding rayFits
 returns-2 c = rw (← c .before .before .before .dot .ensures, ← c .before .before .is-finite .ensures, not-false (c .before .before .is-finite .result) (c .before .if1 .left), not-true (lt (double 0) (c .before .before .before .dot .result)) (c .if2 .taken))
 
-cross-requires : tie.Need-cross-requires
-cross-requires c κs = search needs
-
-norm-squared-requires : tie.Need-norm-squared-requires
-norm-squared-requires c κs = search needs
-
 returns-3 : tie.Need-returns-3
 unfolding rayFits
 returns-3 c = rw (← c .before .before .before .before .before .dot .ensures, ← c .before .before .before .before .is-finite .ensures, not-false (c .before .before .before .before .is-finite .result) (c .before .before .before .if1 .left), not-false (lt (double 0) (c .before .before .before .before .before .dot .result)) (c .before .before .if2 .left), ← c .before .cross .ensures, ← c .norm-squared .ensures)
 
 pub ray-fits-spec : {M : Type 1} → statement M
 ray-fits-spec =
-    tie.close
-    (tie.spec
-    dot-requires
-    is-finite-requires
-    returns
-    returns-2
-    cross-requires
-    norm-squared-requires
-    returns-3)
+    tie.close (tie.spec (λ c _. search needs) (λ c _. search needs) returns returns-2 (λ c _. search needs)
+    (λ c _. search needs) returns-3)

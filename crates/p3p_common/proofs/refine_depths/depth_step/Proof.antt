@@ -4,18 +4,9 @@ use Rattle.p3p_common.specs.RefineDepths.{depthStep}
 use Rattle.p3p_common.proofs.refine_depths.depth_step.Statement.{statement}
 use Rattle.p3p_common.proofs.refine_depths.depth_step.Tie as tie
 
-depth-residual-requires : tie.Need-depth-residual-requires
-depth-residual-requires c κs = search needs
-
-abs-sum-requires : tie.Need-abs-sum-requires
-abs-sum-requires c κs = search needs
-
 returns : tie.Need-returns
 unfolding depthStep
 returns c = rw (← c .before .before .depth-residual .ensures, ← c .before .abs-sum .ensures, c .if1 .taken)
-
-depth-update-requires : tie.Need-depth-update-requires
-depth-update-requires c κs = search needs
 
 returns-2 : tie.Need-returns-2
 unfolding depthStep
@@ -23,5 +14,4 @@ returns-2 c = rw (← c .before .before .before .depth-residual .ensures, ← c 
 
 pub depth-step-spec : {M : Type 1} → statement M
 depth-step-spec =
-    tie.close
-    (tie.spec depth-residual-requires abs-sum-requires returns depth-update-requires returns-2)
+    tie.close (tie.spec (λ c _. search needs) (λ c _. search needs) returns (λ c _. search needs) returns-2)

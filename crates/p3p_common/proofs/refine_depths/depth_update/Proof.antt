@@ -5,9 +5,6 @@ use Rattle.p3p_common.specs.RefineDepths.{depthUpdate, ifFinite}
 use Rattle.p3p_common.proofs.refine_depths.depth_update.Statement.{statement}
 use Rattle.p3p_common.proofs.refine_depths.depth_update.Tie as tie
 
-is-finite-requires : tie.Need-is-finite-requires
-is-finite-requires c κs = search needs
-
 returns : tie.Need-returns
 unfolding depthUpdate ifFinite
 returns c = rw (← c .before .is-finite .ensures, not-true (c .before .is-finite .result) (c .if1 .taken))
@@ -15,9 +12,6 @@ returns c = rw (← c .before .is-finite .ensures, not-true (c .before .is-finit
 returns-2 : tie.Need-returns-2
 unfolding depthUpdate ifFinite
 returns-2 c = rw (← c .before .before .is-finite .ensures, not-false (c .before .before .is-finite .result) (c .before .if1 .left), c .if2 .taken)
-
-all-finite-requires : tie.Need-all-finite-requires
-all-finite-requires c κs = search needs
 
 returns-3 : tie.Need-returns-3
 unfolding depthUpdate ifFinite
@@ -29,5 +23,4 @@ returns-4 c = rw (← c .before .before .before .before .is-finite .ensures, not
 
 pub depth-update-spec : {M : Type 1} → statement M
 depth-update-spec =
-    tie.close
-    (tie.spec is-finite-requires returns returns-2 all-finite-requires returns-3 returns-4)
+    tie.close (tie.spec (λ c _. search needs) returns returns-2 (λ c _. search needs) returns-3 returns-4)

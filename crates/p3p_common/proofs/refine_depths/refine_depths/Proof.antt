@@ -16,32 +16,14 @@ Inv-loop edges cosines iterations a01 a02 a12 tolerance refined₀ updates₀ re
 abbrev μ-loop : tie.MeasureT-loop
 μ-loop edges cosines iterations a01 a02 a12 tolerance refined₀ updates₀ refined updates = iterations - updates
 
-max-requires : tie.Need-max-requires Inv-loop μ-loop
-max-requires c κs = search needs
-
-max-requires-2 : tie.Need-max-requires-2 Inv-loop μ-loop
-max-requires-2 c κs = search needs
-
 loop-holds : tie.Need-loop-holds Inv-loop μ-loop
 loop-holds c = (search needs, rw (sub-zero (c .before .before .args .iterations)))
-
-depth-step-requires : tie.Need-depth-step-requires Inv-loop μ-loop
-depth-step-requires c κs = search needs
-
-enum-known-candidate : tie.Need-enum-known-candidate Inv-loop μ-loop
-enum-known-candidate c = search needs
-
-enum-told : tie.Need-enum-told Inv-loop μ-loop
-enum-told c = search needs
 
 returns : tie.Need-returns Inv-loop μ-loop
 unfolding refineDepths
 returns c =
     rw (← c .before .before .before .before .before .before .max .ensures, ← c .before .before .before .before .before .max2 .ensures)
     (turns-stop (c .before .before .before .before .loop .refined) _ _ _ _ (c .before .before .before .before .loop .updates) (c .before .before .before .loop-test .taken) (sym (c .before .before .depth-step .ensures) ∙ c .enum-told .given .1) ∙ c .before .before .before .before .loop .inv .1)
-
-add-updates : tie.Need-add-updates Inv-loop μ-loop
-add-updates c = search needs
 
 loop-less : tie.Need-loop-less Inv-loop μ-loop
 loop-less c = omega arith
@@ -56,18 +38,5 @@ returns-2 c = rw (← c .before .before .before .max .ensures, ← c .before .be
 
 pub refine-depths-spec : {M : Type 1} → statement M
 refine-depths-spec =
-    tie.close
-    (tie.spec
-    Inv-loop
-    μ-loop
-    max-requires
-    max-requires-2
-    loop-holds
-    depth-step-requires
-    enum-known-candidate
-    enum-told
-    returns
-    add-updates
-    loop-less
-    loop-again
-    returns-2)
+    tie.close (tie.spec Inv-loop μ-loop (λ c _. search needs) (λ c _. search needs) loop-holds (λ c _. search needs)
+    (λ c. search needs) (λ c. search needs) returns (λ c. search needs) loop-less loop-again returns-2)

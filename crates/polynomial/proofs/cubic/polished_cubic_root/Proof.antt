@@ -4,24 +4,15 @@ use Rattle.polynomial.specs.PolishedRoot.{polishedCubicRoot}
 use Rattle.polynomial.proofs.cubic.polished_cubic_root.Statement.{statement}
 use Rattle.polynomial.proofs.cubic.polished_cubic_root.Tie as tie
 
-is-finite-requires : tie.Need-is-finite-requires
-is-finite-requires c κs = search needs
-
 returns : tie.Need-returns
 unfolding polishedCubicRoot
 returns c = rw (← c .before .is-finite .ensures, c .if1 .taken)
-
-is-finite-requires-2 : tie.Need-is-finite-requires-2
-is-finite-requires-2 c κs = search needs
 
 returns-2 : tie.Need-returns-2
 unfolding polishedCubicRoot
 returns-2 c =
     let e1 = c .before .before in
     rw (← e1 .before .is-finite .ensures, e1 .if1 .left, ← c .before .is-finite2 .ensures, c .if2 .taken)
-
-is-finite-requires-3 : tie.Need-is-finite-requires-3
-is-finite-requires-3 c κs = search needs
 
 returns-3 : tie.Need-returns-3
 unfolding polishedCubicRoot
@@ -30,9 +21,6 @@ returns-3 c =
     let e1 = e2 .before .before in
     rw (← e1 .before .is-finite .ensures, e1 .if1 .left, ← e2 .before .is-finite2 .ensures, e2 .if2 .left, ← c .before .is-finite3 .ensures, c .if3 .taken)
 
-all-zero-requires : tie.Need-all-zero-requires
-all-zero-requires c κs = search needs
-
 returns-4 : tie.Need-returns-4
 unfolding polishedCubicRoot
 returns-4 c =
@@ -40,9 +28,6 @@ returns-4 c =
     let e2 = e3 .before .before in
     let e1 = e2 .before .before in
     rw (← e1 .before .is-finite .ensures, e1 .if1 .left, ← e2 .before .is-finite2 .ensures, e2 .if2 .left, ← e3 .before .is-finite3 .ensures, e3 .if3 .left, ← c .before .all-zero .ensures, c .if4 .taken)
-
-polished-root-requires : tie.Need-polished-root-requires
-polished-root-requires c κs = search needs
 
 returns-5 : tie.Need-returns-5
 unfolding polishedCubicRoot
@@ -55,15 +40,5 @@ returns-5 c =
 
 pub polished-cubic-root-spec : {M : Type 1} → statement M
 polished-cubic-root-spec =
-    tie.close
-    (tie.spec
-    is-finite-requires
-    returns
-    is-finite-requires-2
-    returns-2
-    is-finite-requires-3
-    returns-3
-    all-zero-requires
-    returns-4
-    polished-root-requires
-    returns-5)
+    tie.close (tie.spec (λ c _. search needs) returns (λ c _. search needs) returns-2 (λ c _. search needs) returns-3
+    (λ c _. search needs) returns-4 (λ c _. search needs) returns-5)

@@ -4,12 +4,6 @@ use Rattle.polynomial.specs.PolishedRoot.{rescaledRoot}
 use Rattle.polynomial.proofs.cubic.rescaled_root.Statement.{statement}
 use Rattle.polynomial.proofs.cubic.rescaled_root.Tie as tie
 
-newton-steps-requires : tie.Need-newton-steps-requires
-newton-steps-requires c κs = search needs
-
-is-finite-requires : tie.Need-is-finite-requires
-is-finite-requires c κs = search needs
-
 returns : tie.Need-returns
 unfolding rescaledRoot
 returns c = rw (← c .before .before .newton-steps .ensures, ← c .before .is-finite .ensures, c .if1 .taken)
@@ -20,4 +14,4 @@ returns-2 c = rw (← c .before .before .newton-steps .ensures, ← c .before .i
 
 pub rescaled-root-spec : {M : Type 1} → statement M
 rescaled-root-spec =
-    tie.close (tie.spec newton-steps-requires is-finite-requires returns returns-2)
+    tie.close (tie.spec (λ c _. search needs) (λ c _. search needs) returns returns-2)

@@ -4,18 +4,9 @@ use Rattle.polynomial.specs.CubicScale.{cubicVariableScale}
 use Rattle.polynomial.proofs.cubic_scale.cubic_variable_scale.Statement.{statement}
 use Rattle.polynomial.proofs.cubic_scale.cubic_variable_scale.Tie as tie
 
-all-zero-requires : tie.Need-all-zero-requires
-all-zero-requires c κs = search needs
-
 returns : tie.Need-returns
 unfolding cubicVariableScale
 returns c = rw (← c .before .all-zero .ensures, c .if1 .taken)
-
-large-requires : tie.Need-large-requires
-large-requires c κs = search needs
-
-root-magnitude-requires : tie.Need-root-magnitude-requires
-root-magnitude-requires c κs = search needs
 
 returns-2 : tie.Need-returns-2
 unfolding cubicVariableScale
@@ -23,12 +14,6 @@ returns-2 c =
     let e2 = c .before in
     let e1 = e2 .before .before in
     rw (← e1 .before .all-zero .ensures, e1 .if1 .left, ← e2 .before .large .ensures, e2 .if2 .taken, ← c .root-magnitude .ensures)
-
-tiny-requires : tie.Need-tiny-requires
-tiny-requires c κs = search needs
-
-root-magnitude-requires-2 : tie.Need-root-magnitude-requires-2
-root-magnitude-requires-2 c κs = search needs
 
 returns-3 : tie.Need-returns-3
 unfolding cubicVariableScale
@@ -47,14 +32,5 @@ returns-4 c =
 
 pub cubic-variable-scale-spec : {M : Type 1} → statement M
 cubic-variable-scale-spec =
-    tie.close
-    (tie.spec
-    all-zero-requires
-    returns
-    large-requires
-    root-magnitude-requires
-    returns-2
-    tiny-requires
-    root-magnitude-requires-2
-    returns-3
-    returns-4)
+    tie.close (tie.spec (λ c _. search needs) returns (λ c _. search needs) (λ c _. search needs) returns-2
+    (λ c _. search needs) (λ c _. search needs) returns-3 returns-4)

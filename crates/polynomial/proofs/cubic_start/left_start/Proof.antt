@@ -4,15 +4,6 @@ use Rattle.polynomial.specs.CubicStart.{leftStart}
 use Rattle.polynomial.proofs.cubic_start.left_start.Statement.{statement}
 use Rattle.polynomial.proofs.cubic_start.left_start.Tie as tie
 
-turning-offset-requires : tie.Need-turning-offset-requires
-turning-offset-requires c κs = search needs
-
-enum-known-offset : tie.Need-enum-known-offset
-enum-known-offset c = search needs
-
-enum-told : tie.Need-enum-told
-enum-told c = search needs
-
 returns : tie.Need-returns
 unfolding leftStart
 returns c = rw (← c .before .before .turning-offset .ensures, c .enum-told .given .1)
@@ -25,4 +16,4 @@ returns-2 c =
 
 pub left-start-spec : {M : Type 1} → statement M
 left-start-spec =
-    tie.close (tie.spec turning-offset-requires enum-known-offset enum-told returns returns-2)
+    tie.close (tie.spec (λ c _. search needs) (λ c. search needs) (λ c. search needs) returns returns-2)

@@ -4,18 +4,6 @@ use Rattle.polynomial.specs.CubicStart.{rightStart}
 use Rattle.polynomial.proofs.cubic_start.right_start.Statement.{statement}
 use Rattle.polynomial.proofs.cubic_start.right_start.Tie as tie
 
-cubic-value-requires : tie.Need-cubic-value-requires
-cubic-value-requires c κs = search needs
-
-turning-offset-requires : tie.Need-turning-offset-requires
-turning-offset-requires c κs = search needs
-
-enum-known-offset : tie.Need-enum-known-offset
-enum-known-offset c = search needs
-
-enum-told : tie.Need-enum-told
-enum-told c = search needs
-
 returns : tie.Need-returns
 unfolding rightStart
 returns c = rw (← c .before .before .before .cubic-value .ensures, ← c .before .before .turning-offset .ensures, c .enum-told .given .1)
@@ -28,11 +16,5 @@ returns-2 c =
 
 pub right-start-spec : {M : Type 1} → statement M
 right-start-spec =
-    tie.close
-    (tie.spec
-    cubic-value-requires
-    turning-offset-requires
-    enum-known-offset
-    enum-told
-    returns
+    tie.close (tie.spec (λ c _. search needs) (λ c _. search needs) (λ c. search needs) (λ c. search needs) returns
     returns-2)

@@ -4,17 +4,11 @@ use Rattle.polynomial.specs.CubicStart.{startRoot}
 use Rattle.polynomial.proofs.cubic_start.start_root.Statement.{statement}
 use Rattle.polynomial.proofs.cubic_start.start_root.Tie as tie
 
-cardano-single-real-requires : tie.Need-cardano-single-real-requires
-cardano-single-real-requires c κs = search needs
-
 returns : tie.Need-returns
 unfolding startRoot
 returns c =
     let e1 = c .before in
     rw (e1 .if1 .taken, ← c .cardano-single-real .ensures)
-
-turning-start-requires : tie.Need-turning-start-requires
-turning-start-requires c κs = search needs
 
 returns-2 : tie.Need-returns-2
 unfolding startRoot
@@ -31,5 +25,4 @@ returns-3 c =
 
 pub start-root-spec : {M : Type 1} → statement M
 start-root-spec =
-    tie.close
-    (tie.spec cardano-single-real-requires returns turning-start-requires returns-2 returns-3)
+    tie.close (tie.spec (λ c _. search needs) returns (λ c _. search needs) returns-2 returns-3)

@@ -14,9 +14,6 @@ returns-2 c =
     let e1 = c .before in
     rw (e1 .if1 .left, c .if2 .taken)
 
-sqrt-requires : tie.Need-sqrt-requires
-sqrt-requires c κs = search needs
-
 returns-3 : tie.Need-returns-3
 unfolding turningOffset
 returns-3 c =
@@ -25,4 +22,5 @@ returns-3 c =
     rw (e1 .if1 .left, e2 .if2 .left, ← c .sqrt .ensures)
 
 pub turning-offset-spec : {M : Type 1} → statement M
-turning-offset-spec = tie.close (tie.spec returns returns-2 sqrt-requires returns-3)
+turning-offset-spec =
+    tie.close (tie.spec returns returns-2 (λ c _. search needs) returns-3)

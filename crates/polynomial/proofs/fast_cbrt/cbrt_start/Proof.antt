@@ -11,9 +11,6 @@ use Rattle.polynomial.specs.FastCbrt.{cbrtStart}
 use Rattle.polynomial.proofs.fast_cbrt.cbrt_start.Statement.{statement}
 use Rattle.polynomial.proofs.fast_cbrt.cbrt_start.Tie as tie
 
-float-to-bits-result : tie.Need-float-to-bits-result
-float-to-bits-result c = search needs
-
 add-result : tie.Need-add-result
 add-result c =
     let bound : toBits binary64 (c .args .magnitude) < 0x1_0000_0000_0000_0000 = toBits-lt binary64 (c .args .magnitude) (passes _ (c .good .0 .1)) in
@@ -31,4 +28,5 @@ unfolding cbrtStart
 returns c = refl
 
 pub cbrt-start-spec : {M : Type 1} → statement M
-cbrt-start-spec = tie.close (tie.spec float-to-bits-result add-result float-from-bits-result returns)
+cbrt-start-spec =
+    tie.close (tie.spec (λ c. search needs) add-result float-from-bits-result returns)

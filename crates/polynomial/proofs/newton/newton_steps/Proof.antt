@@ -6,8 +6,7 @@ use Prim.Native.Nat.{ℕ, suc, _-_, _+_, _≤_, _<_}
 use mathlib.Core.Path.{_≡_, refl, sym, _∙_}
 use lib.Ieee.{Float}
 use Rattle.polynomial.specs.Newton.{newtonStep, newtonSteps}
-use Rattle.polynomial.specs.declared.Monic.{Monic}
-use Rattle.polynomial.specs.declared.Step.the-variants.{Next, Stop}
+use Rattle.polynomial.specs.Types.{Monic, Next, Stop}
 use Rattle.polynomial.proofs.newton.newton_steps.Statement.{statement}
 use Rattle.polynomial.proofs.newton.newton_steps.Tie as tie
 
@@ -34,22 +33,10 @@ abbrev μ-loop : tie.MeasureT-loop
 loop-holds : tie.Need-loop-holds Inv-loop μ-loop
 loop-holds c = (search needs, refl)
 
-newton-step-requires : tie.Need-newton-step-requires Inv-loop μ-loop
-newton-step-requires c κs = search needs
-
-enum-known-next : tie.Need-enum-known-next Inv-loop μ-loop
-enum-known-next c = search needs
-
-enum-told : tie.Need-enum-told Inv-loop μ-loop
-enum-told c = search needs
-
 returns : tie.Need-returns Inv-loop μ-loop
 returns c =
     let loop = c .before .before .before .before .loop in
     stops _ (loop .root) (loop .steps) (c .before .before .before .loop-test .taken) (sym (c .before .before .newton-step .ensures) ∙ c .enum-told .given .1) ∙ loop .inv .1
-
-add-steps : tie.Need-add-steps Inv-loop μ-loop
-add-steps c = search needs
 
 loop-less : tie.Need-loop-less Inv-loop μ-loop
 loop-less c = omega arith
@@ -64,16 +51,5 @@ returns-2 c = ends _ (c .before .loop .root) (c .before .loop .steps) (c .loop-t
 
 pub newton-steps-spec : {M : Type 1} → statement M
 newton-steps-spec =
-    tie.close
-    (tie.spec
-    Inv-loop
-    μ-loop
-    loop-holds
-    newton-step-requires
-    enum-known-next
-    enum-told
-    returns
-    add-steps
-    loop-less
-    loop-again
-    returns-2)
+    tie.close (tie.spec Inv-loop μ-loop loop-holds (λ c _. search needs) (λ c. search needs) (λ c. search needs) returns
+    (λ c. search needs) loop-less loop-again returns-2)

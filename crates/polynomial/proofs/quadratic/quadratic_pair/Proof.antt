@@ -8,12 +8,6 @@ returns : tie.Need-returns
 unfolding quadraticPair
 returns c = rw (c .if1 .taken)
 
-sqrt-requires : tie.Need-sqrt-requires
-sqrt-requires c κs = search needs
-
-copysign-requires : tie.Need-copysign-requires
-copysign-requires c κs = search needs
-
 returns-2 : tie.Need-returns-2
 unfolding quadraticPair
 returns-2 c =
@@ -28,4 +22,4 @@ returns-3 c =
 
 pub quadratic-pair-spec : {M : Type 1} → statement M
 quadratic-pair-spec =
-    tie.close (tie.spec returns sqrt-requires copysign-requires returns-2 returns-3)
+    tie.close (tie.spec returns (λ c _. search needs) (λ c _. search needs) returns-2 returns-3)

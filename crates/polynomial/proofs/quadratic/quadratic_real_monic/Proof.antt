@@ -4,16 +4,10 @@ use Rattle.polynomial.specs.Quadratic.{quadraticRealMonic}
 use Rattle.polynomial.proofs.quadratic.quadratic_real_monic.Statement.{statement}
 use Rattle.polynomial.proofs.quadratic.quadratic_real_monic.Tie as tie
 
-abs-requires : tie.Need-abs-requires
-abs-requires c κs = search needs
-
-quadratic-real-monic-computed-requires : tie.Need-quadratic-real-monic-computed-requires
-quadratic-real-monic-computed-requires c κs = search needs
-
 returns : tie.Need-returns
 unfolding quadraticRealMonic
 returns c = rw (← c .before .abs .ensures, ← c .quadratic-real-monic-computed .ensures)
 
 pub quadratic-real-monic-spec : {M : Type 1} → statement M
 quadratic-real-monic-spec =
-    tie.close (tie.spec abs-requires quadratic-real-monic-computed-requires returns)
+    tie.close (tie.spec (λ c _. search needs) (λ c _. search needs) returns)

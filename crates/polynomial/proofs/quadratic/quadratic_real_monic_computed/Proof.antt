@@ -4,27 +4,15 @@ use Rattle.polynomial.specs.Quadratic.{quadraticRealMonicComputed}
 use Rattle.polynomial.proofs.quadratic.quadratic_real_monic_computed.Statement.{statement}
 use Rattle.polynomial.proofs.quadratic.quadratic_real_monic_computed.Tie as tie
 
-is-finite-requires : tie.Need-is-finite-requires
-is-finite-requires c κs = search needs
-
 returns : tie.Need-returns
 unfolding quadraticRealMonicComputed
 returns c = rw (← c .before .is-finite .ensures, c .if1 .taken)
-
-is-finite-requires-2 : tie.Need-is-finite-requires-2
-is-finite-requires-2 c κs = search needs
 
 returns-2 : tie.Need-returns-2
 unfolding quadraticRealMonicComputed
 returns-2 c =
     let e1 = c .before .before in
     rw (← e1 .before .is-finite .ensures, e1 .if1 .left, ← c .before .is-finite2 .ensures, c .if2 .taken)
-
-fma-requires : tie.Need-fma-requires
-fma-requires c κs = search needs
-
-max-requires : tie.Need-max-requires
-max-requires c κs = search needs
 
 returns-3 : tie.Need-returns-3
 unfolding quadraticRealMonicComputed
@@ -33,9 +21,6 @@ returns-3 c =
     let e1 = e2 .before .before in
     rw (← e1 .before .is-finite .ensures, e1 .if1 .left, ← e2 .before .is-finite2 .ensures, e2 .if2 .left, ← c .before .before .fma .ensures, ← c .before .max .ensures, c .if3 .taken)
 
-is-finite-requires-3 : tie.Need-is-finite-requires-3
-is-finite-requires-3 c κs = search needs
-
 returns-4 : tie.Need-returns-4
 unfolding quadraticRealMonicComputed
 returns-4 c =
@@ -43,12 +28,6 @@ returns-4 c =
     let e2 = e3 .before .before .before in
     let e1 = e2 .before .before in
     rw (← e1 .before .is-finite .ensures, e1 .if1 .left, ← e2 .before .is-finite2 .ensures, e2 .if2 .left, ← e3 .before .before .fma .ensures, ← e3 .before .max .ensures, e3 .if3 .left, ← c .before .is-finite3 .ensures, c .if4 .taken)
-
-max-requires-2 : tie.Need-max-requires-2
-max-requires-2 c κs = search needs
-
-quadratic-pair-requires : tie.Need-quadratic-pair-requires
-quadratic-pair-requires c κs = search needs
 
 returns-5 : tie.Need-returns-5
 unfolding quadraticRealMonicComputed
@@ -61,17 +40,6 @@ returns-5 c =
 
 pub quadratic-real-monic-computed-spec : {M : Type 1} → statement M
 quadratic-real-monic-computed-spec =
-    tie.close
-    (tie.spec
-    is-finite-requires
-    returns
-    is-finite-requires-2
-    returns-2
-    fma-requires
-    max-requires
-    returns-3
-    is-finite-requires-3
-    returns-4
-    max-requires-2
-    quadratic-pair-requires
+    tie.close (tie.spec (λ c _. search needs) returns (λ c _. search needs) returns-2 (λ c _. search needs)
+    (λ c _. search needs) returns-3 (λ c _. search needs) returns-4 (λ c _. search needs) (λ c _. search needs)
     returns-5)

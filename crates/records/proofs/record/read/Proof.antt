@@ -13,14 +13,8 @@ use Rattle.records.proofs.record.read.Tie as tie
 returns : tie.Need-returns
 returns c = sym (ended _ _ (c .if1 .taken))
 
-sub-left : tie.Need-sub-left
-sub-left c = search needs
-
 returns-2 : tie.Need-returns-2
 returns-2 c = sym (lone-byte _ _ (c .before .if1 .left) (c .if2 .taken))
-
-number-requires : tie.Need-number-requires
-number-requires c κs = search needs
 
 returns-3 : tie.Need-returns-3
 returns-3 c = sym (wrong-length _ _ (c .before .before .if2 .left) (λ e. c .if3 .taken (c .before .number .ensures ∙ e)))
@@ -32,23 +26,8 @@ right c = sym (c .before .number .ensures) ∙ c .if3 .left
 returns-4 : tie.Need-returns-4
 returns-4 c = sym (truncated _ _ (c .before .before .before .if2 .left) (right (c .before)) (c .if4 .taken))
 
-add-next : tie.Need-add-next
-add-next c = search needs
-
-add-version : tie.Need-add-version
-add-version c = search needs
-
-shared-slice-read-version : tie.Need-shared-slice-read-version
-shared-slice-read-version c = search needs
-
 returns-5 : tie.Need-returns-5
 returns-5 c = let e = c .before .before in sym (wrong-version _ _ (e .before .before .before .if2 .left) (right (e .before)) (e .if4 .left) (c .if5 .taken))
-
-add-frame-at : tie.Need-add-frame-at
-add-frame-at c = search needs
-
-frame-at-requires : tie.Need-frame-at-requires
-frame-at-requires c κs = search needs
 
 returns-6 : tie.Need-returns-6
 returns-6 c =
@@ -58,18 +37,5 @@ returns-6 c =
 
 pub read-spec : {M : Type 1} → statement M
 read-spec =
-    tie.close
-    (tie.spec
-    returns
-    sub-left
-    returns-2
-    number-requires
-    returns-3
-    returns-4
-    add-next
-    add-version
-    shared-slice-read-version
-    returns-5
-    add-frame-at
-    frame-at-requires
-    returns-6)
+    tie.close (tie.spec returns (λ c. search needs) returns-2 (λ c _. search needs) returns-3 returns-4 (λ c. search needs)
+    (λ c. search needs) (λ c. search needs) returns-5 (λ c. search needs) (λ c _. search needs) returns-6)

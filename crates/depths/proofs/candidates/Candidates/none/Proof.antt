@@ -4,12 +4,10 @@ use Rattle.depths.specs.DepthSlots.{noCandidates}
 use Rattle.depths.proofs.candidates.Candidates.none.Statement.{statement}
 use Rattle.depths.proofs.candidates.Candidates.none.Tie as tie
 
-zeros-requires : tie.Need-zeros-requires
-zeros-requires c κs = search needs
-
 returns : tie.Need-returns
 unfolding noCandidates
 returns c = cc
 
 pub none-spec : {M : Type 1} → statement M
-none-spec = tie.close (tie.spec zeros-requires returns)
+none-spec =
+    tie.close (tie.spec (λ c _. search needs) returns)

@@ -5,15 +5,6 @@ use Rattle.depths.specs.DepthSlots.{pushIfPositive}
 use Rattle.depths.proofs.candidates.Candidates.push_if_positive.Statement.{statement}
 use Rattle.depths.proofs.candidates.Candidates.push_if_positive.Tie as tie
 
-mul-depths : tie.Need-mul-depths
-mul-depths c = search needs
-
-element-set-from-depths : tie.Need-element-set-from-depths
-element-set-from-depths c = search needs
-
-add-self : tie.Need-add-self
-add-self c = search needs
-
 returns : tie.Need-returns
 unfolding pushIfPositive
 returns c = rw (c .before .if1 .taken, lt-ltb _ _ (c .if2 .taken))
@@ -28,4 +19,4 @@ returns-3 c = rw (c .if1 .left)
 
 pub push-if-positive-spec : {M : Type 1} → statement M
 push-if-positive-spec =
-    tie.close (tie.spec mul-depths element-set-from-depths add-self returns returns-2 returns-3)
+    tie.close (tie.spec (λ c. search needs) (λ c. search needs) (λ c. search needs) returns returns-2 returns-3)

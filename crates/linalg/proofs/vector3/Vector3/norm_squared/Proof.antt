@@ -4,12 +4,10 @@ use Rattle.linalg.specs.Vectors.{normSquared}
 use Rattle.linalg.proofs.vector3.Vector3.norm_squared.Statement.{statement}
 use Rattle.linalg.proofs.vector3.Vector3.norm_squared.Tie as tie
 
-dot-requires : tie.Need-dot-requires
-dot-requires c κs = search needs
-
 returns : tie.Need-returns
 unfolding normSquared
 returns c = cc
 
 pub norm-squared-spec : {M : Type 1} → statement M
-norm-squared-spec = tie.close (tie.spec dot-requires returns)
+norm-squared-spec =
+    tie.close (tie.spec (λ c _. search needs) returns)

@@ -4,12 +4,10 @@ use Rattle.p3p_common.specs.Slots.{empty}
 use Rattle.p3p_common.proofs.solutions.Solutions.empty.Statement.{statement}
 use Rattle.p3p_common.proofs.solutions.Solutions.empty.Tie as tie
 
-zeros-requires : tie.Need-zeros-requires
-zeros-requires c κs = search needs
-
 returns : tie.Need-returns
 unfolding empty
 returns c = cc
 
 pub empty-spec : {M : Type 1} → statement M
-empty-spec = tie.close (tie.spec zeros-requires returns)
+empty-spec =
+    tie.close (tie.spec (λ c _. search needs) returns)
