@@ -6,11 +6,9 @@ use native.Mathlib.Numerals.{add-one}
 use native.Mathlib.Omega.{arith}
 use lib.ListN.{length, getD, take, drop, length-take, drop-of-length-le}
 use lib.Seq.{slice-cons}
-use Rattle.linalg.specs.declared.vector3.Vector3.{Vector3}
-use Rattle.linalg.specs.declared.pose.Pose.{Pose}
 use Rattle.choice.specs.Score.{score}
 use Rattle.choice.specs.Choose.{better, chooseAmong}
-use Rattle.choice.specs.declared.choose.Choice.{Choice}
+use Rattle.choice.specs.Types.{Vector3, Pose, Choice}
 
 module _ (poses : List Pose) (n at : ℕ) (target bearing : Vector3) (best : Choice) where
   pub turns-end : n ≤ at → best ≡ chooseAmong (drop at (take n poses)) at target bearing best .value

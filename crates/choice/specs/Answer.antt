@@ -1,7 +1,6 @@
 -- What the enum of this crate stands for: the place of a pose with its score, or document 01's number 10.
 use Prim.Native.Nat.{ℕ}
-use Rattle.choice.specs.declared.choose.Choice.{Choice}
-use Rattle.choice.specs.declared.choose.Choice.the-variants.{Best, Refused}
+use Rattle.choice.specs.Types.{Choice, Best, Refused}
 
 -- a choice's number, 0 where nothing is refused
 abbrev pub number : Choice → ℕ

@@ -6,12 +6,9 @@ use lib.ListN.{take}
 use lib.Ieee.{Float, lt}
 use lib.Ieee.Scale.{finite}
 use Rattle.ieee754.specs.Traced.{Traced, pure, _>>=_, if_then_else_}
-use Rattle.linalg.specs.declared.vector3.Vector3.{Vector3}
-use Rattle.linalg.specs.declared.pose.Pose.{Pose}
 use Rattle.choice.specs.Answer.{noScore}
 use Rattle.choice.specs.Score.{score}
-use Rattle.choice.specs.declared.choose.Choice.{Choice}
-use Rattle.choice.specs.declared.choose.Choice.the-variants.{Best, Refused}
+use Rattle.choice.specs.Types.{Vector3, Pose, Choice, Best, Refused}
 
 -- a finite score beside the choice so far: the lower one, and the earlier on a tie
 unfoldable pub lower : Choice → ℕ → Float → Choice

@@ -1,4 +1,5 @@
 -- The definitions that the contracts of this crate cite, in reading order.
+pub mod Types
 pub mod Answer
 pub mod Score
 pub mod Choose

@@ -3,8 +3,8 @@ ghost use mathlib.Core.Path.{_≡_};
 ghost use Prim.Native.Nat.{min};
 ghost use Rattle.choice.specs.Choose as Choose;
 use crate::score::score;
+use frames::pose::Pose;
 use ieee754::is_finite::is_finite;
-use linalg::pose::Pose;
 use linalg::vector3::Vector3;
 
 pub enum Choice {

@@ -5,7 +5,7 @@ use lib.ListN.{length, length-map}
 use denote.Laws.{Is}
 use denote.Struct.Declared.{row}
 use denote.Struct.Laws as struct
-use Rattle.depths.specs.declared.candidates.Candidates.{Candidates}
+use Rattle.depths.specs.Types.{Candidates}
 use Rattle.depths.proofs.candidates.Candidates as candidates
 use Rattle.depths.proofs.candidates.Candidates.Laws as candidates-laws
 

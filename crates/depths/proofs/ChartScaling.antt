@@ -12,18 +12,14 @@ use Rattle.ieee754.specs.Traced.{Traced}
 use Rattle.ieee754.specs.Scaling.{Both, At}
 use Rattle.ieee754.proofs.Degrees.{same, null, !_, ⊝_, √_, _⊗_, _⊘_, _⊕_, _⊖_, pure, _>>=_, _>>≡_, if_then_else_, choose, lt-same, le-same, eq-same, finite-same, equal}
 use Rattle.ieee754.proofs.Entries.{set-entries, four-entries}
-use Rattle.linalg.specs.declared.vector3.Vector3.{Vector3}
 use Rattle.linalg.specs.VectorScaling.{AtVector}
 use Rattle.linalg.proofs.VectorDegrees.{null-vector}
-use Rattle.p3p_common.specs.declared.refine_depths.SquaredEdges.{SquaredEdges}
-use Rattle.p3p_common.specs.PoseScaling.{AtEdges}
-use Rattle.polynomial.specs.declared.Roots.{Roots}
+use Rattle.frames.specs.FrameScaling.{AtEdges}
 use Rattle.polynomial.specs.RootScaling.{AtRoots, two-at, one-at, refused-at}
 use Rattle.polynomial.proofs.QuadraticScaling.{quadratic-scales}
 use Rattle.depths.specs.DepthSlots.{noCandidates, pushIfPositive}
 use Rattle.depths.specs.Charts.{forRoots, noDivisor, firstChartDepths, firstChart, secondChartDepths, weightChart, secondChart, chart}
-use Rattle.depths.specs.declared.angles.Factors.{Factors}
-use Rattle.depths.specs.declared.candidates.Candidates.{Candidates}
+use Rattle.depths.specs.Types.{Vector3, SquaredEdges, Roots, Factors, Candidates}
 
 pub record AtCandidates (k : ℤ) (c c' : Candidates) : Type 0 where
   pub count : c .count ≡ c' .count

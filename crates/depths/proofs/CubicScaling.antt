@@ -6,15 +6,11 @@ use lib.Ieee.{Float}
 use Rattle.ieee754.specs.Literal.{two, sixtyFour, epsilon}
 use Rattle.ieee754.specs.Scaling.{Both, At, Scales}
 use Rattle.ieee754.proofs.Degrees.{same, null, !_, _⊗_, _⊘_, _⊕_, _⊖_, pure, _>>=_, _>>≡_, if_then_else_, abs-at, max-at, le-same, eq-same, finite-same, alike, equal}
-use Rattle.p3p_common.specs.declared.input.World.{World}
-use Rattle.p3p_common.specs.declared.input.Bearings.{Bearings}
-use Rattle.p3p_common.specs.declared.refine_depths.SquaredEdges.{SquaredEdges}
-use Rattle.p3p_common.specs.PoseScaling.{AtWorld, AtEdges}
+use Rattle.frames.specs.FrameScaling.{AtWorld, AtEdges}
 use Rattle.depths.specs.Angles.{cosines, squaredSines}
 use Rattle.depths.specs.Cubic.{cubicCoefficients, coefficientScale, isUnusable}
 use Rattle.depths.specs.Condition.{foldedScale, leadingShare, leadingCubicCondition}
-use Rattle.depths.specs.declared.angles.SquaredSines.{SquaredSines}
-use Rattle.depths.specs.declared.cubic.Coefficients.{Coefficients}
+use Rattle.depths.specs.Types.{World, Bearings, SquaredEdges, SquaredSines, Coefficients}
 use Rattle.depths.proofs.EdgeScaling.{edgeVectors-scales, squaredEdges-scales}
 
 pub record AtCoefficients (k : ℤ) (c c' : Coefficients) : Type 0 where

@@ -4,10 +4,9 @@ use Rattle.ieee754.specs.Scaling.{Both}
 use Rattle.ieee754.proofs.Degrees.{pure, _>>=_}
 use Rattle.linalg.specs.VectorScaling.{AtVector}
 use Rattle.linalg.proofs.VectorDegrees.{vecSub-scales, normSquared-scales}
-use Rattle.p3p_common.specs.declared.input.World.{World}
-use Rattle.p3p_common.specs.PoseScaling.{AtWorld, AtEdges}
+use Rattle.frames.specs.FrameScaling.{AtWorld, AtEdges}
 use Rattle.depths.specs.Edges.{edgeVectors, squaredEdges}
-use Rattle.depths.specs.declared.edges.EdgeVectors.{EdgeVectors}
+use Rattle.depths.specs.Types.{World, EdgeVectors}
 
 pub record AtEdgeVectors (k : ℤ) (v v' : EdgeVectors) : Type 0 where
   pub d01 : AtVector k (pos 1) (v .d01) (v' .d01)

@@ -5,10 +5,9 @@ use Rattle.ieee754.specs.Literal.{half, one}
 use Rattle.ieee754.specs.Scaling.{Both}
 use Rattle.ieee754.proofs.Degrees.{same, !_, ⊝_, _⊗_, _⊕_, _⊖_, pure, _>>=_}
 use Rattle.linalg.specs.VectorScaling.{AtMatrix}
-use Rattle.p3p_common.specs.declared.refine_depths.SquaredEdges.{SquaredEdges}
-use Rattle.p3p_common.specs.PoseScaling.{AtEdges}
+use Rattle.frames.specs.FrameScaling.{AtEdges}
 use Rattle.depths.specs.Matrix.{singularMatrix}
-use Rattle.depths.specs.declared.angles.Factors.{Factors}
+use Rattle.depths.specs.Types.{SquaredEdges, Factors}
 
 module _ {k : ℤ} where
   pub singularMatrix-scales : {e e' : SquaredEdges} (b : Factors) (g : Float) → AtEdges k e e' → Both (AtMatrix k (pos 2)) (singularMatrix e b g) (singularMatrix e' b g)

@@ -5,11 +5,10 @@ use lib.Ieee.{Float}
 use types.Run.{OneOf}
 use denote.Enum.Declared.{tagOf}
 use Rattle.ieee754.specs.Traced.{Traced}
-use Rattle.polynomial.specs.declared.Roots.{Roots}
 use Rattle.polynomial.proofs.Roots.{the-type}
 use Rattle.polynomial.proofs.RootTags.{not-two}
 use Rattle.depths.specs.Charts.{forRoots}
-use Rattle.depths.specs.declared.candidates.Candidates.{Candidates}
+use Rattle.depths.specs.Types.{Roots, Candidates}
 
 pub no-turns : (r : Roots) (turn : Candidates → Float → Traced Candidates) (found : Candidates) → OneOf (1 ∷ 2 ∷ []) (tagOf the-type r) → found ≡ forRoots r turn found .value
 unfolding forRoots

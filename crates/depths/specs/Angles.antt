@@ -5,11 +5,7 @@ use Rattle.ieee754.specs.Literal.{one, two}
 use Rattle.ieee754.specs.Clamp.{clamp}
 use Rattle.ieee754.specs.Traced.{Traced, pure, _>>=_, _⊗_, _⊖_, !_, ⊝_}
 use Rattle.linalg.specs.Vectors.{dot}
-use Rattle.linalg.specs.declared.vector3.Vector3.{Vector3}
-use Rattle.p3p_common.specs.declared.input.Bearings.{Bearings}
-use Rattle.p3p_common.specs.declared.refine_depths.Cosines.{Cosines}
-use Rattle.depths.specs.declared.angles.SquaredSines.{SquaredSines}
-use Rattle.depths.specs.declared.angles.Factors.{Factors}
+use Rattle.depths.specs.Types.{Vector3, Bearings, Cosines, SquaredSines, Factors}
 
 -- f.dot(&g).clamp(-1.0, 1.0)
 unfoldable pub cosine : Vector3 → Vector3 → Traced Float

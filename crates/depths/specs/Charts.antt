@@ -7,14 +7,9 @@ use Rattle.ieee754.specs.Literal.{plusZero, one, two}
 use Rattle.ieee754.specs.Magnitude.{abs}
 use Rattle.ieee754.specs.Traced.{Traced, pure, _>>=_, if_then_else_, _⊗_, _⊕_, _⊖_, _⊘_, !_, ⊝_, √_}
 use Rattle.linalg.specs.Vectors.{vector}
-use Rattle.linalg.specs.declared.vector3.Vector3.{Vector3}
-use Rattle.p3p_common.specs.declared.refine_depths.SquaredEdges.{SquaredEdges}
 use Rattle.polynomial.specs.Quadratic.{quadraticRealMonic}
-use Rattle.polynomial.specs.declared.Roots.{Roots}
-use Rattle.polynomial.specs.declared.Roots.the-variants.{Two, One, Refused}
 use Rattle.depths.specs.DepthSlots.{pushIfPositive}
-use Rattle.depths.specs.declared.angles.Factors.{Factors}
-use Rattle.depths.specs.declared.candidates.Candidates.{Candidates}
+use Rattle.depths.specs.Types.{Vector3, SquaredEdges, Roots, Two, One, Refused, Factors, Candidates}
 
 -- for tau in roots { .. }, whose body is `turn`. The quadratic answers two roots or refuses: the arm of a single root only makes the match whole.
 unfoldable pub forRoots : Roots → (Candidates → Float → Traced Candidates) → Candidates → Traced Candidates

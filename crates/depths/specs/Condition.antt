@@ -6,12 +6,10 @@ use Rattle.ieee754.specs.Literal.{plusZero}
 use Rattle.ieee754.specs.Magnitude.{abs}
 use Rattle.ieee754.specs.Maximum.{max}
 use Rattle.ieee754.specs.Traced.{Traced, pure, _>>=_, if_then_else_, _⊘_, !_}
-use Rattle.p3p_common.specs.declared.input.World.{World}
-use Rattle.p3p_common.specs.declared.input.Bearings.{Bearings}
 use Rattle.depths.specs.Edges.{edgeVectors, squaredEdges}
 use Rattle.depths.specs.Angles.{cosines, squaredSines}
 use Rattle.depths.specs.Cubic.{cubicCoefficients}
-use Rattle.depths.specs.declared.cubic.Coefficients.{Coefficients}
+use Rattle.depths.specs.Types.{World, Bearings, Coefficients}
 
 -- coefficients.iter().copied().map(f64::abs).fold(0.0, f64::max): it starts from plus zero, so where all are NaN the scale is zero
 unfoldable pub foldedScale : Coefficients → Float

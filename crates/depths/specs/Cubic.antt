@@ -7,9 +7,7 @@ use Rattle.ieee754.specs.Literal.{two, sixtyFour, epsilon}
 use Rattle.ieee754.specs.Magnitude.{abs}
 use Rattle.ieee754.specs.Maximum.{max}
 use Rattle.ieee754.specs.Traced.{Traced, pure, _>>=_, if_then_else_, _⊗_, _⊕_, _⊖_, !_}
-use Rattle.p3p_common.specs.declared.refine_depths.SquaredEdges.{SquaredEdges}
-use Rattle.depths.specs.declared.angles.SquaredSines.{SquaredSines}
-use Rattle.depths.specs.declared.cubic.Coefficients.{Coefficients}
+use Rattle.depths.specs.Types.{SquaredEdges, SquaredSines, Coefficients}
 
 unfoldable pub cubicCoefficients : SquaredEdges → SquaredSines → Traced Coefficients
 cubicCoefficients edges angles =

@@ -7,8 +7,7 @@ use lib.Ieee.{Float, lt}
 use Rattle.ieee754.specs.Literal.{plusZero}
 use Rattle.ieee754.specs.Traced.{if_then_else_}
 use Rattle.linalg.specs.Vectors.{zeros}
-use Rattle.linalg.specs.declared.vector3.Vector3.{Vector3}
-use Rattle.depths.specs.declared.candidates.Candidates.{Candidates}
+use Rattle.depths.specs.Types.{Vector3, Candidates}
 
 -- let mut depths = [Vector3::zeros(); 4];
 -- let mut depth_count = 0;

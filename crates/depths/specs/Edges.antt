@@ -1,9 +1,7 @@
 -- The edges of the world's triangle and their squared lengths: the first lines of `solve_ordered` and of `leading_cubic_condition` (lambdatwist.rs).
 use Rattle.ieee754.specs.Traced.{Traced, pure, _>>=_}
 use Rattle.linalg.specs.Vectors.{vecSub, normSquared}
-use Rattle.p3p_common.specs.declared.input.World.{World}
-use Rattle.p3p_common.specs.declared.refine_depths.SquaredEdges.{SquaredEdges}
-use Rattle.depths.specs.declared.edges.EdgeVectors.{EdgeVectors}
+use Rattle.depths.specs.Types.{World, SquaredEdges, EdgeVectors}
 
 -- let d01 = p0 - p1;
 -- let d02 = p0 - p2;

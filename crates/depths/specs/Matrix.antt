@@ -2,9 +2,7 @@
 use lib.Ieee.{Float}
 use Rattle.ieee754.specs.Literal.{half, one}
 use Rattle.ieee754.specs.Traced.{Traced, pure, _>>=_, _⊗_, _⊕_, _⊖_, !_, ⊝_}
-use Rattle.linalg.specs.declared.matrix3.Matrix3.{Matrix3}
-use Rattle.p3p_common.specs.declared.refine_depths.SquaredEdges.{SquaredEdges}
-use Rattle.depths.specs.declared.angles.Factors.{Factors}
+use Rattle.depths.specs.Types.{Matrix3, SquaredEdges, Factors}
 
 -- Matrix3::new(
 --     a12 * (1.0 - g), 0.5 * a12 * b01, -0.5 * a12 * b02 * g,

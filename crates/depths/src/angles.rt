@@ -2,10 +2,10 @@
 // coefficients need of those, and the factors b01, b02 and b12 of the matrix and the charts.
 ghost use mathlib.Core.Path.{_≡_};
 ghost use Rattle.depths.specs.Angles.{cosine, cosines, squaredSines, bearingFactors};
+use frames::bearings::Bearings;
+use frames::cosines::Cosines;
 use ieee754::clamp::clamp;
 use linalg::vector3::Vector3;
-use p3p_common::input::Bearings;
-use p3p_common::refine_depths::Cosines;
 
 // s20, s12 and s01 are squared sines.
 pub struct SquaredSines {

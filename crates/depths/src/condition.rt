@@ -7,11 +7,11 @@ use crate::cubic::Coefficients;
 use crate::cubic::cubic_coefficients;
 use crate::edges::edge_vectors;
 use crate::edges::squared_edges;
+use frames::bearings::Bearings;
+use frames::world::World;
 use ieee754::abs::abs;
 use ieee754::is_finite::is_finite;
 use ieee754::max::max;
-use p3p_common::input::Bearings;
-use p3p_common::input::World;
 
 pub fn folded_scale(c: Coefficients) -> f64
     ensures { λ r. ⌜ r ≡ foldedScale c ⌝ }

@@ -3,11 +3,11 @@
 ghost use mathlib.Core.Path.{_≡_};
 ghost use Rattle.depths.specs.Cubic.{cubicCoefficients, coefficientScale, isUnusable};
 use crate::angles::SquaredSines;
+use frames::squared_edges::SquaredEdges;
 use ieee754::abs::abs;
 use ieee754::is_finite::is_finite;
 use ieee754::literal::EPSILON;
 use ieee754::max::max;
-use p3p_common::refine_depths::SquaredEdges;
 
 pub struct Coefficients {
     pub cubic3: f64,

@@ -2,9 +2,9 @@
 // leading_cubic_condition (lambdatwist.rs).
 ghost use mathlib.Core.Path.{_≡_};
 ghost use Rattle.depths.specs.Edges.{edgeVectors, squaredEdges};
+use frames::squared_edges::SquaredEdges;
+use frames::world::World;
 use linalg::vector3::Vector3;
-use p3p_common::input::World;
-use p3p_common::refine_depths::SquaredEdges;
 
 pub struct EdgeVectors {
     pub d01: Vector3,

@@ -3,8 +3,8 @@
 ghost use mathlib.Core.Path.{_≡_};
 ghost use Rattle.depths.specs.Matrix.{singularMatrix};
 use crate::angles::Factors;
+use frames::squared_edges::SquaredEdges;
 use linalg::matrix3::Matrix3;
-use p3p_common::refine_depths::SquaredEdges;
 
 pub fn singular_matrix(edges: SquaredEdges, b: Factors, g: f64) -> Matrix3
     ensures { λ r. ⌜ r ≡ singularMatrix edges b g .value ⌝ }

@@ -5,18 +5,13 @@ use lib.Ieee.{Float}
 use Rattle.ieee754.specs.Literal.{sixtyFour, epsilon}
 use Rattle.ieee754.specs.Scaling.{Both, At, Scales}
 use Rattle.ieee754.proofs.Degrees.{same, null, at-zero, !_, ⊝_, √_, _⊗_, _⊘_, _⊕_, _⊖_, pure, _>>=_, if_then_else_, choose, abs-at, max-at, lt-same, eq-same, finite-same}
-use Rattle.linalg.specs.declared.matrix3.Matrix3.{Matrix3}
 use Rattle.linalg.specs.VectorScaling.{AtMatrix}
 use Rattle.linalg.proofs.MatrixDegrees.{trace-scales}
-use Rattle.polynomial.specs.declared.Roots.{Roots}
 use Rattle.polynomial.specs.RootScaling.{AtRoots, two-at, one-at, refused-at}
 use Rattle.polynomial.proofs.QuadraticScaling.{quadratic-scales}
 use Rattle.eigen.specs.EigenPair.{pairCoefficient, nonzeroPair, byMagnitude, pairOfRoots, eigenvaluePair}
 use Rattle.eigen.specs.RatioOf.{ratioOf}
-use Rattle.eigen.specs.declared.eigenvalues.Eigenvalues.{Eigenvalues}
-use Rattle.eigen.specs.declared.eigenvalues.Eigenvalues.the-variants.{Pair, NoPair}
-use Rattle.eigen.specs.declared.ratio.Ratio.{Ratio}
-use Rattle.eigen.specs.declared.ratio.Ratio.the-variants.{Real, NotReal}
+use Rattle.eigen.specs.Types.{Matrix3, Roots, Eigenvalues, Pair, NoPair, Ratio, Real, NotReal}
 
 pub data AtEigenvalues (k : ℤ) : Eigenvalues → Eigenvalues → Type 0 where
   pair-at : {x x' y y' : Float} → At k (pos 2) x x' → At k (pos 2) y y' → AtEigenvalues k (Pair x y) (Pair x' y')

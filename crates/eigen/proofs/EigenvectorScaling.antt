@@ -4,13 +4,9 @@ use mathlib.Core.Bool.{_&&_}
 use lib.IntN.{ℤ, pos}
 use lib.Ieee.{Float}
 use Rattle.ieee754.specs.Literal.{one, sixtyFour, epsilon}
-use Rattle.ieee754.specs.declared.total_cmp.Order.{Order}
-use Rattle.ieee754.specs.declared.total_cmp.Order.the-variants.{Less, Equal, Greater}
 use Rattle.ieee754.specs.Scaling.{Both, At, Scales}
 use Rattle.ieee754.proofs.Degrees.{same, null, !_, ⊝_, √_, _⊗_, _⊘_, _⊕_, _⊖_, pure, _>>=_, if_then_else_, choose, abs-at, le-same, finite-same, total-same}
 use Rattle.ieee754.proofs.MinPositive.{floored, epsilon64-small, norm-at}
-use Rattle.linalg.specs.declared.vector3.Vector3.{Vector3}
-use Rattle.linalg.specs.declared.matrix3.Matrix3.{Matrix3}
 use Rattle.linalg.specs.Vectors.{norm}
 use Rattle.linalg.specs.VectorScaling.{AtVector, AtMatrix}
 use Rattle.linalg.proofs.VectorDegrees.{vector-at-zero, vecDiv-scales, normSquared-scales, cross-scales}
@@ -18,9 +14,7 @@ use Rattle.linalg.proofs.MatrixDegrees.{matNormSquared-scales}
 use Rattle.eigen.specs.RowCrosses.{lastGreatest, longer, unitVector, eigenvectorFromRowCrosses}
 use Rattle.eigen.specs.ZeroVector.{zeroDirection, zeroVector}
 use Rattle.eigen.specs.EigenvectorOf.{precompute, eigenDenominator, denominatorScale, ifFinite, eigenvectorByDivision, eigenvectorOf}
-use Rattle.eigen.specs.declared.row_crosses.Eigenvector.{Eigenvector}
-use Rattle.eigen.specs.declared.row_crosses.Eigenvector.the-variants.{Unit, Missing}
-use Rattle.eigen.specs.declared.eigenvector.Precomputed.{Precomputed}
+use Rattle.eigen.specs.Types.{Order, Less, Equal, Greater, Vector3, Matrix3, Eigenvector, Unit, Missing, Precomputed}
 use Rattle.linalg.proofs.SquaredLength.{squared-normal}
 
 module _ {k : ℤ} where

@@ -3,11 +3,10 @@ use mathlib.Core.Path.{_≡_, refl}
 use mathlib.Core.List.{[], _∷_}
 use types.Run.{OneOf}
 use denote.Enum.Declared.{tagOf}
-use Rattle.polynomial.specs.declared.Roots.{Roots}
 use Rattle.polynomial.proofs.Roots.{the-type}
 use Rattle.polynomial.proofs.RootTags.{not-two}
 use Rattle.eigen.specs.EigenPair.{pairOfRoots}
-use Rattle.eigen.specs.declared.eigenvalues.Eigenvalues.the-variants.{NoPair}
+use Rattle.eigen.specs.Types.{Roots, NoPair}
 
 pub no-pair : (r : Roots) → OneOf (1 ∷ 2 ∷ []) (tagOf the-type r) → NoPair ≡ pairOfRoots r
 unfolding pairOfRoots

@@ -4,17 +4,11 @@ use lib.Ieee.{Float}
 use Rattle.ieee754.specs.Traced.{Traced}
 use Rattle.ieee754.specs.Scaling.{Both, At}
 use Rattle.ieee754.proofs.Degrees.{null, !_, _⊗_, pure, _>>=_, _>>≡_, if_then_else_}
-use Rattle.linalg.specs.declared.vector3.Vector3.{Vector3}
-use Rattle.linalg.specs.declared.matrix3.Matrix3.{Matrix3}
 use Rattle.linalg.specs.Matrices.{fromColumns}
 use Rattle.linalg.specs.VectorScaling.{AtVector, AtMatrix}
 use Rattle.linalg.proofs.MatrixDegrees.{matFinite-same}
 use Rattle.eigen.specs.KnownZero.{orNotFound, orNoPair, systemOfPair, eigWithKnownZero}
-use Rattle.eigen.specs.declared.row_crosses.Eigenvector.{Eigenvector}
-use Rattle.eigen.specs.declared.row_crosses.Eigenvector.the-variants.{Unit, Missing}
-use Rattle.eigen.specs.declared.eigenvalues.Eigenvalues.{Eigenvalues}
-use Rattle.eigen.specs.declared.known_zero.Eigensystem.{Eigensystem}
-use Rattle.eigen.specs.declared.known_zero.Eigensystem.the-variants.{Found, NotFound}
+use Rattle.eigen.specs.Types.{Vector3, Matrix3, Eigenvector, Unit, Missing, Eigenvalues, Eigensystem, Found, NotFound}
 use Rattle.eigen.proofs.EigenvectorScaling.{zeroVector-same, precompute-scales, eigenvectorOf-same}
 use Rattle.eigen.proofs.EigenvalueScaling.{AtEigenvalues, pair-at, no-pair, eigenvaluePair-scales}
 

@@ -4,12 +4,8 @@ use Rattle.ieee754.specs.Literal.{plusZero}
 use Rattle.ieee754.specs.Magnitude.{abs}
 use Rattle.ieee754.specs.Traced.{Traced, pure, _>>=_, if_then_else_, _⊗_, _⊕_, _⊖_, !_, ⊝_}
 use Rattle.linalg.specs.Matrices.{trace}
-use Rattle.linalg.specs.declared.matrix3.Matrix3.{Matrix3}
 use Rattle.polynomial.specs.Quadratic.{quadraticRealMonic}
-use Rattle.polynomial.specs.declared.Roots.{Roots}
-use Rattle.polynomial.specs.declared.Roots.the-variants.{Two, One, Refused}
-use Rattle.eigen.specs.declared.eigenvalues.Eigenvalues.{Eigenvalues}
-use Rattle.eigen.specs.declared.eigenvalues.Eigenvalues.the-variants.{Pair, NoPair}
+use Rattle.eigen.specs.Types.{Matrix3, Roots, Two, One, Refused, Eigenvalues, Pair, NoPair}
 
 -- -off_diagonal_squared - matrix[(0, 2)] * matrix[(0, 2)] - matrix[(1, 2)] * matrix[(1, 2)]
 --     + matrix[(0, 0)] * (matrix[(1, 1)] + matrix[(2, 2)])

@@ -6,12 +6,8 @@ use Rattle.ieee754.specs.Magnitude.{abs}
 use Rattle.ieee754.specs.Maximum.{max}
 use Rattle.ieee754.specs.Traced.{Traced, pure, _>>=_, if_then_else_, _⊗_, _⊕_, _⊖_, _⊘_, !_, ⊝_, √_}
 use Rattle.linalg.specs.Vectors.{vector, allFinite}
-use Rattle.linalg.specs.declared.vector3.Vector3.{Vector3}
-use Rattle.linalg.specs.declared.matrix3.Matrix3.{Matrix3}
 use Rattle.eigen.specs.RowCrosses.{eigenvectorFromRowCrosses}
-use Rattle.eigen.specs.declared.row_crosses.Eigenvector.{Eigenvector}
-use Rattle.eigen.specs.declared.row_crosses.Eigenvector.the-variants.{Unit, Missing}
-use Rattle.eigen.specs.declared.eigenvector.Precomputed.{Precomputed}
+use Rattle.eigen.specs.Types.{Vector3, Matrix3, Eigenvector, Unit, Missing, Precomputed}
 
 -- let product00_11 = -matrix[(0, 0)] * matrix[(1, 1)];
 -- let precomputed0 = matrix[(0, 1)] * matrix[(1, 2)] - matrix[(0, 2)] * matrix[(1, 1)];

@@ -4,17 +4,10 @@ use Rattle.ieee754.specs.Literal.{plusZero}
 use Rattle.ieee754.specs.Traced.{Traced, pure, _>>=_, if_then_else_, _⊗_, !_}
 use Rattle.linalg.specs.Vectors.{vector}
 use Rattle.linalg.specs.Matrices.{fromColumns, matFinite}
-use Rattle.linalg.specs.declared.vector3.Vector3.{Vector3}
-use Rattle.linalg.specs.declared.matrix3.Matrix3.{Matrix3}
 use Rattle.eigen.specs.ZeroVector.{zeroVector}
 use Rattle.eigen.specs.EigenPair.{eigenvaluePair}
 use Rattle.eigen.specs.EigenvectorOf.{precompute, eigenvectorOf}
-use Rattle.eigen.specs.declared.row_crosses.Eigenvector.{Eigenvector}
-use Rattle.eigen.specs.declared.row_crosses.Eigenvector.the-variants.{Unit, Missing}
-use Rattle.eigen.specs.declared.eigenvalues.Eigenvalues.{Eigenvalues}
-use Rattle.eigen.specs.declared.eigenvalues.Eigenvalues.the-variants.{Pair, NoPair}
-use Rattle.eigen.specs.declared.known_zero.Eigensystem.{Eigensystem}
-use Rattle.eigen.specs.declared.known_zero.Eigensystem.the-variants.{Found, NotFound}
+use Rattle.eigen.specs.Types.{Vector3, Matrix3, Eigenvector, Unit, Missing, Eigenvalues, Pair, NoPair, Eigensystem, Found, NotFound}
 
 -- `?` on an eigenvector, and on the pair
 unfoldable pub orNotFound : Eigenvector → (Vector3 → Traced Eigensystem) → Traced Eigensystem

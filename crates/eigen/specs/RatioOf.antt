@@ -4,8 +4,7 @@ use lib.Ieee.Scale.{finite}
 use Rattle.ieee754.specs.Literal.{plusZero, sixtyFour, epsilon}
 use Rattle.ieee754.specs.Maximum.{max}
 use Rattle.ieee754.specs.Traced.{Traced, pure, _>>=_, if_then_else_, _⊗_, _⊘_, !_, ⊝_, √_}
-use Rattle.eigen.specs.declared.ratio.Ratio.{Ratio}
-use Rattle.eigen.specs.declared.ratio.Ratio.the-variants.{Real, NotReal}
+use Rattle.eigen.specs.Types.{Ratio, Real, NotReal}
 
 unfoldable pub ratioOf : Float → Float → Traced Ratio
 ratioOf first second = do

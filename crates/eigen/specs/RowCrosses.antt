@@ -4,14 +4,9 @@ use lib.Ieee.{Float, lt}
 use lib.Ieee.Scale.{finite}
 use Rattle.ieee754.specs.Literal.{minPositive}
 use Rattle.ieee754.specs.TotalOrder.{totalCmp}
-use Rattle.ieee754.specs.declared.total_cmp.Order.{Order}
-use Rattle.ieee754.specs.declared.total_cmp.Order.the-variants.{Less, Equal, Greater}
 use Rattle.ieee754.specs.Traced.{Traced, pure, _>>=_, if_then_else_, _⊖_, !_}
 use Rattle.linalg.specs.Vectors.{vector, cross, normSquared, norm, vecDiv}
-use Rattle.linalg.specs.declared.vector3.Vector3.{Vector3}
-use Rattle.linalg.specs.declared.matrix3.Matrix3.{Matrix3}
-use Rattle.eigen.specs.declared.row_crosses.Eigenvector.{Eigenvector}
-use Rattle.eigen.specs.declared.row_crosses.Eigenvector.the-variants.{Unit, Missing}
+use Rattle.eigen.specs.Types.{Order, Less, Equal, Greater, Vector3, Matrix3, Eigenvector, Unit, Missing}
 
 -- `max_by` keeps what it has only where that compares greater: of equals the last wins
 unfoldable pub lastGreatest : Order → Vector3 → Vector3 → Vector3

@@ -5,11 +5,8 @@ use Rattle.ieee754.specs.Literal.{plusZero, sixtyFour, epsilon}
 use Rattle.ieee754.specs.Traced.{Traced, pure, _>>=_, if_then_else_, _⊗_, _⊖_, !_, √_}
 use Rattle.linalg.specs.Vectors.{vector, normSquared, vecDiv}
 use Rattle.linalg.specs.Matrices.{matNormSquared}
-use Rattle.linalg.specs.declared.vector3.Vector3.{Vector3}
-use Rattle.linalg.specs.declared.matrix3.Matrix3.{Matrix3}
 use Rattle.eigen.specs.RowCrosses.{eigenvectorFromRowCrosses}
-use Rattle.eigen.specs.declared.row_crosses.Eigenvector.{Eigenvector}
-use Rattle.eigen.specs.declared.row_crosses.Eigenvector.the-variants.{Unit}
+use Rattle.eigen.specs.Types.{Vector3, Matrix3, Eigenvector, Unit}
 
 -- Vector3::new(
 --     matrix[(0, 1)] * matrix[(1, 2)] - matrix[(0, 2)] * matrix[(1, 1)],

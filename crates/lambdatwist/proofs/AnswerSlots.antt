@@ -5,7 +5,7 @@ use lib.ListN.{length, length-map}
 use denote.Laws.{Is}
 use denote.Struct.Declared.{row}
 use denote.Struct.Laws as struct
-use Rattle.lambdatwist.specs.declared.solve.Answer.{Answer}
+use Rattle.lambdatwist.specs.Types.{Answer}
 use Rattle.lambdatwist.proofs.solve.Answer as answer
 use Rattle.lambdatwist.proofs.solve.Answer.Laws as answer-laws
 

@@ -4,19 +4,12 @@ use Prim.Native.Nat.{_≤_}
 use lib.ListN.{take}
 use Rattle.ieee754.specs.Traced.{Traced}
 use Rattle.ieee754.proofs.Order.{either-way}
-use Rattle.linalg.specs.declared.vector3.Vector3.{Vector3}
-use Rattle.linalg.specs.declared.matrix3.Matrix3.{Matrix3}
 use Rattle.linalg.proofs.Finite.{rotation-finite}
-use Rattle.p3p_common.specs.declared.refine_depths.SquaredEdges.{SquaredEdges}
-use Rattle.p3p_common.specs.declared.refine_depths.Cosines.{Cosines}
-use Rattle.p3p_common.specs.declared.refine_depths.Refined.{Refined}
-use Rattle.p3p_common.specs.declared.solutions.Solutions.{Solutions}
 use Rattle.p3p_common.specs.RefineDepths.{refineDepths}
 use Rattle.p3p_common.specs.Slots.{empty}
 use Rattle.p3p_common.proofs.SlotLaws.{Kept, empty-kept, pushPose-kept, updates-few}
 use Rattle.lambdatwist.specs.Poses.{allPositive, pushDepths, poseTurn, poseTurns, poses}
-use Rattle.depths.specs.declared.candidates.Candidates.{Candidates}
-use Rattle.lambdatwist.specs.declared.poses.View.{View}
+use Rattle.lambdatwist.specs.Types.{Vector3, Matrix3, SquaredEdges, Cosines, Refined, Solutions, Candidates, View}
 
 module _ (view : View) (edges : SquaredEdges) (cosines : Cosines) (inverse : Matrix3) where
   pushDepths-kept : (s : Solutions) (r : Refined) → r .updates ≤ 5 → Kept s → Kept (pushDepths view inverse s r .value)

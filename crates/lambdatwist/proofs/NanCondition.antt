@@ -5,7 +5,7 @@ use mathlib.Core.Bool.{false}
 use mathlib.Core.List.{List, [], _∷_}
 use lib.Ieee.{Float, nan, le, lt}
 use Rattle.lambdatwist.specs.Permutation.{better, bestOf}
-use Rattle.lambdatwist.specs.declared.permutation.Conditioned.{Conditioned}
+use Rattle.lambdatwist.specs.Types.{Conditioned}
 
 better-nan : (best next : Conditioned) → best .condition ≡ nan → better best next ≡ best
 unfolding better lt

@@ -5,11 +5,10 @@ use lib.Ieee.{Float}
 use types.Run.{OneOf}
 use denote.Enum.Declared.{tagOf}
 use Rattle.ieee754.specs.Traced.{Traced}
-use Rattle.polynomial.specs.declared.Roots.{Roots}
 use Rattle.polynomial.proofs.Roots.{the-type}
 use Rattle.polynomial.proofs.RootTags.{not-one}
 use Rattle.lambdatwist.specs.Solve.{orNoRoot, refused}
-use Rattle.lambdatwist.specs.declared.solve.Answer.{Answer}
+use Rattle.lambdatwist.specs.Types.{Roots, Answer}
 
 pub no-root : (r : Roots) (next : Float → Traced Answer) → OneOf (0 ∷ 2 ∷ []) (tagOf the-type r) → refused 3 ≡ orNoRoot r next .value
 unfolding orNoRoot

@@ -1,15 +1,14 @@
 -- The same permutation is taken in the two runs, since the conditions are equal. Assumes nothing.
 use mathlib.Core.Path.{_≡_, refl}
 use mathlib.Core.List.{List, Forall₂, Forall₂·nil, Forall₂·cons}
-use lib.IntN.{ℤ}
+use lib.IntN.{ℤ, pos}
 use lib.Ieee.{lt}
 use Rattle.ieee754.specs.Scaling.{Both}
 use Rattle.ieee754.proofs.Degrees.{pure, _>>=_, choose}
-use Rattle.p3p_common.specs.declared.input.World.{World}
-use Rattle.p3p_common.specs.declared.input.Bearings.{Bearings}
-use Rattle.p3p_common.specs.PoseScaling.{AtWorld}
-use Rattle.lambdatwist.specs.Permutation.{rays, withCondition, better, bestOf, bestPermutation}
-use Rattle.lambdatwist.specs.declared.permutation.Conditioned.{Conditioned}
+use Rattle.linalg.specs.VectorScaling.{AtVector}
+use Rattle.frames.specs.FrameScaling.{AtWorld}
+use Rattle.lambdatwist.specs.Permutation.{withCondition, better, bestOf, bestPermutation}
+use Rattle.lambdatwist.specs.Types.{Vector3, World, Bearings, Conditioned}
 use Rattle.depths.proofs.CubicScaling.{leadingCubicCondition-same}
 
 pub record AtConditioned (k : ℤ) (c c' : Conditioned) : Type 0 where
@@ -18,9 +17,16 @@ pub record AtConditioned (k : ℤ) (c c' : Conditioned) : Type 0 where
   pub bearings : c .bearings ≡ c' .bearings
 
 module _ {k : ℤ} where
-  withCondition-scales : {w w' : World} (bearings : Bearings) → AtWorld k w w' → Both (AtConditioned k) (withCondition w bearings) (withCondition w' bearings)
+  withCondition-scales : {p p' q q' r r' : Vector3}
+      → AtVector k (pos 1) p p'
+      → AtVector k (pos 1) q q'
+      → AtVector k (pos 1) r r'
+      → (f0 f1 f2 : Vector3)
+      → Both (AtConditioned k) (withCondition p q r f0 f1 f2) (withCondition p' q' r' f0 f1 f2)
   unfolding withCondition
-  withCondition-scales bearings w =
+  withCondition-scales p q r f0 f1 f2 =
+      let bearings : Bearings = record { f0 = f0; f1 = f1; f2 = f2 } in
+      let w : AtWorld k _ _ = record { p0 = p; p1 = q; p2 = r } in
       leadingCubicCondition-same bearings w >>= λ _ _ condition.
       pure (record { condition = condition; world = w; bearings = refl {a = bearings} })
 
@@ -38,9 +44,9 @@ module _ {k : ℤ} where
   unfolding bestPermutation
   bestPermutation-scales bearings w =
       let record { f0 = f0; f1 = f1; f2 = f2 } = bearings in
-      withCondition-scales (rays f0 f2 f1) (record { p0 = w .p0; p1 = w .p2; p2 = w .p1 }) >>= λ _ _ c021.
-      withCondition-scales (rays f1 f0 f2) (record { p0 = w .p1; p1 = w .p0; p2 = w .p2 }) >>= λ _ _ c102.
-      withCondition-scales (rays f1 f2 f0) (record { p0 = w .p1; p1 = w .p2; p2 = w .p0 }) >>= λ _ _ c120.
-      withCondition-scales (rays f2 f0 f1) (record { p0 = w .p2; p1 = w .p0; p2 = w .p1 }) >>= λ _ _ c201.
-      withCondition-scales (rays f2 f1 f0) (record { p0 = w .p2; p1 = w .p1; p2 = w .p0 }) >>= λ _ _ c210.
+      withCondition-scales (w .p0) (w .p2) (w .p1) f0 f2 f1 >>= λ _ _ c021.
+      withCondition-scales (w .p1) (w .p0) (w .p2) f1 f0 f2 >>= λ _ _ c102.
+      withCondition-scales (w .p1) (w .p2) (w .p0) f1 f2 f0 >>= λ _ _ c120.
+      withCondition-scales (w .p2) (w .p0) (w .p1) f2 f0 f1 >>= λ _ _ c201.
+      withCondition-scales (w .p2) (w .p1) (w .p0) f2 f1 f0 >>= λ _ _ c210.
       pure (bestOf-scales c021 (Forall₂·cons c102 (Forall₂·cons c120 (Forall₂·cons c201 (Forall₂·cons c210 Forall₂·nil)))))

@@ -8,28 +8,18 @@ use lib.Ieee.{Float, neg}
 use Rattle.ieee754.specs.Scaling.{Both}
 use Rattle.ieee754.proofs.Degrees.{null, pure, _>>=_, _>>≡_, if_then_else_, le-same, alike}
 use Rattle.ieee754.proofs.Entries.{take-entries}
-use Rattle.linalg.specs.declared.vector3.Vector3.{Vector3}
-use Rattle.linalg.specs.declared.matrix3.Matrix3.{Matrix3}
 use Rattle.linalg.specs.Vectors.{vecSub, vecMul}
 use Rattle.linalg.specs.Matrices.{column0, column1}
 use Rattle.linalg.specs.VectorScaling.{AtVector, AtRows}
 use Rattle.linalg.proofs.VectorDegrees.{same-vector, vecSub-scales, vecMul-scales, allFinite-same}
 use Rattle.linalg.proofs.MatrixDegrees.{same-matrix, columns-at, matVec-scales}
-use Rattle.p3p_common.specs.declared.input.World.{World}
-use Rattle.p3p_common.specs.declared.input.Bearings.{Bearings}
-use Rattle.p3p_common.specs.declared.input.P3pInput.{P3pInput}
-use Rattle.p3p_common.specs.declared.refine_depths.SquaredEdges.{SquaredEdges}
-use Rattle.p3p_common.specs.declared.refine_depths.Cosines.{Cosines}
-use Rattle.p3p_common.specs.declared.refine_depths.Refined.{Refined}
-use Rattle.p3p_common.specs.declared.solutions.Solutions.{Solutions}
-use Rattle.p3p_common.specs.PoseScaling.{AtWorld, AtInput, AtEdges, AtRefined, AtSolutions}
+use Rattle.frames.specs.FrameScaling.{AtWorld, AtEdges}
+use Rattle.p3p_common.specs.PoseScaling.{AtInput, AtRefined, AtSolutions}
 use Rattle.p3p_common.proofs.RefineScaling.{refineDepths-scales}
 use Rattle.p3p_common.proofs.BasisScaling.{rotationFromEdges-same}
 use Rattle.p3p_common.proofs.SlotScaling.{empty-scales, pushPose-scales}
 use Rattle.lambdatwist.specs.Poses.{signTurn, candidates, allPositive, pushDepths, poseTurn, poseTurns, poses}
-use Rattle.depths.specs.declared.angles.Factors.{Factors}
-use Rattle.depths.specs.declared.candidates.Candidates.{Candidates}
-use Rattle.lambdatwist.specs.declared.poses.View.{View}
+use Rattle.lambdatwist.specs.Types.{Vector3, Matrix3, World, Bearings, SquaredEdges, Cosines, P3pInput, Refined, Solutions, Factors, Candidates, View}
 use Rattle.depths.proofs.ChartScaling.{AtCandidates, noCandidates-at, chart-scales}
 
 module _ {k : ℤ} where

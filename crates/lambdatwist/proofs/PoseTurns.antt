@@ -6,13 +6,8 @@ use native.Mathlib.Numerals.{add-one}
 use native.Mathlib.Omega.{arith}
 use lib.ListN.{length, getD, take, drop, length-take, drop-of-length-le}
 use lib.Seq.{drop-cons, getD-take}
-use Rattle.linalg.specs.declared.vector3.Vector3.{Vector3}
-use Rattle.linalg.specs.declared.matrix3.Matrix3.{Matrix3}
-use Rattle.p3p_common.specs.declared.refine_depths.SquaredEdges.{SquaredEdges}
-use Rattle.p3p_common.specs.declared.refine_depths.Cosines.{Cosines}
-use Rattle.p3p_common.specs.declared.solutions.Solutions.{Solutions}
 use Rattle.lambdatwist.specs.Poses.{poseTurn, poseTurns}
-use Rattle.lambdatwist.specs.declared.poses.View.{View}
+use Rattle.lambdatwist.specs.Types.{Vector3, Matrix3, SquaredEdges, Cosines, Solutions, View}
 
 module _ (view : View) (edges : SquaredEdges) (cosines : Cosines) (inverse : Matrix3) (count : ℕ) (depths : List Vector3) (at : ℕ) (output : Solutions) where
   pub turns-end : min count (length depths) ≤ at → output ≡ poseTurns view edges cosines inverse (drop at (take count depths)) output .value

@@ -2,17 +2,11 @@
 use mathlib.Core.Path.{_≡_}
 use mathlib.Core.Bool.{true, false}
 use Prim.Native.Nat.{ℕ, zero, suc}
-use Rattle.p3p_common.specs.declared.refine_depths.SquaredEdges.{SquaredEdges}
-use Rattle.p3p_common.specs.declared.refine_depths.Cosines.{Cosines}
 use Rattle.depths.specs.Edges.{edgeVectors, squaredEdges}
 use Rattle.depths.specs.Angles.{cosines, squaredSines, bearingFactors}
 use Rattle.depths.specs.Cubic.{cubicCoefficients, isUnusable}
 use Rattle.lambdatwist.specs.Solve.{refused, orderedOr, solveCubic, solveOrdered, solveBestConditionedPermutation}
-use Rattle.depths.specs.declared.edges.EdgeVectors.{EdgeVectors}
-use Rattle.depths.specs.declared.angles.SquaredSines.{SquaredSines}
-use Rattle.depths.specs.declared.angles.Factors.{Factors}
-use Rattle.depths.specs.declared.cubic.Coefficients.{Coefficients}
-use Rattle.lambdatwist.specs.declared.poses.View.{View}
+use Rattle.lambdatwist.specs.Types.{SquaredEdges, Cosines, EdgeVectors, SquaredSines, Factors, Coefficients, View}
 
 module _ (view : View) {vectors : EdgeVectors} {edges : SquaredEdges} {m : Cosines} {angles : SquaredSines} {b : Factors} {cubic : Coefficients}
     (e₀ : vectors ≡ edgeVectors (view .world) .value) (e₁ : edges ≡ squaredEdges vectors .value) (e₂ : m ≡ cosines (view .bearings) .value) (e₃ : angles ≡ squaredSines m .value)

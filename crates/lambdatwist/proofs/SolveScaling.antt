@@ -11,36 +11,19 @@ use Rattle.ieee754.specs.Traced as traced
 use Rattle.ieee754.specs.Traced.{Traced}
 use Rattle.ieee754.specs.Scaling.{Both}
 use Rattle.ieee754.proofs.Degrees.{same, at-zero, !_, _⊗_, _⊘_, pure, _>>=_, _>>≡_, if_then_else_, choose, alike, equal}
-use Rattle.linalg.specs.declared.vector3.Vector3.{Vector3}
-use Rattle.linalg.specs.declared.matrix3.Matrix3.{Matrix3}
 use Rattle.linalg.specs.VectorScaling.{AtVector, AtRows}
 use Rattle.linalg.specs.Vectors.{allFinite}
 use Rattle.linalg.proofs.VectorDegrees.{allFinite-same}
-use Rattle.polynomial.specs.declared.Roots.{Roots}
 use Rattle.polynomial.specs.RootScaling.{AtRoots, two-at, one-at, refused-at}
 use Rattle.polynomial.proofs.CubicScaling.{cubic-scales}
-use Rattle.p3p_common.specs.declared.input.World.{World}
-use Rattle.p3p_common.specs.declared.input.Bearings.{Bearings}
-use Rattle.p3p_common.specs.declared.input.P3pInput.{P3pInput}
-use Rattle.p3p_common.specs.declared.refine_depths.SquaredEdges.{SquaredEdges}
-use Rattle.p3p_common.specs.declared.refine_depths.Cosines.{Cosines}
-use Rattle.p3p_common.specs.declared.world_basis_inverse.Basis.{Basis}
-use Rattle.p3p_common.specs.declared.solutions.Solutions.{Solutions}
 use Rattle.p3p_common.specs.Input.{inputFinite}
-use Rattle.p3p_common.specs.PoseScaling.{AtWorld, AtInput, AtEdges, AtBasis, inverse-at, singular-at, AtPose, AtSolutions}
+use Rattle.frames.specs.FrameScaling.{AtWorld, AtEdges, AtPose}
+use Rattle.p3p_common.specs.PoseScaling.{AtInput, AtBasis, inverse-at, singular-at, AtSolutions}
 use Rattle.p3p_common.proofs.BasisScaling.{worldBasisInverse-scales}
 use Rattle.p3p_common.proofs.SlotScaling.{empty-scales}
 use Rattle.depths.specs.Angles.{cosines, squaredSines, bearingFactors}
 use Rattle.lambdatwist.specs.Solve.{answered, refused, ifKept, orNoRoot, orNoSystem, orNoRatio, orSingular, solveCandidates, solveRoot, solveCubic, orderedOr, bestOr, solveOrdered, solve}
-use Rattle.depths.specs.declared.edges.EdgeVectors.{EdgeVectors}
-use Rattle.depths.specs.declared.angles.Factors.{Factors}
-use Rattle.depths.specs.declared.cubic.Coefficients.{Coefficients}
-use Rattle.depths.specs.declared.candidates.Candidates.{Candidates}
-use Rattle.eigen.specs.declared.known_zero.Eigensystem.{Eigensystem}
-use Rattle.eigen.specs.declared.ratio.Ratio.{Ratio}
-use Rattle.eigen.specs.declared.ratio.Ratio.the-variants.{Real, NotReal}
-use Rattle.lambdatwist.specs.declared.poses.View.{View}
-use Rattle.lambdatwist.specs.declared.solve.Answer.{Answer}
+use Rattle.lambdatwist.specs.Types.{Vector3, Matrix3, Roots, World, Bearings, SquaredEdges, Cosines, P3pInput, Basis, Solutions, EdgeVectors, Factors, Coefficients, Candidates, Eigensystem, Ratio, Real, NotReal, View, Answer}
 use Rattle.depths.proofs.EdgeScaling.{AtEdgeVectors, edgeVectors-scales, squaredEdges-scales}
 use Rattle.depths.proofs.CubicScaling.{AtCoefficients, cubicCoefficients-scales, isUnusable-same}
 use Rattle.depths.proofs.MatrixScaling.{singularMatrix-scales}

@@ -3,24 +3,18 @@
 use mathlib.Core.List.{List, [], _∷_}
 use lib.Ieee.{lt}
 use Rattle.ieee754.specs.Traced.{Traced, pure, _>>=_, if_then_else_}
-use Rattle.linalg.specs.declared.vector3.Vector3.{Vector3}
-use Rattle.p3p_common.specs.declared.input.World.{World}
-use Rattle.p3p_common.specs.declared.input.Bearings.{Bearings}
-use Rattle.p3p_common.specs.declared.input.P3pInput.{P3pInput}
+use Rattle.frames.specs.Points.{points, rays}
 use Rattle.depths.specs.Condition.{leadingCubicCondition}
-use Rattle.lambdatwist.specs.declared.permutation.Conditioned.{Conditioned}
+use Rattle.lambdatwist.specs.Types.{Vector3, P3pInput, Conditioned}
 
 -- permutation.map(|index| input.world[index]) and of the bearings, by the three points and the three bearings in their new order
-abbrev pub points : Vector3 → Vector3 → Vector3 → World
-points p0 p1 p2 = record { p0 = p0; p1 = p1; p2 = p2 }
-
-abbrev pub rays : Vector3 → Vector3 → Vector3 → Bearings
-rays f0 f1 f2 = record { f0 = f0; f1 = f1; f2 = f2 }
-
-unfoldable pub withCondition : World → Bearings → Traced Conditioned
-withCondition world bearings = do
-  condition ← leadingCubicCondition world bearings
-  pure (record { condition = condition; world = world; bearings = bearings })
+unfoldable pub withCondition : Vector3 → Vector3 → Vector3 → Vector3 → Vector3 → Vector3 → Traced Conditioned
+withCondition p0 p1 p2 f0 f1 f2 =
+    let world = points p0 p1 p2 in
+    let bearings = rays f0 f1 f2 in
+    do
+      condition ← leadingCubicCondition world bearings
+      pure (record { condition = condition; world = world; bearings = bearings })
 
 -- condition > *best_condition
 unfoldable pub better : Conditioned → Conditioned → Conditioned
@@ -37,9 +31,9 @@ bestPermutation input =
     let record { p0 = p0; p1 = p1; p2 = p2 } = input .world in
     let record { f0 = f0; f1 = f1; f2 = f2 } = input .bearings in
     do
-      c021 ← withCondition (points p0 p2 p1) (rays f0 f2 f1)
-      c102 ← withCondition (points p1 p0 p2) (rays f1 f0 f2)
-      c120 ← withCondition (points p1 p2 p0) (rays f1 f2 f0)
-      c201 ← withCondition (points p2 p0 p1) (rays f2 f0 f1)
-      c210 ← withCondition (points p2 p1 p0) (rays f2 f1 f0)
+      c021 ← withCondition p0 p2 p1 f0 f2 f1
+      c102 ← withCondition p1 p0 p2 f1 f0 f2
+      c120 ← withCondition p1 p2 p0 f1 f2 f0
+      c201 ← withCondition p2 p0 p1 f2 f0 f1
+      c210 ← withCondition p2 p1 p0 f2 f1 f0
       pure (bestOf c021 (c102 ∷ c120 ∷ c201 ∷ c210 ∷ []))

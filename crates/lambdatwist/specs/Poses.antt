@@ -8,21 +8,13 @@ use Rattle.ieee754.specs.Literal.{plusZero}
 use Rattle.ieee754.specs.Traced.{Traced, pure, _>>=_, if_then_else_}
 use Rattle.linalg.specs.Vectors.{vecSub, vecMul, allFinite}
 use Rattle.linalg.specs.Matrices.{column0, column1, matVec}
-use Rattle.linalg.specs.declared.vector3.Vector3.{Vector3}
-use Rattle.linalg.specs.declared.matrix3.Matrix3.{Matrix3}
-use Rattle.p3p_common.specs.declared.refine_depths.SquaredEdges.{SquaredEdges}
-use Rattle.p3p_common.specs.declared.refine_depths.Cosines.{Cosines}
-use Rattle.p3p_common.specs.declared.refine_depths.Refined.{Refined}
-use Rattle.p3p_common.specs.declared.solutions.Solutions.{Solutions}
 use Rattle.p3p_common.specs.RefineDepths.{refineDepths}
 use Rattle.p3p_common.specs.RotationFromEdges.{rotationFromEdges}
 use Rattle.p3p_common.specs.Slots.{empty}
 use Rattle.p3p_common.specs.PushPose.{pushPose}
 use Rattle.depths.specs.Charts.{chart}
 use Rattle.depths.specs.DepthSlots.{noCandidates}
-use Rattle.depths.specs.declared.angles.Factors.{Factors}
-use Rattle.depths.specs.declared.candidates.Candidates.{Candidates}
-use Rattle.lambdatwist.specs.declared.poses.View.{View}
+use Rattle.lambdatwist.specs.Types.{Vector3, Matrix3, SquaredEdges, Cosines, Refined, Solutions, Factors, Candidates, View}
 
 -- the turn of one sign: let null_vector = eigenvectors.column(0) - sign * eigenvectors.column(1); with the factors of the product exchanged
 unfoldable pub signTurn : SquaredEdges → Factors → Matrix3 → Float → Candidates → Traced Candidates

@@ -5,22 +5,10 @@ use lib.Dec.{eqb}
 use lib.Ieee.{Float, le}
 use Rattle.ieee754.specs.Literal.{sixtyFour, epsilon}
 use Rattle.ieee754.specs.Traced.{Traced, pure, _>>=_, if_then_else_, _⊗_, _⊘_, !_}
-use Rattle.linalg.specs.declared.vector3.Vector3.{Vector3}
-use Rattle.linalg.specs.declared.matrix3.Matrix3.{Matrix3}
 use Rattle.polynomial.specs.PolishedRoot.{polishedCubicRoot}
-use Rattle.polynomial.specs.declared.Roots.{Roots}
-use Rattle.polynomial.specs.declared.Roots.the-variants.{Two, One, Refused}
 use Rattle.p3p_common.specs.Input.{inputFinite}
 use Rattle.p3p_common.specs.Slots.{empty}
 use Rattle.p3p_common.specs.WorldBasisInverse.{worldBasisInverse}
-use Rattle.p3p_common.specs.declared.input.World.{World}
-use Rattle.p3p_common.specs.declared.input.Bearings.{Bearings}
-use Rattle.p3p_common.specs.declared.input.P3pInput.{P3pInput}
-use Rattle.p3p_common.specs.declared.refine_depths.SquaredEdges.{SquaredEdges}
-use Rattle.p3p_common.specs.declared.refine_depths.Cosines.{Cosines}
-use Rattle.p3p_common.specs.declared.world_basis_inverse.Basis.{Basis}
-use Rattle.p3p_common.specs.declared.world_basis_inverse.Basis.the-variants.{Inverse, Singular}
-use Rattle.p3p_common.specs.declared.solutions.Solutions.{Solutions}
 use Rattle.depths.specs.Edges.{edgeVectors, squaredEdges}
 use Rattle.depths.specs.Angles.{cosines, squaredSines, bearingFactors}
 use Rattle.depths.specs.Cubic.{cubicCoefficients, isUnusable}
@@ -29,16 +17,7 @@ use Rattle.eigen.specs.KnownZero.{eigWithKnownZero}
 use Rattle.eigen.specs.RatioOf.{ratioOf}
 use Rattle.lambdatwist.specs.Poses.{candidates, poses}
 use Rattle.lambdatwist.specs.Permutation.{bestPermutation}
-use Rattle.depths.specs.declared.edges.EdgeVectors.{EdgeVectors}
-use Rattle.depths.specs.declared.angles.Factors.{Factors}
-use Rattle.depths.specs.declared.cubic.Coefficients.{Coefficients}
-use Rattle.depths.specs.declared.candidates.Candidates.{Candidates}
-use Rattle.eigen.specs.declared.known_zero.Eigensystem.{Eigensystem}
-use Rattle.eigen.specs.declared.known_zero.Eigensystem.the-variants.{Found, NotFound}
-use Rattle.eigen.specs.declared.ratio.Ratio.{Ratio}
-use Rattle.eigen.specs.declared.ratio.Ratio.the-variants.{Real, NotReal}
-use Rattle.lambdatwist.specs.declared.poses.View.{View}
-use Rattle.lambdatwist.specs.declared.solve.Answer.{Answer}
+use Rattle.lambdatwist.specs.Types.{Vector3, Matrix3, Roots, Two, One, Refused, World, Bearings, SquaredEdges, Cosines, P3pInput, Basis, Inverse, Singular, Solutions, EdgeVectors, Factors, Coefficients, Candidates, Eigensystem, Found, NotFound, Ratio, Real, NotReal, View, Answer}
 
 -- ---- an answer: number 0 with the poses that were kept, or a refusal's number with count 0 and plus zeros
 unfoldable pub answered : ℕ → Solutions → Answer

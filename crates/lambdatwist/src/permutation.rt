@@ -3,9 +3,10 @@
 ghost use mathlib.Core.Path.{_≡_};
 ghost use Rattle.lambdatwist.specs.Permutation.{withCondition, better, bestPermutation};
 use depths::condition::leading_cubic_condition;
-use p3p_common::input::Bearings;
+use frames::bearings::Bearings;
+use frames::world::World;
+use linalg::vector3::Vector3;
 use p3p_common::input::P3pInput;
-use p3p_common::input::World;
 
 // An ordering of the points and bearings, with its condition.
 pub struct Conditioned {
@@ -14,9 +15,19 @@ pub struct Conditioned {
     pub bearings: Bearings,
 }
 
-pub fn with_condition(world: World, bearings: Bearings) -> Conditioned
-    ensures { λ r. ⌜ r ≡ withCondition world bearings .value ⌝ }
+// The ordering of three points and the bearings to them.
+pub fn with_condition(
+    p0: Vector3,
+    p1: Vector3,
+    p2: Vector3,
+    f0: Vector3,
+    f1: Vector3,
+    f2: Vector3,
+) -> Conditioned
+    ensures { λ r. ⌜ r ≡ withCondition p0 p1 p2 f0 f1 f2 .value ⌝ }
 {
+    let world = World { p0, p1, p2 };
+    let bearings = Bearings { f0, f1, f2 };
     let condition = leading_cubic_condition(world, bearings);
     Conditioned {
         condition,
@@ -47,52 +58,9 @@ pub fn best_permutation(input: P3pInput) -> Conditioned
     let f0 = bearings.f0;
     let f1 = bearings.f1;
     let f2 = bearings.f2;
-    let best = with_condition(
-        World { p0, p1: p2, p2: p1 },
-        Bearings { f0, f1: f2, f2: f1 },
-    );
-    let best = better(
-        best,
-        with_condition(
-            World { p0: p1, p1: p0, p2 },
-            Bearings { f0: f1, f1: f0, f2 },
-        ),
-    );
-    let best = better(
-        best,
-        with_condition(
-            World {
-                p0: p1,
-                p1: p2,
-                p2: p0,
-            },
-            Bearings {
-                f0: f1,
-                f1: f2,
-                f2: f0,
-            },
-        ),
-    );
-    let best = better(
-        best,
-        with_condition(
-            World {
-                p0: p2,
-                p1: p0,
-                p2: p1,
-            },
-            Bearings {
-                f0: f2,
-                f1: f0,
-                f2: f1,
-            },
-        ),
-    );
-    better(
-        best,
-        with_condition(
-            World { p0: p2, p1, p2: p0 },
-            Bearings { f0: f2, f1, f2: f0 },
-        ),
-    )
+    let best = with_condition(p0, p2, p1, f0, f2, f1);
+    let best = better(best, with_condition(p1, p0, p2, f1, f0, f2));
+    let best = better(best, with_condition(p1, p2, p0, f1, f2, f0));
+    let best = better(best, with_condition(p2, p0, p1, f2, f0, f1));
+    better(best, with_condition(p2, p1, p0, f2, f1, f0))
 }

@@ -6,8 +6,7 @@ use Rattle.ieee754.proofs.Order.{three, all-three}
 use Rattle.ieee754.proofs.Finite.{neg-operand, add-operands, mul-operands}
 use Rattle.linalg.specs.Vectors.{allFinite, vecSub}
 use Rattle.linalg.specs.Matrices.{matVec, matFinite, column0, column1, column2}
-use Rattle.linalg.specs.declared.vector3.Vector3.{Vector3}
-use Rattle.linalg.specs.declared.matrix3.Matrix3.{Matrix3}
+use Rattle.linalg.specs.Types.{Vector3, Matrix3}
 
 pub entries-finite : (v : Vector3) → T (allFinite v) → T (finite (v .x)) × T (finite (v .y)) × T (finite (v .z))
 unfolding allFinite

@@ -2,7 +2,7 @@
 use lib.Dec.{T}
 use Rattle.ieee754.specs.Traced.{_⊗_, _⊕_, !_}
 use Rattle.ieee754.proofs.RegularNormal.{zeroOrNormal, ⊕-normal}
-use Rattle.linalg.specs.declared.vector3.Vector3.{Vector3}
+use Rattle.linalg.specs.Types.{Vector3}
 use Rattle.linalg.specs.Vectors.{dot, normSquared}
 
 pub squared-normal : (v : Vector3) → T (normSquared v .regular) → T (zeroOrNormal (normSquared v .value))

@@ -4,10 +4,8 @@ use mathlib.Core.Bool.{Bool, _&&_}
 use lib.Ieee.{Float}
 use Rattle.ieee754.specs.Literal.{plusZero}
 use Rattle.ieee754.specs.Traced.{Traced, pure, _>>=_, _⊗_, _⊕_, !_}
-use Rattle.linalg.specs.declared.vector3.Vector3.{Vector3}
-use Rattle.linalg.specs.declared.matrix3.Matrix3.{Matrix3}
-use Rattle.linalg.specs.declared.pose.Pose.{Pose}
-use Rattle.linalg.specs.Vectors.{vector, normSquared, allFinite, zeros}
+use Rattle.linalg.specs.Types.{Vector3, Matrix3}
+use Rattle.linalg.specs.Vectors.{vector, normSquared, allFinite}
 
 -- Matrix3::from_columns, Matrix3::from_rows
 unfoldable pub fromColumns : Vector3 → Vector3 → Vector3 → Matrix3
@@ -73,7 +71,3 @@ trace m = ! plusZero ⊕ ! (m .m00) ⊕ ! (m .m11) ⊕ ! (m .m22)
 -- m.iter().all(|value| value.is_finite())
 unfoldable pub matFinite : Matrix3 → Bool
 matFinite m = allFinite (column0 m) && allFinite (column1 m) && allFinite (column2 m)
-
--- a pose of plus zeros, as a slot that holds none
-abbrev pub zeroPose : Pose
-zeroPose = record { rotation = fromColumns zeros zeros zeros; translation = zeros }

@@ -1,8 +1,7 @@
 -- Vectors and matrices of two runs, entry by entry, at a degree of the scaling rule, demand 3 of the mission.
 use lib.IntN.{ℤ}
 use Rattle.ieee754.specs.Scaling.{At}
-use Rattle.linalg.specs.declared.vector3.Vector3.{Vector3}
-use Rattle.linalg.specs.declared.matrix3.Matrix3.{Matrix3}
+use Rattle.linalg.specs.Types.{Vector3, Matrix3}
 use Rattle.linalg.specs.Matrices.{column0, column1, column2}
 
 -- each entry at a degree of its own: p, q and r

@@ -5,7 +5,7 @@ use lib.Ieee.Scale.{finite}
 use Rattle.ieee754.specs.Literal.{plusZero}
 use Rattle.ieee754.specs.Magnitude.{abs}
 use Rattle.ieee754.specs.Traced.{Traced, pure, _>>=_, _⊗_, _⊕_, _⊖_, _⊘_, !_, √_}
-use Rattle.linalg.specs.declared.vector3.Vector3.{Vector3}
+use Rattle.linalg.specs.Types.{Vector3}
 
 -- Vector3::new
 abbrev pub vector : Float → Float → Float → Vector3

@@ -1,4 +1,3 @@
 // Vectors and matrices of three doubles a side, by value, with nalgebra's orders of operations: document 01, "Rounding and sums".
 pub mod matrix3;
-pub mod pose;
 pub mod vector3;

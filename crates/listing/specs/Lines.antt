@@ -6,8 +6,7 @@ use mathlib.Core.List.{List, _++_}
 use lib.Dec.{leb}
 use lib.ListN.{length, take, drop}
 use lib.Ieee.{Float, binary64, toBits}
-use Rattle.linalg.specs.declared.vector3.Vector3.{Vector3}
-use Rattle.linalg.specs.declared.pose.Pose.{Pose}
+use Rattle.listing.specs.Types.{Vector3, Pose}
 use Rattle.linalg.specs.Matrices.{column0, column1, column2}
 use Rattle.listing.specs.Bytes.{ascii}
 use Rattle.listing.specs.Digits.{decimal, hexadecimal}

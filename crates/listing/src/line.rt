@@ -4,7 +4,7 @@ use crate::digits::put_decimal;
 use crate::put::put_byte;
 use crate::put::put_text;
 use crate::words::put_words;
-use linalg::pose::Pose;
+use frames::pose::Pose;
 ghost use mathlib.Core.Path.{_≡_};
 ghost use Prim.Native.Nat.{_-_};
 ghost use Rattle.listing.specs.Lines.{Written, headerLine, refusedLine, acceptedLine, poseLine, stopLine, endLine};

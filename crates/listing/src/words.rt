@@ -1,8 +1,8 @@
 // The words of a pose: doubles by their bit patterns.
 use crate::digits::put_word;
 use crate::put::put_byte;
+use frames::pose::Pose;
 use ieee754::bits::to_bits;
-use linalg::pose::Pose;
 use linalg::vector3::Vector3;
 ghost use mathlib.Core.Path.{_≡_};
 ghost use Prim.Native.Nat.{_+_, _≤_};

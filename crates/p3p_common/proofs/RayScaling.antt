@@ -4,15 +4,14 @@ use mathlib.Core.Bool.{Bool, false, _&&_}
 use lib.IntN.{ℤ, pos}
 use Rattle.ieee754.specs.Scaling.{Both}
 use Rattle.ieee754.proofs.Degrees.{same, null, !_, _⊗_, pure, if_then_else_, _>>=_, lt-same, le-same, finite-same}
-use Rattle.linalg.specs.declared.vector3.Vector3.{Vector3}
-use Rattle.linalg.specs.declared.matrix3.Matrix3.{Matrix3}
 use Rattle.linalg.specs.VectorScaling.{AtVector}
-use Rattle.linalg.proofs.VectorDegrees.{same-vector, vecAdd-scales, dot-scales, normSquared-scales, cross-scales}
-use Rattle.linalg.proofs.MatrixDegrees.{same-matrix, columns-at, matVec-scales}
-use Rattle.p3p_common.specs.declared.input.P3pInput.{P3pInput}
+use Rattle.linalg.proofs.VectorDegrees.{same-vector, dot-scales, normSquared-scales, cross-scales}
+use Rattle.frames.specs.FrameScaling.{AtPose}
+use Rattle.frames.proofs.PoseDegrees.{cameraPoint-scales}
+use Rattle.p3p_common.specs.Types.{Vector3, Pose, P3pInput}
 use Rattle.p3p_common.specs.Literal.{projectedRayTolerance}
 use Rattle.p3p_common.specs.RayFits.{rayFits}
-use Rattle.p3p_common.specs.ProjectedPose.{cameraPoint, observationFits, projectedPoseFitsMinimalSample}
+use Rattle.p3p_common.specs.ProjectedPose.{observationFits, projectedPoseFitsMinimalSample}
 use Rattle.p3p_common.specs.PoseScaling.{AtInput}
 
 -- both runs say no
@@ -31,21 +30,17 @@ module _ {k : ℤ} where
       pure (le-same offRay limit))
       else pure no
 
-  module _ (rotation : Matrix3) {translation translation' : Vector3} (translation-at : AtVector k (pos 1) translation translation') where
-    pub cameraPoint-scales : {world world' : Vector3} → AtVector k (pos 1) world world' → Both (AtVector k (pos 1)) (cameraPoint rotation translation world) (cameraPoint rotation translation' world')
-    unfolding cameraPoint
-    cameraPoint-scales world =
-        matVec-scales refl refl refl (columns-at (same-matrix rotation)) world >>= λ _ _ turned.
-        vecAdd-scales turned translation-at
-
-    observationFits-same : {world world' : Vector3} (bearing : Vector3) → AtVector k (pos 1) world world' → Both {A = Bool} _≡_ (observationFits rotation translation world bearing) (observationFits rotation translation' world' bearing)
+  module _ {pose pose' : Pose} (pose-at : AtPose k pose pose') where
+    observationFits-same : {world world' : Vector3} (bearing : Vector3)
+        → AtVector k (pos 1) world world'
+        → Both {A = Bool} _≡_ (observationFits pose world bearing) (observationFits pose' world' bearing)
     unfolding observationFits
     observationFits-same bearing world =
-        cameraPoint-scales world >>= λ _ _ camera.
+        cameraPoint-scales pose-at world >>= λ _ _ camera.
         rayFits-same bearing camera
 
     pub projectedPose-same : {input input' : P3pInput} → AtInput k input input'
-        → Both {A = Bool} _≡_ (projectedPoseFitsMinimalSample input rotation translation) (projectedPoseFitsMinimalSample input' rotation translation')
+        → Both {A = Bool} _≡_ (projectedPoseFitsMinimalSample input pose) (projectedPoseFitsMinimalSample input' pose')
     unfolding projectedPoseFitsMinimalSample
     projectedPose-same {input} {input'} h =
         let f = input .bearings in

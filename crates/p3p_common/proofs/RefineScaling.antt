@@ -8,17 +8,13 @@ use Rattle.ieee754.specs.Literal.{half, two}
 use Rattle.ieee754.specs.Traced.{Traced}
 use Rattle.ieee754.specs.Scaling.{Both, At}
 use Rattle.ieee754.proofs.Degrees.{same, null, !_, ⊝_, _⊗_, _⊘_, _⊕_, _⊖_, pure, if_then_else_, _>>=_, choose, max-at, lt-same, eq-same, finite-same}
-use Rattle.linalg.specs.declared.vector3.Vector3.{Vector3}
 use Rattle.linalg.specs.VectorScaling.{AtVector}
 use Rattle.linalg.proofs.VectorDegrees.{absSum-scales, allFinite-same}
-use Rattle.p3p_common.specs.declared.refine_depths.SquaredEdges.{SquaredEdges}
-use Rattle.p3p_common.specs.declared.refine_depths.Cosines.{Cosines}
-use Rattle.p3p_common.specs.declared.refine_depths.Refined.{Refined}
-use Rattle.p3p_common.specs.declared.refine_depths.Step.{Step}
-use Rattle.p3p_common.specs.declared.refine_depths.Step.the-variants.{Next, Stop}
+use Rattle.p3p_common.specs.Types.{Vector3, SquaredEdges, Cosines, Refined, Step, Next, Stop}
 use Rattle.p3p_common.specs.Literal.{ten⁻¹⁰}
 use Rattle.p3p_common.specs.RefineDepths.{depthResidual, ifFinite, depthUpdate, depthStep, afterStep, refineTurns, refineDepths}
-use Rattle.p3p_common.specs.PoseScaling.{AtEdges, AtRefined}
+use Rattle.frames.specs.FrameScaling.{AtEdges}
+use Rattle.p3p_common.specs.PoseScaling.{AtRefined}
 
 -- both stop, or both go on
 data AtStep (k : ℤ) : Step → Step → Type 0 where

@@ -13,18 +13,9 @@ use lib.Ieee.{Float}
 use Rattle.ieee754.proofs.Order.{either-way}
 use Rattle.ieee754.proofs.Entries.{replicate-entry}
 use Rattle.linalg.specs.Vectors.{allFinite}
-use Rattle.linalg.specs.Matrices.{zeroPose, matFinite}
-use Rattle.linalg.specs.declared.vector3.Vector3.{Vector3}
-use Rattle.linalg.specs.declared.matrix3.Matrix3.{Matrix3}
-use Rattle.linalg.specs.declared.pose.Pose.{Pose}
-use Rattle.p3p_common.specs.declared.input.P3pInput.{P3pInput}
-use Rattle.p3p_common.specs.declared.gate.Gated.{Gated}
-use Rattle.p3p_common.specs.declared.gate.Gated.the-variants.{Passed, Projected, Dropped}
-use Rattle.p3p_common.specs.declared.solutions.Solutions.{Solutions}
-use Rattle.p3p_common.specs.declared.refine_depths.SquaredEdges.{SquaredEdges}
-use Rattle.p3p_common.specs.declared.refine_depths.Cosines.{Cosines}
-use Rattle.p3p_common.specs.declared.refine_depths.Step.{Step}
-use Rattle.p3p_common.specs.declared.refine_depths.Step.the-variants.{Next, Stop}
+use Rattle.linalg.specs.Matrices.{matFinite}
+use Rattle.frames.specs.Poses.{zeroPose}
+use Rattle.p3p_common.specs.Types.{Vector3, Matrix3, Pose, SquaredEdges, Cosines, P3pInput, Gated, Passed, Projected, Dropped, Solutions, Step, Next, Stop}
 use Rattle.p3p_common.specs.RefineDepths.{depthStep, afterStep, refineTurns, refineDepths}
 use Rattle.p3p_common.specs.Gate.{gate}
 use Rattle.p3p_common.specs.Slots.{empty, push}

@@ -7,18 +7,14 @@ use lib.ListN.{set}
 use Rattle.ieee754.specs.Scaling.{Both}
 use Rattle.ieee754.proofs.Degrees.{pure, _>>=_, choose}
 use Rattle.ieee754.proofs.Entries.{set-entries, four-entries}
-use Rattle.linalg.specs.Matrices.{zeroPose}
-use Rattle.linalg.specs.declared.vector3.Vector3.{Vector3}
-use Rattle.linalg.specs.declared.matrix3.Matrix3.{Matrix3}
-use Rattle.linalg.specs.declared.pose.Pose.{Pose}
+use Rattle.frames.specs.Poses.{zeroPose}
 use Rattle.linalg.specs.VectorScaling.{AtVector}
 use Rattle.linalg.proofs.VectorDegrees.{null-vector}
-use Rattle.p3p_common.specs.declared.input.P3pInput.{P3pInput}
-use Rattle.p3p_common.specs.declared.gate.Gated.{Gated}
-use Rattle.p3p_common.specs.declared.solutions.Solutions.{Solutions}
+use Rattle.p3p_common.specs.Types.{Vector3, Matrix3, Pose, P3pInput, Gated, Solutions}
 use Rattle.p3p_common.specs.Slots.{empty, push}
 use Rattle.p3p_common.specs.PushPose.{pushGated, pushPose}
-use Rattle.p3p_common.specs.PoseScaling.{AtInput, AtPose, AtGated, passed-at, projected-at, dropped-at, AtSolutions}
+use Rattle.frames.specs.FrameScaling.{AtPose}
+use Rattle.p3p_common.specs.PoseScaling.{AtInput, AtGated, passed-at, projected-at, dropped-at, AtSolutions}
 use Rattle.p3p_common.proofs.GateScaling.{gate-scales}
 
 module _ {k : ℤ} where

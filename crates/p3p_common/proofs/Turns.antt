@@ -3,10 +3,7 @@ use Prim.Native.Nat.{ℕ, suc, _-_, _+_, _≤_, _<_}
 use native.Mathlib.Omega.{arith}
 use mathlib.Core.Path.{_≡_}
 use lib.Ieee.{Float}
-use Rattle.linalg.specs.declared.vector3.Vector3.{Vector3}
-use Rattle.p3p_common.specs.declared.refine_depths.SquaredEdges.{SquaredEdges}
-use Rattle.p3p_common.specs.declared.refine_depths.Cosines.{Cosines}
-use Rattle.p3p_common.specs.declared.refine_depths.Step.the-variants.{Next, Stop}
+use Rattle.p3p_common.specs.Types.{Vector3, SquaredEdges, Cosines, Next, Stop}
 use Rattle.p3p_common.specs.RefineDepths.{depthStep, afterStep, refineTurns}
 
 module _ (depths : Vector3) (edges : SquaredEdges) (cosines : Cosines) (tolerance : Float) (n u : ℕ) where

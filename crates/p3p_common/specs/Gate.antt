@@ -2,33 +2,28 @@
 use Rattle.ieee754.specs.Traced.{Traced, pure, _>>=_, if_then_else_}
 use Rattle.linalg.specs.Vectors.{allFinite, vecSub}
 use Rattle.linalg.specs.Matrices.{matVec}
-use Rattle.linalg.specs.declared.vector3.Vector3.{Vector3}
-use Rattle.linalg.specs.declared.matrix3.Matrix3.{Matrix3}
-use Rattle.linalg.specs.declared.pose.Pose.{Pose}
-use Rattle.p3p_common.specs.declared.input.P3pInput.{P3pInput}
-use Rattle.p3p_common.specs.declared.project_to_rotation.Projection.{Projection}
-use Rattle.p3p_common.specs.declared.project_to_rotation.Projection.the-variants.{Rotation, Refused}
-use Rattle.p3p_common.specs.declared.gate.Gated.{Gated}
-use Rattle.p3p_common.specs.declared.gate.Gated.the-variants.{Passed, Projected, Dropped}
+use Rattle.frames.specs.Poses.{cameraPoint}
+use Rattle.p3p_common.specs.Types.{Vector3, Matrix3, Pose, P3pInput, Projection, Rotation, Refused, Gated, Passed, Projected, Dropped}
 use Rattle.p3p_common.specs.NearOrthonormal.{hasNearOrthonormalColumns}
 use Rattle.p3p_common.specs.ProjectToRotation.{projectToRotation}
-use Rattle.p3p_common.specs.ProjectedPose.{cameraPoint, projectedPoseFitsMinimalSample}
+use Rattle.p3p_common.specs.ProjectedPose.{projectedPoseFitsMinimalSample}
 
 -- push_valid_rotation: a translation that is not finite drops the pose
-unfoldable pub ifValid : (Pose → Gated) → Matrix3 → Vector3 → Gated
-ifValid gated rotation translation = if allFinite translation then gated (record { rotation = rotation; translation = translation }) else Dropped
+unfoldable pub ifValid : (Pose → Gated) → Pose → Gated
+ifValid gated pose = if allFinite (pose .translation) then gated pose else Dropped
 
 -- the pose with its projected rotation: camera point 0 is kept, and all three rays must fit
 unfoldable pub keepPoint0 : P3pInput → Matrix3 → Vector3 → Projection → Traced Gated
 keepPoint0 input rawRotation translation Refused = pure Dropped
 keepPoint0 input rawRotation translation (Rotation rotation) = do
   -- let camera0 = raw_rotation * self.world[0] + translation;
-  camera0 ← cameraPoint rawRotation translation (input .world .p0)
+  camera0 ← cameraPoint (record { rotation = rawRotation; translation = translation }) (input .world .p0)
   -- let translation = camera0 - rotation * self.world[0];
   turned ← matVec rotation (input .world .p0)
   kept ← vecSub camera0 turned
-  fits ← projectedPoseFitsMinimalSample input rotation kept
-  pure (if fits then ifValid Projected rotation kept else Dropped)
+  let pose : Pose = record { rotation = rotation; translation = kept }
+  fits ← projectedPoseFitsMinimalSample input pose
+  pure (if fits then ifValid Projected pose else Dropped)
 
 unfoldable pub projectedGate : P3pInput → Matrix3 → Vector3 → Traced Gated
 projectedGate input rawRotation translation = do
@@ -38,4 +33,4 @@ projectedGate input rawRotation translation = do
 unfoldable pub gate : P3pInput → Matrix3 → Vector3 → Traced Gated
 gate input rawRotation translation = do
   isNearRotation ← hasNearOrthonormalColumns rawRotation
-  if isNearRotation then pure (ifValid Passed rawRotation translation) else projectedGate input rawRotation translation
+  if isNearRotation then pure (ifValid Passed (record { rotation = rawRotation; translation = translation })) else projectedGate input rawRotation translation

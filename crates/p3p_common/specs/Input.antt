@@ -1,7 +1,7 @@
 -- The test of P3pInput::new (pose/p3p/common.rs), question 1 of document 01: are all eighteen numbers finite?
 use mathlib.Core.Bool.{Bool, _&&_}
 use Rattle.linalg.specs.Vectors.{allFinite}
-use Rattle.p3p_common.specs.declared.input.P3pInput.{P3pInput}
+use Rattle.p3p_common.specs.Types.{P3pInput}
 
 -- world_vectors.iter().chain(&bearing_vectors).any(|vector| vector.iter().any(|value| !value.is_finite())), the other way round
 unfoldable pub inputFinite : P3pInput → Bool

@@ -6,7 +6,7 @@ use Rattle.ieee754.specs.Magnitude.{abs}
 use Rattle.ieee754.specs.Traced.{Traced, pure, _>>=_, _⊕_, _⊖_, !_}
 use Rattle.linalg.specs.Vectors.{dot, normSquared}
 use Rattle.linalg.specs.Matrices.{column0, column1, column2}
-use Rattle.linalg.specs.declared.matrix3.Matrix3.{Matrix3}
+use Rattle.p3p_common.specs.Types.{Matrix3}
 use Rattle.p3p_common.specs.Literal.{nearRotationTolerance}
 
 -- (first.norm_squared() - 1.0).abs() + (second.norm_squared() - 1.0).abs() + (third.norm_squared() - 1.0).abs()

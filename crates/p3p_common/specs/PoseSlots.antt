@@ -6,8 +6,9 @@ use Prim.Native.Nat.{ℕ, _≤_, _<_}
 use lib.Dec.{T}
 use lib.ListN.{length, getD}
 use Rattle.linalg.specs.Vectors.{allFinite}
-use Rattle.linalg.specs.Matrices.{matFinite, zeroPose}
-use Rattle.linalg.specs.declared.pose.Pose.{Pose}
+use Rattle.linalg.specs.Matrices.{matFinite}
+use Rattle.frames.specs.Poses.{zeroPose}
+use Rattle.p3p_common.specs.Types.{Pose}
 
 -- four slots, numbered from 0 (`getD slots i unused` is slot i): of those below the count `Holds` is true, and the rest hold `unused`
 pub record Filled {A : Type 0} (Holds : A → Type 0) (unused : A) (count : ℕ) (slots : List A) : Type 0 where

@@ -5,9 +5,7 @@ use Rattle.ieee754.specs.Literal.{epsilon}
 use Rattle.ieee754.specs.Traced.{Traced, pure, _>>=_, if_then_else_, !_, √_}
 use Rattle.linalg.specs.Vectors.{dot, norm, cross, vecSub, vecMul, vecDiv}
 use Rattle.linalg.specs.Matrices.{column0, column1, fromColumns, matFinite}
-use Rattle.linalg.specs.declared.matrix3.Matrix3.{Matrix3}
-use Rattle.p3p_common.specs.declared.project_to_rotation.Projection.{Projection}
-use Rattle.p3p_common.specs.declared.project_to_rotation.Projection.the-variants.{Rotation, Refused}
+use Rattle.p3p_common.specs.Types.{Matrix3, Projection, Rotation, Refused}
 
 unfoldable pub projectToRotation : Matrix3 → Traced Projection
 projectToRotation matrix =

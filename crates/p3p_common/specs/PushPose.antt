@@ -1,12 +1,7 @@
 -- push_edge_basis_pose_from_positive_depths of pose/p3p/common.rs: a pose is appended to the solutions where the gate lets it by.
 use Prim.Native.Nat.{ℕ}
 use Rattle.ieee754.specs.Traced.{Traced, pure, _>>=_}
-use Rattle.linalg.specs.declared.vector3.Vector3.{Vector3}
-use Rattle.linalg.specs.declared.matrix3.Matrix3.{Matrix3}
-use Rattle.p3p_common.specs.declared.input.P3pInput.{P3pInput}
-use Rattle.p3p_common.specs.declared.gate.Gated.{Gated}
-use Rattle.p3p_common.specs.declared.gate.Gated.the-variants.{Passed, Projected, Dropped}
-use Rattle.p3p_common.specs.declared.solutions.Solutions.{Solutions}
+use Rattle.p3p_common.specs.Types.{Vector3, Matrix3, P3pInput, Gated, Passed, Projected, Dropped, Solutions}
 use Rattle.p3p_common.specs.Gate.{gate}
 use Rattle.p3p_common.specs.Slots.{push}
 

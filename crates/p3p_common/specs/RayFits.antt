@@ -5,7 +5,7 @@ use lib.Ieee.Scale.{finite}
 use Rattle.ieee754.specs.Literal.{plusZero}
 use Rattle.ieee754.specs.Traced.{Traced, pure, _>>=_, if_then_else_, _⊗_, !_}
 use Rattle.linalg.specs.Vectors.{dot, normSquared, cross}
-use Rattle.linalg.specs.declared.vector3.Vector3.{Vector3}
+use Rattle.p3p_common.specs.Types.{Vector3}
 use Rattle.p3p_common.specs.Literal.{projectedRayTolerance}
 
 -- ray_depth.is_finite() && ray_depth > 0.0

@@ -7,12 +7,7 @@ use Rattle.ieee754.specs.Literal.{plusZero, half, two}
 use Rattle.ieee754.specs.Maximum.{max}
 use Rattle.ieee754.specs.Traced.{Traced, pure, _>>=_, if_then_else_, _⊗_, _⊕_, _⊖_, _⊘_, !_, ⊝_}
 use Rattle.linalg.specs.Vectors.{vector, absSum, allFinite}
-use Rattle.linalg.specs.declared.vector3.Vector3.{Vector3}
-use Rattle.p3p_common.specs.declared.refine_depths.SquaredEdges.{SquaredEdges}
-use Rattle.p3p_common.specs.declared.refine_depths.Cosines.{Cosines}
-use Rattle.p3p_common.specs.declared.refine_depths.Refined.{Refined}
-use Rattle.p3p_common.specs.declared.refine_depths.Step.{Step}
-use Rattle.p3p_common.specs.declared.refine_depths.Step.the-variants.{Next, Stop}
+use Rattle.p3p_common.specs.Types.{Vector3, SquaredEdges, Cosines, Refined, Step, Next, Stop}
 use Rattle.p3p_common.specs.Literal.{ten⁻¹⁰}
 
 -- d0 * d0 - 2.0 * d0 * d1 * m01 + d1 * d1 - a01,

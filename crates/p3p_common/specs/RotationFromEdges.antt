@@ -2,8 +2,7 @@
 use Rattle.ieee754.specs.Traced.{Traced, _>>=_}
 use Rattle.linalg.specs.Vectors.{cross}
 use Rattle.linalg.specs.Matrices.{fromColumns, matMul}
-use Rattle.linalg.specs.declared.vector3.Vector3.{Vector3}
-use Rattle.linalg.specs.declared.matrix3.Matrix3.{Matrix3}
+use Rattle.p3p_common.specs.Types.{Vector3, Matrix3}
 
 unfoldable pub rotationFromEdges : Vector3 → Vector3 → Matrix3 → Traced Matrix3
 rotationFromEdges firstCameraEdge secondCameraEdge worldBasisInverse = do

@@ -4,9 +4,8 @@ use mathlib.Core.List.{[], _∷_}
 use lib.Dec.{ltb}
 use lib.ListN.{set}
 use Rattle.ieee754.specs.Traced.{if_then_else_}
-use Rattle.linalg.specs.Matrices.{zeroPose}
-use Rattle.linalg.specs.declared.pose.Pose.{Pose}
-use Rattle.p3p_common.specs.declared.solutions.Solutions.{Solutions}
+use Rattle.frames.specs.Poses.{zeroPose}
+use Rattle.p3p_common.specs.Types.{Pose, Solutions}
 
 -- SolverP3pSolutions::default
 unfoldable pub empty : Solutions

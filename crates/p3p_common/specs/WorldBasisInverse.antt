@@ -7,10 +7,7 @@ use Rattle.ieee754.specs.Maximum.{max}
 use Rattle.ieee754.specs.Traced.{Traced, pure, _>>=_, if_then_else_, _⊗_, _⊘_, !_}
 use Rattle.linalg.specs.Vectors.{normSquared, cross, vecMul}
 use Rattle.linalg.specs.Matrices.{fromRows}
-use Rattle.linalg.specs.declared.vector3.Vector3.{Vector3}
-use Rattle.linalg.specs.declared.matrix3.Matrix3.{Matrix3}
-use Rattle.p3p_common.specs.declared.world_basis_inverse.Basis.{Basis}
-use Rattle.p3p_common.specs.declared.world_basis_inverse.Basis.the-variants.{Inverse, Singular}
+use Rattle.p3p_common.specs.Types.{Vector3, Matrix3, Basis, Inverse, Singular}
 
 -- let inverse_determinant = determinant.recip();
 -- let dual_first = second_edge.cross(&normal) * inverse_determinant;

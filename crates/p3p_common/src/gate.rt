@@ -7,8 +7,8 @@ use crate::input::P3pInput;
 use crate::project_to_rotation::Projection;
 use crate::project_to_rotation::project_to_rotation;
 use crate::projected_pose::projected_pose_fits_minimal_sample;
+use frames::pose::Pose;
 use linalg::matrix3::Matrix3;
-use linalg::pose::Pose;
 use linalg::vector3::Vector3;
 
 pub enum Gated {
@@ -28,18 +28,23 @@ pub fn projected_gate(input: P3pInput, raw_rotation: Matrix3, translation: Vecto
     };
     let world = input.world;
     let p0 = world.p0;
-    let camera0 = raw_rotation.mul_vector(p0).add(translation);
+    let raw = Pose {
+        rotation: raw_rotation,
+        translation,
+    };
+    let camera0 = raw.camera_point(p0);
     let kept = camera0.sub(rotation.mul_vector(p0));
-    if !projected_pose_fits_minimal_sample(input, rotation, kept) {
+    let pose = Pose {
+        rotation,
+        translation: kept,
+    };
+    if !projected_pose_fits_minimal_sample(input, pose) {
         return Gated::Dropped;
     }
     if !kept.all_finite() {
         return Gated::Dropped;
     }
-    Gated::Projected(Pose {
-        rotation,
-        translation: kept,
-    })
+    Gated::Projected(pose)
 }
 
 pub fn gate(input: P3pInput, raw_rotation: Matrix3, translation: Vector3) -> Gated

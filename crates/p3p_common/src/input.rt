@@ -1,19 +1,8 @@
 // The solver's input: three world points and the bearing to each (P3pInput of pose/p3p/common.rs).
 ghost use mathlib.Core.Path.{_≡_};
 ghost use Rattle.p3p_common.specs.Input.{inputFinite};
-use linalg::vector3::Vector3;
-
-pub struct World {
-    pub p0: Vector3,
-    pub p1: Vector3,
-    pub p2: Vector3,
-}
-
-pub struct Bearings {
-    pub f0: Vector3,
-    pub f1: Vector3,
-    pub f2: Vector3,
-}
+use frames::bearings::Bearings;
+use frames::world::World;
 
 pub struct P3pInput {
     pub world: World,

@@ -1,23 +1,11 @@
 // The refinement of three depths by Newton's method (refine_depths of pose/p3p/common.rs; document 01, module 4).
 ghost use mathlib.Core.Path.{_≡_};
 ghost use Rattle.p3p_common.specs.RefineDepths.{depthResidual, depthUpdate, depthStep, refineDepths};
+use frames::cosines::Cosines;
+use frames::squared_edges::SquaredEdges;
 use ieee754::is_finite::is_finite;
 use ieee754::max::max;
 use linalg::vector3::Vector3;
-
-// The squared lengths of the edges between the world points.
-pub struct SquaredEdges {
-    pub a01: f64,
-    pub a02: f64,
-    pub a12: f64,
-}
-
-// The cosines of the angles between the bearings.
-pub struct Cosines {
-    pub m01: f64,
-    pub m02: f64,
-    pub m12: f64,
-}
 
 // The depths in the end, and how often they were updated.
 pub struct Refined {

@@ -1,4 +1,4 @@
--- The structs and enums of src/, by which a definition or a law names them.
+-- The structs and enums that definitions and laws of this crate name: those of its src/.
 pub use Rattle.polynomial.specs.declared.Roots.{Roots}
 pub use Rattle.polynomial.specs.declared.Roots.the-variants.{Two, One, Refused}
 pub use Rattle.polynomial.specs.declared.Step.{Step}

@@ -2,5 +2,5 @@
 use libc::STDIN_FILENO;
 
 fn main() {
-    listing_run::list(STDIN_FILENO);
+    listing_program::list(STDIN_FILENO);
 }

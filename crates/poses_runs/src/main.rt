@@ -10,7 +10,7 @@ fn list(name: &[u8]) {
     }
     io::write_all(STDOUT_FILENO, name);
     io::write_all(STDOUT_FILENO, b"\n");
-    listing_run::list(fd);
+    listing_program::list(fd);
     libc::close(fd);
 }
 

@@ -6,8 +6,7 @@ use native.Mathlib.Omega.{arith}
 use lib.Dec.{eqb, leb}
 use lib.ListN.{length, getD}
 use borrow.Author.Tests.{le-ltb, lt-ltb, le-leb, lt-leb, eq-eqb, ne-eqb}
-use Rattle.records.specs.declared.record.Record.{Record}
-use Rattle.records.specs.declared.record.Record.the-variants.{End, Stop, Skip, Accepted}
+use Rattle.records.specs.Types.{Record, End, Stop, Skip, Accepted}
 use Rattle.records.specs.Format.{part, bigEndian, frameAt}
 use Rattle.records.specs.Record.{ask, recordAt}
 

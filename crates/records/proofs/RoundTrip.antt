@@ -12,9 +12,7 @@ use lib.Seq.{take-at, drop-at, getD-at}
 use lib.Ieee.{Float, binary64, ofBits, toBits, fits}
 use lib.Ieee.Bits.{ofBits-toBits, toBits-lt}
 use Rattle.linalg.specs.Doubles.{Doubles}
-use Rattle.linalg.specs.declared.vector3.Vector3.{Vector3}
-use Rattle.records.specs.declared.frame.Frame.{Frame}
-use Rattle.records.specs.declared.record.Record.the-variants.{Accepted}
+use Rattle.records.specs.Types.{Vector3, Frame, Accepted}
 use Rattle.records.specs.Format.{part, bigEndian, doubleAt, vectorAt, frameAt}
 use Rattle.records.specs.Record.{recordAt}
 use Rattle.records.specs.Encoding.{bytes, doubleBytes, vectorBytes, vectorsBytes, vectors, recordBytes, AllDoubles}
@@ -128,11 +126,11 @@ module _ (before after : List ℕ) (f : Frame) (doubles : AllDoubles (vectors f)
       let e : whole ≡ (before ++ bytes 2 193) ++ (1 ∷ (body ++ after)) = simp append-assoc in
       rw e (getD-at (before ++ bytes 2 193) 1 (body ++ after) 0 (start + 2) (simp (length-append, length-bytes)))
 
-  vector : (j : ℕ) → j < 8 → vectorAt whole (start + 3) j ≡ getD (vectors f) j (f .world0)
+  vector : (j : ℕ) → j < 8 → vectorAt whole (start + 3) j ≡ getD (vectors f) j (f .world .p0)
   unfolding recordBytes
   vector j h =
       let e : whole ≡ (before ++ bytes 2 193 ++ bytes 1 1) ++ (body ++ after) = simp append-assoc in
-      rw (zero-add j) at (vectors-back whole (before ++ bytes 2 193 ++ bytes 1 1) after (start + 3) 0 (vectors f) (f .world0) (simp (length-append, length-bytes) (omega arith)) e doubles j h)
+      rw (zero-add j) at (vectors-back whole (before ++ bytes 2 193 ++ bytes 1 1) after (start + 3) 0 (vectors f) (f .world .p0) (simp (length-append, length-bytes) (omega arith)) e doubles j h)
 
   frame-back : frameAt whole (start + 3) ≡ f
   unfolding frameAt

@@ -3,8 +3,7 @@ use Prim.Native.Nat.{ℕ, zero, suc, _/_, _%_, _^_}
 use mathlib.Core.List.{List, [], _∷_, _++_}
 use lib.Ieee.{Float, binary64, toBits}
 use Rattle.linalg.specs.Doubles.{Doubles}
-use Rattle.linalg.specs.declared.vector3.Vector3.{Vector3}
-use Rattle.records.specs.declared.frame.Frame.{Frame}
+use Rattle.records.specs.Types.{Vector3, Frame}
 
 -- the last k bytes of a number, the most significant first
 unfoldable pub bytes : ℕ → ℕ → List ℕ
@@ -24,7 +23,10 @@ vectorsBytes (v ∷ vs) = vectorBytes v ++ vectorsBytes vs
 
 -- three world points, three bearings, checking target, checking bearing
 abbrev pub vectors : Frame → List Vector3
-vectors f = f .world0 ∷ f .world1 ∷ f .world2 ∷ f .bearing0 ∷ f .bearing1 ∷ f .bearing2 ∷ f .target ∷ f .bearing ∷ []
+vectors f =
+    f .world .p0 ∷ f .world .p1 ∷ f .world .p2
+    ∷ f .bearings .f0 ∷ f .bearings .f1 ∷ f .bearings .f2
+    ∷ f .target ∷ f .bearing ∷ []
 
 -- the length, the version, the doubles
 unfoldable pub recordBytes : Frame → List ℕ

@@ -4,8 +4,8 @@ use Prim.Native.Nat.{ℕ, _+_, _*_, _^_}
 use mathlib.Core.List.{List, [], _∷_}
 use lib.ListN.{length, take, drop}
 use lib.Ieee.{Float, binary64, ofBits}
-use Rattle.linalg.specs.declared.vector3.Vector3.{Vector3}
-use Rattle.records.specs.declared.frame.Frame.{Frame}
+use Rattle.frames.specs.Points.{points, rays}
+use Rattle.records.specs.Types.{Vector3, Frame}
 
 -- n bytes from a position on
 abbrev pub part : List ℕ → ℕ → ℕ → List ℕ
@@ -27,12 +27,8 @@ vectorAt s at k = record { x = doubleAt s (at + 24 * k); y = doubleAt s (at + 24
 -- three world points, three bearings, checking target, checking bearing
 unfoldable pub frameAt : List ℕ → ℕ → Frame
 frameAt s at = record {
-  world0 = vectorAt s at 0;
-  world1 = vectorAt s at 1;
-  world2 = vectorAt s at 2;
-  bearing0 = vectorAt s at 3;
-  bearing1 = vectorAt s at 4;
-  bearing2 = vectorAt s at 5;
+  world = points (vectorAt s at 0) (vectorAt s at 1) (vectorAt s at 2);
+  bearings = rays (vectorAt s at 3) (vectorAt s at 4) (vectorAt s at 5);
   target = vectorAt s at 6;
   bearing = vectorAt s at 7;
 }

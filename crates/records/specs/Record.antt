@@ -4,8 +4,7 @@ use mathlib.Core.Bool.{Bool, true, false}
 use mathlib.Core.List.{List}
 use lib.Dec.{eqb, leb, ltb}
 use lib.ListN.{length, getD}
-use Rattle.records.specs.declared.record.Record.{Record}
-use Rattle.records.specs.declared.record.Record.the-variants.{End, Stop, Skip, Accepted}
+use Rattle.records.specs.Types.{Record, End, Stop, Skip, Accepted}
 use Rattle.records.specs.Format.{part, bigEndian, frameAt}
 
 -- where the answer to a question is no, that is the record's answer; else the next question is asked

@@ -1,22 +1,13 @@
-// A stored frame: what the solver and the choice of pose are given.
+// A frame out of the bytes of its record.
 use crate::double::double_at;
+use frames::bearings::Bearings;
+use frames::frame::Frame;
+use frames::world::World;
 use linalg::vector3::Vector3;
 ghost use mathlib.Core.Path.{_≡_};
 ghost use Prim.Native.Nat.{_+_, _*_, _≤_};
 ghost use lib.ListN.{length};
 ghost use Rattle.records.specs.Format.{vectorAt, frameAt};
-
-pub struct Frame {
-    pub world0: Vector3,
-    pub world1: Vector3,
-    pub world2: Vector3,
-    pub bearing0: Vector3,
-    pub bearing1: Vector3,
-    pub bearing2: Vector3,
-    // The checking target and the bearing at which it is seen.
-    pub target: Vector3,
-    pub bearing: Vector3,
-}
 
 // The vector at place `k` of those that begin at `at`.
 fn vector_at(s: &[u8], at: usize, k: usize) -> Vector3
@@ -36,14 +27,20 @@ pub(crate) fn frame_at(s: &[u8], at: usize) -> Frame
     requires { ⌜ at + 192 ≤ length (now s) ⌝ }
     ensures { λ r. ⌜ r ≡ frameAt (now (s .entry)) at ⌝ }
 {
+    let p0 = vector_at(s, at, 0);
+    let p1 = vector_at(s, at, 1);
+    let p2 = vector_at(s, at, 2);
+    let f0 = vector_at(s, at, 3);
+    let f1 = vector_at(s, at, 4);
+    let f2 = vector_at(s, at, 5);
+    let target = vector_at(s, at, 6);
+    let bearing = vector_at(s, at, 7);
+    let world = World { p0, p1, p2 };
+    let bearings = Bearings { f0, f1, f2 };
     Frame {
-        world0: vector_at(s, at, 0),
-        world1: vector_at(s, at, 1),
-        world2: vector_at(s, at, 2),
-        bearing0: vector_at(s, at, 3),
-        bearing1: vector_at(s, at, 4),
-        bearing2: vector_at(s, at, 5),
-        target: vector_at(s, at, 6),
-        bearing: vector_at(s, at, 7),
+        world,
+        bearings,
+        target,
+        bearing,
     }
 }

@@ -1,7 +1,7 @@
 // Reading one record: document 01's questions, in their order.
 use crate::big_endian::number;
-use crate::frame::Frame;
 use crate::frame::frame_at;
+use frames::frame::Frame;
 ghost use mathlib.Core.Path.{_≡_};
 ghost use Rattle.records.specs.Record.{recordAt};
 

@@ -23,8 +23,8 @@ use denote.Struct.Laws as LL
 use denote.Triple.End.{all}
 use denote.Triple.Walked.{Stays, stay-none, AllGo, goes-none}
 use denote.Exit.{yes}
-use Rattle.p3p_common.specs.declared.refine_depths.SquaredEdges.{SquaredEdges}
-use Rattle.p3p_common.specs.declared.refine_depths.Cosines.{Cosines}
+use Rattle.frames.specs.declared.squared_edges.SquaredEdges.{SquaredEdges}
+use Rattle.frames.specs.declared.cosines.Cosines.{Cosines}
 use Rattle.refine_in_place.proofs.Loan.{Row, val, Fit, had}
 use Rattle.refine_in_place.proofs.Structs.{EdgesS, CosinesS}
 

@@ -6,10 +6,10 @@ use denote.Struct.Laws as LL
 use Rattle.p3p_common.specs.declared.refine_depths.Refined.{Refined}
 use Rattle.linalg.proofs.vector3.Vector3 as vector
 use Rattle.linalg.proofs.vector3.Vector3.Laws as vector-laws
-use Rattle.p3p_common.proofs.refine_depths.SquaredEdges as edges
-use Rattle.p3p_common.proofs.refine_depths.SquaredEdges.Laws as edges-laws
-use Rattle.p3p_common.proofs.refine_depths.Cosines as cosines
-use Rattle.p3p_common.proofs.refine_depths.Cosines.Laws as cosines-laws
+use Rattle.frames.proofs.squared_edges.SquaredEdges as edges
+use Rattle.frames.proofs.squared_edges.SquaredEdges.Laws as edges-laws
+use Rattle.frames.proofs.cosines.Cosines as cosines
+use Rattle.frames.proofs.cosines.Cosines.Laws as cosines-laws
 use Rattle.p3p_common.proofs.refine_depths.Refined as refined
 use Rattle.p3p_common.proofs.refine_depths.Refined.Laws as refined-laws
 use Rattle.refine_in_place.proofs.Loan.{PlainStruct, val, Fit}

@@ -4,10 +4,10 @@
 ghost use mathlib.Core.Path.{_≡_};
 ghost use Prim.Native.Nat.{ℕ};
 ghost use Rattle.p3p_common.specs.RefineDepths.{refineDepths};
+use frames::cosines::Cosines;
+use frames::squared_edges::SquaredEdges;
 use linalg::vector3::Vector3;
-use p3p_common::refine_depths::Cosines;
 use p3p_common::refine_depths::Refined;
-use p3p_common::refine_depths::SquaredEdges;
 use p3p_common::refine_depths::refine_depths;
 
 // At exit the triple holds the definition's depths, all three entries, and the answer is the definition's count of updates.

@@ -1,10 +1,10 @@
 // Refines a lent triple in document 01's two cases, squared edges 2, cosines 0 and one update allowed, and writes of each the
 // count of updates and the depths' bit patterns: from (2, 2, 2) one update, to (1.25, 1.25, 1.25), and from (1, 1, 1) none.
+use frames::cosines::Cosines;
+use frames::squared_edges::SquaredEdges;
 use ieee754::bits::to_bits;
 use libc::STDOUT_FILENO;
 use linalg::vector3::Vector3;
-use p3p_common::refine_depths::Cosines;
-use p3p_common::refine_depths::SquaredEdges;
 use refine_in_place::refine_depths_here;
 
 fn print_pattern(x: f64) {

@@ -40,14 +40,13 @@ use Rattle.lambdatwist.specs.Solve.{answered, refused, orNoRoot, orNoSystem, or
 use Rattle.p3p_common.specs.Gate.{ifValid, keepPoint0, projectedGate, gate}
 use Rattle.p3p_common.specs.NearOrthonormal.{hasNearOrthonormalColumns}
 use Rattle.p3p_common.specs.ProjectToRotation.{projectToRotation}
-use Rattle.p3p_common.specs.ProjectedPose.{cameraPoint, observationFits, projectedPoseFitsMinimalSample}
+use Rattle.frames.specs.Poses.{cameraPoint}
+use Rattle.p3p_common.specs.ProjectedPose.{observationFits, projectedPoseFitsMinimalSample}
 use Rattle.p3p_common.specs.PushPose.{pushGated, pushPose}
 use Rattle.p3p_common.specs.RotationFromEdges.{rotationFromEdges}
 use Rattle.ieee754.specs.Traced.{inRange, addRegular, mulRegular, divRegular, fmaRegular, sqrtRegular, cbrtRegular}
 use Rattle.ieee754.specs.Traced.{Traced}
-use Rattle.p3p_common.specs.declared.input.World.{World}
-use Rattle.p3p_common.specs.declared.input.Bearings.{Bearings}
-use Rattle.lambdatwist.specs.declared.solve.Answer.{Answer}
+use Rattle.theorems.specs.Types.{World, Bearings, Answer}
 
 unfoldable pub evaluated : World → Bearings → Traced Answer
 unfolding ifValid keepPoint0 projectedGate gate hasNearOrthonormalColumns projectToRotation cameraPoint observationFits projectedPoseFitsMinimalSample pushGated pushPose rotationFromEdges push allPositive pushDepths poseTurn poseTurns poses ifKept inRange addRegular mulRegular divRegular fmaRegular sqrtRegular cbrtRegular solve solveOrdered orderedOr bestOr solveCubic solveRoot solveCandidates orNoRoot orNoSystem orNoRatio orSingular answered refused bestPermutation bestOf better withCondition candidates signTurn chart firstChart secondChart weightChart firstChartDepths secondChartDepths forRoots noDivisor pushIfPositive noCandidates ratioOf eigWithKnownZero systemOfPair orNotFound orNoPair eigenvectorOf eigenvectorByDivision ifAllFinite denominatorScale eigenDenominator precompute eigenvaluePair pairOfRoots byMagnitude nonzeroPair pairCoefficient zeroVector zeroDirection eigenvectorFromRowCrosses unitVector longer lastGreatest singularMatrix leadingCubicCondition leadingShare foldedScale isUnusable coefficientScale cubicCoefficients bearingFactors squaredSines cosines cosine squaredEdges edgeVectors empty worldBasisInverse isSingular dualBasis rayFits refineDepths refineTurns afterStep depthStep depthUpdate ifFinite depthResidual inputFinite polishedCubicRoot polishedRoot rescaledRoot newtonSteps newtonStep startRoot turningStart leftStart rightStart turningOffset cubicValue normalised cubicVariableScale rootMagnitude tiny large allZero cardanoSingleReal fastCbrt cbrtSteps cbrtStep cbrtStart quadraticRealMonic quadraticRealMonicComputed quadraticPair fromColumns fromRows matVec matMul matNormSquared trace matFinite vecSub vecAdd vecMul vecDiv dot normSquared norm cross absSum allFinite fma sqrt cbrt roundRoot root rootDigits totalOrder totalCmp clamp max copysign abs ofBits toBits size add sub mul div sum round neg lt le eq isNan

@@ -8,16 +8,12 @@ use lib.ListN.{getD}
 use lib.Ieee.{ofBits}
 use Rattle.ieee754.proofs.Order.{lt-or-ge}
 use Rattle.linalg.specs.Vectors.{allFinite}
-use Rattle.linalg.specs.Matrices.{zeroPose}
-use Rattle.linalg.specs.declared.pose.Pose.{Pose}
+use Rattle.frames.specs.Poses.{zeroPose}
 use Rattle.p3p_common.specs.PoseSlots as slots
 use Rattle.p3p_common.proofs.SlotLaws.{none-filled}
-use Rattle.p3p_common.specs.declared.input.World.{World}
-use Rattle.p3p_common.specs.declared.input.Bearings.{Bearings}
-use Rattle.p3p_common.specs.declared.input.P3pInput.{P3pInput}
 use Rattle.lambdatwist.specs.Solve.{solve}
 use Rattle.theorems.specs.OneAnswer.{Refused, OneAnswer, refused-1, refused-2, refused-3, accepted}
-use Rattle.lambdatwist.specs.declared.solve.Answer.{Answer}
+use Rattle.theorems.specs.Types.{Pose, World, Bearings, P3pInput, Answer}
 use Rattle.theorems.proofs.OneAnswer.{one-answer}
 
 abbrev pub FiniteTranslations : List Pose → Type 0

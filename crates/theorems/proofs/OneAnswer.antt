@@ -9,34 +9,14 @@ use lib.Ieee.Fits.{and-i, eq→eqb}
 use Rattle.ieee754.specs.Literal.{sixtyFour, epsilon}
 use Rattle.ieee754.specs.Traced.{Traced, pure}
 use Rattle.ieee754.proofs.Order.{or-left, or-right, neither, not-both-left, not-both-right, either-way}
-use Rattle.linalg.specs.declared.vector3.Vector3.{Vector3}
-use Rattle.linalg.specs.declared.matrix3.Matrix3.{Matrix3}
-use Rattle.polynomial.specs.declared.Roots.{Roots}
 use Rattle.polynomial.specs.declared.Roots.the-variants as roots
-use Rattle.p3p_common.specs.declared.input.World.{World}
-use Rattle.p3p_common.specs.declared.input.Bearings.{Bearings}
-use Rattle.p3p_common.specs.declared.input.P3pInput.{P3pInput}
-use Rattle.p3p_common.specs.declared.refine_depths.SquaredEdges.{SquaredEdges}
-use Rattle.p3p_common.specs.declared.refine_depths.Cosines.{Cosines}
-use Rattle.p3p_common.specs.declared.world_basis_inverse.Basis.{Basis}
-use Rattle.p3p_common.specs.declared.world_basis_inverse.Basis.the-variants.{Inverse, Singular}
-use Rattle.p3p_common.specs.declared.solutions.Solutions.{Solutions}
 use Rattle.p3p_common.specs.Input.{inputFinite}
 use Rattle.p3p_common.specs.Slots.{empty}
 use Rattle.p3p_common.proofs.SlotLaws.{Kept}
-use Rattle.eigen.specs.declared.known_zero.Eigensystem.{Eigensystem}
-use Rattle.eigen.specs.declared.known_zero.Eigensystem.the-variants.{Found, NotFound}
-use Rattle.eigen.specs.declared.ratio.Ratio.{Ratio}
-use Rattle.eigen.specs.declared.ratio.Ratio.the-variants.{Real, NotReal}
 use Rattle.lambdatwist.specs.Permutation.{bestPermutation}
 use Rattle.lambdatwist.specs.Solve.{answered, refused, ifKept, orNoRoot, orNoSystem, orNoRatio, orSingular, solveCandidates, solveRoot, solveCubic, orderedOr, bestOr, solveOrdered, solve}
 use Rattle.theorems.specs.OneAnswer.{Accepted, Refused, orderingUnusable, noOrdering, OneAnswer, refused-1, refused-2, refused-3, accepted}
-use Rattle.depths.specs.declared.edges.EdgeVectors.{EdgeVectors}
-use Rattle.depths.specs.declared.angles.Factors.{Factors}
-use Rattle.depths.specs.declared.cubic.Coefficients.{Coefficients}
-use Rattle.depths.specs.declared.candidates.Candidates.{Candidates}
-use Rattle.lambdatwist.specs.declared.poses.View.{View}
-use Rattle.lambdatwist.specs.declared.solve.Answer.{Answer}
+use Rattle.theorems.specs.Types.{Vector3, Matrix3, Roots, World, Bearings, SquaredEdges, Cosines, P3pInput, Basis, Inverse, Singular, Solutions, Eigensystem, Found, NotFound, Ratio, Real, NotReal, EdgeVectors, Factors, Coefficients, Candidates, View, Answer}
 use Rattle.lambdatwist.proofs.KeptPoses.{poses-kept}
 
 -- ---- the two kinds of answer

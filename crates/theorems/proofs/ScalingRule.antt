@@ -6,17 +6,13 @@ use lib.IntN.{ℤ, pos}
 use lib.Dec.{T}
 use Rattle.linalg.specs.Vectors.{allFinite}
 use Rattle.linalg.specs.Doubles.{Doubles}
-use Rattle.linalg.specs.declared.vector3.Vector3.{Vector3}
-use Rattle.linalg.specs.declared.pose.Pose.{Pose}
 use Rattle.linalg.specs.VectorScaling.{AtVector}
 use Rattle.linalg.proofs.Finite.{entries-finite}
-use Rattle.p3p_common.specs.declared.input.World.{World}
-use Rattle.p3p_common.specs.declared.input.Bearings.{Bearings}
-use Rattle.p3p_common.specs.PoseScaling.{AtWorld, AtPose}
+use Rattle.frames.specs.FrameScaling.{AtWorld, AtPose}
 use Rattle.theorems.specs.ScalingRule as rule
 use Rattle.theorems.specs.ScalingRule.{ScalingRule}
 use Rattle.lambdatwist.specs.Solve.{solve}
-use Rattle.lambdatwist.specs.declared.solve.Answer.{Answer}
+use Rattle.theorems.specs.Types.{Vector3, Pose, World, Bearings, Answer}
 use Rattle.theorems.proofs.TimesPower.{times-at, at-times}
 use Rattle.lambdatwist.proofs.SolveScaling.{AtAnswer, solve-scales}
 use Rattle.theorems.proofs.FiniteTranslation.{FiniteTranslations, solve-finite}

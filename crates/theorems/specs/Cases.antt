@@ -8,11 +8,9 @@ use Rattle.ieee754.specs.Literal.{plusZero, one, two}
 use Rattle.linalg.specs.Vectors.{vector}
 use Rattle.polynomial.specs.Cases.{RootCase, rootCaseHolds, rootCases}
 use Rattle.p3p_common.specs.Cases.{PoseCase, poseCaseHolds, poseCases}
-use Rattle.p3p_common.specs.declared.input.World.{World}
-use Rattle.p3p_common.specs.declared.input.Bearings.{Bearings}
-use Rattle.lambdatwist.specs.Permutation.{points, rays}
+use Rattle.frames.specs.Points.{points, rays}
 use Rattle.lambdatwist.specs.Solve.{solve}
-use Rattle.lambdatwist.specs.declared.solve.Answer.{Answer}
+use Rattle.theorems.specs.Types.{World, Bearings, Answer}
 
 -- a row of the root finders' table or of the refinement's and the rays', or a frame with the number of its refusal
 pub data MarkedCase : Type 0 where

@@ -1,4 +1,5 @@
 -- The theorems' statements, and the frames that they name.
+pub mod Types
 pub mod OneAnswer
 pub mod ScalingRule
 pub mod Plates

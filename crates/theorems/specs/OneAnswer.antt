@@ -7,17 +7,14 @@ use Prim.Native.Nat.{ℕ, _≤_}
 use lib.Dec.{T}
 use lib.Ieee.{binary64, mul, le}
 use Rattle.ieee754.specs.Literal.{sixtyFour, epsilon}
-use Rattle.linalg.specs.Matrices.{zeroPose}
+use Rattle.frames.specs.Poses.{zeroPose}
 use Rattle.p3p_common.specs.Input.{inputFinite}
 use Rattle.p3p_common.specs.PoseSlots.{PoseSlots}
-use Rattle.p3p_common.specs.declared.input.World.{World}
-use Rattle.p3p_common.specs.declared.input.Bearings.{Bearings}
-use Rattle.p3p_common.specs.declared.input.P3pInput.{P3pInput}
 use Rattle.depths.specs.Edges.{edgeVectors, squaredEdges}
 use Rattle.depths.specs.Angles.{cosines, squaredSines}
 use Rattle.depths.specs.Cubic.{cubicCoefficients, isUnusable}
 use Rattle.lambdatwist.specs.Permutation.{bestPermutation}
-use Rattle.lambdatwist.specs.declared.solve.Answer.{Answer}
+use Rattle.theorems.specs.Types.{World, Bearings, P3pInput, Answer}
 
 -- One to four poses and no refusal. `PoseSlots` says that there are at most four, that their twelve numbers are finite, that each took at most five updates, and that the slots beyond the count hold
 -- plus zeros and 0.

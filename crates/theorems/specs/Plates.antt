@@ -2,9 +2,8 @@
 -- units are the mission's.
 use Rattle.ieee754.specs.Literal.{double}
 use Rattle.linalg.specs.Vectors.{vector}
-use Rattle.p3p_common.specs.declared.input.World.{World}
-use Rattle.p3p_common.specs.declared.input.Bearings.{Bearings}
-use Rattle.lambdatwist.specs.Permutation.{points, rays}
+use Rattle.theorems.specs.Types.{World, Bearings}
+use Rattle.frames.specs.Points.{points, rays}
 
 unfoldable pub plateInMetres : World
 plateInMetres =

@@ -6,12 +6,8 @@ use lib.IntN.{ℤ}
 use lib.Dec.{T}
 use lib.Ieee.{Float, nan, inf, fin, up, down}
 use Rattle.linalg.specs.Doubles.{Doubles}
-use Rattle.linalg.specs.declared.vector3.Vector3.{Vector3}
-use Rattle.linalg.specs.declared.pose.Pose.{Pose}
-use Rattle.p3p_common.specs.declared.input.World.{World}
-use Rattle.p3p_common.specs.declared.input.Bearings.{Bearings}
 use Rattle.lambdatwist.specs.Solve.{solve}
-use Rattle.lambdatwist.specs.declared.solve.Answer.{Answer}
+use Rattle.theorems.specs.Types.{Vector3, Pose, World, Bearings, Answer}
 
 -- x and x' are finite, and x' is exactly 2 ^ k times x, a zero keeping its sign. `fin s m e` is ±m * 2 ^ e, and 2 ^ e is the fraction up e / down e of whole numbers, also for a negative e.
 abbrev pub Times : ℤ → Float → Float → Type 0

@@ -1,8 +1,7 @@
 -- `records::record::read` meets its contract: at each `return` the tests that led there answer the questions of `recordAt`. Assumes nothing.
 use Prim.Native.Nat.{_+_}
 use mathlib.Core.Path.{_≡_, sym, ap, _∙_}
-use Rattle.records.specs.declared.frame.Frame.{Frame}
-use Rattle.records.specs.declared.record.Record.the-variants.{Accepted}
+use Rattle.records.specs.Types.{Frame, Accepted}
 use denote.Ref.{now}
 use Rattle.records.specs.Format.{part, bigEndian}
 use Rattle.records.proofs.Answers.{ended, lone-byte, wrong-length, truncated, wrong-version, accepted}

@@ -1,7 +1,0 @@
-// The functions of this repository for C and Rust to link (`rt staticlib exports`), each under a plain name with the prefix p3p_.
-// include/p3p.h declares them.
-pub mod choose;
-pub mod roots;
-pub mod single;
-pub mod solve;
-mod vectors;

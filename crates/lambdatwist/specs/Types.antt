@@ -1,0 +1,26 @@
+-- The structs and enums that definitions and laws of this crate name: those of its src/, and those of the crates below.
+pub use Rattle.linalg.specs.declared.matrix3.Matrix3.{Matrix3}
+pub use Rattle.linalg.specs.declared.vector3.Vector3.{Vector3}
+pub use Rattle.frames.specs.declared.bearings.Bearings.{Bearings}
+pub use Rattle.frames.specs.declared.cosines.Cosines.{Cosines}
+pub use Rattle.frames.specs.declared.squared_edges.SquaredEdges.{SquaredEdges}
+pub use Rattle.frames.specs.declared.world.World.{World}
+pub use Rattle.polynomial.specs.declared.Roots.{Roots}
+pub use Rattle.polynomial.specs.declared.Roots.the-variants.{Two, One, Refused}
+pub use Rattle.p3p_common.specs.declared.input.P3pInput.{P3pInput}
+pub use Rattle.p3p_common.specs.declared.refine_depths.Refined.{Refined}
+pub use Rattle.p3p_common.specs.declared.solutions.Solutions.{Solutions}
+pub use Rattle.p3p_common.specs.declared.world_basis_inverse.Basis.{Basis}
+pub use Rattle.p3p_common.specs.declared.world_basis_inverse.Basis.the-variants.{Inverse, Singular}
+pub use Rattle.eigen.specs.declared.known_zero.Eigensystem.{Eigensystem}
+pub use Rattle.eigen.specs.declared.known_zero.Eigensystem.the-variants.{Found, NotFound}
+pub use Rattle.eigen.specs.declared.ratio.Ratio.{Ratio}
+pub use Rattle.eigen.specs.declared.ratio.Ratio.the-variants.{Real, NotReal}
+pub use Rattle.depths.specs.declared.angles.SquaredSines.{SquaredSines}
+pub use Rattle.depths.specs.declared.angles.Factors.{Factors}
+pub use Rattle.depths.specs.declared.candidates.Candidates.{Candidates}
+pub use Rattle.depths.specs.declared.cubic.Coefficients.{Coefficients}
+pub use Rattle.depths.specs.declared.edges.EdgeVectors.{EdgeVectors}
+pub use Rattle.lambdatwist.specs.declared.permutation.Conditioned.{Conditioned}
+pub use Rattle.lambdatwist.specs.declared.poses.View.{View}
+pub use Rattle.lambdatwist.specs.declared.solve.Answer.{Answer}

@@ -1,0 +1,29 @@
+-- The lines of a frame: its solve, the choice by the checking target, and the poses. From document 01, "Frame records and their listing".
+use Prim.Native.Nat.{ℕ, zero, suc, min}
+use mathlib.Core.List.{List, [], _++_}
+use lib.Dec.{eqb}
+use lib.ListN.{getD}
+use Rattle.ieee754.specs.Traced.{if_then_else_}
+use Rattle.frames.specs.Poses.{zeroPose}
+use Rattle.lambdatwist.specs.Solve.{solve}
+use Rattle.listing_program.specs.Types.{Vector3, Pose, Frame, Answer}
+use Rattle.choice.specs.Answer.{place}
+use Rattle.choice.specs.Choose.{choose}
+use Rattle.listing.specs.Lines.{refusedLine, acceptedLine, poseLine}
+
+-- the lines of the first k poses, in order
+unfoldable pub poseLines : ℕ → List Pose → List ℕ → ℕ → List ℕ
+poseLines n poses updates zero = []
+poseLines n poses updates (suc k) = poseLines n poses updates k ++ poseLine n (suc k) (getD updates k 0) (getD poses k zeroPose)
+
+-- the lines of an answer of the solver, which has at most four poses
+unfoldable pub answerLines : ℕ → Answer → Vector3 → Vector3 → List ℕ
+answerLines n answer target bearing =
+    if eqb (answer .refusal) 0 then
+    acceptedLine n (answer .count) (place (choose (answer .poses) (answer .count) target bearing .value))
+    ++ poseLines n (answer .poses) (answer .updates) (min (answer .count) 4)
+    else refusedLine n (answer .refusal)
+
+-- the lines of a frame
+unfoldable pub frameLines : ℕ → Frame → List ℕ
+frameLines n frame = answerLines n (solve (frame .world) (frame .bearings) .value) (frame .target) (frame .bearing)

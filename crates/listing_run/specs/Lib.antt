@@ -1,4 +1,0 @@
--- The definitions that the contracts of this crate cite, in reading order.
-pub mod FrameLines
-pub mod RecordLines
-pub mod Goes

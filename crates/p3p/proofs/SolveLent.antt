@@ -1,0 +1,37 @@
+-- The solve over lent arrays: its answer, what is held where it refuses and where it does not, and the four slots one after another. Assumes nothing.
+use Prim.Native.Nat.{ℕ}
+use mathlib.Core.Path.{_≡_, refl, sym, ap, _∙_}
+use mathlib.Core.Bool.{Bool}
+use mathlib.Core.List.{List, [], _∷_, _++_}
+use native.Mathlib.Omega.{arith}
+use borrow.Author.Tests.{eq-eqb, ne-eqb}
+use lib.Dec.{eqb}
+use lib.Ieee.{Float}
+use lib.ListN.{length, getD}
+use Rattle.ieee754.specs.Traced.{if_then_else_}
+use Rattle.frames.specs.Lent.{worldAt, bearingsAt}
+use Rattle.lambdatwist.specs.Solve.{solve}
+use Rattle.p3p.specs.Types.{Pose, World, Bearings, Answer}
+use Rattle.p3p.specs.SolveLent.{solved, entries, allEntries}
+
+pub as-solved : (input : List Float) {w : World} {b : Bearings} {a : Answer} → w ≡ worldAt input 0 → b ≡ bearingsAt input 9 → a ≡ solve w b .value → a ≡ solved input
+unfolding solved
+as-solved input {w} {b} p q r = r ∙ ap (λ (v : World). solve v b .value) p ∙ ap (λ (v : Bearings). solve (worldAt input 0) v .value) q
+
+-- ---- by the refusal number
+module _ {A : Type 0} {n : ℕ} (new held : A) where
+  pub when-answered : n ≡ 0 → new ≡ (if eqb n 0 then new else held)
+  when-answered h = sym (ap (λ (b : Bool). if b then new else held) (eq-eqb n 0 h))
+
+  pub when-refused : (n ≡ 0 → ⊥) → held ≡ (if eqb n 0 then new else held)
+  when-refused h = sym (ap (λ (b : Bool). if b then new else held) (ne-eqb n 0 h))
+
+-- ---- the four slots one after another
+pub four-entries : (ps : List Pose) (d : Pose) → length ps ≡ 4 → entries (getD ps 0 d) ++ entries (getD ps 1 d) ++ entries (getD ps 2 d) ++ entries (getD ps 3 d) ≡ allEntries ps
+unfolding entries allEntries
+four-entries [] d h = absurd (omega arith)
+four-entries (p ∷ []) d h = absurd (omega arith)
+four-entries (p ∷ q ∷ []) d h = absurd (omega arith)
+four-entries (p ∷ q ∷ r ∷ []) d h = absurd (omega arith)
+four-entries (p ∷ q ∷ r ∷ s ∷ []) d h = refl
+four-entries (p ∷ q ∷ r ∷ s ∷ t ∷ ps) d h = absurd (omega arith)

@@ -1,0 +1,21 @@
+-- The choice over lent arrays: the poses that are read, and what is returned and held after it. A refused choice leaves the best as it was: document 01, "Questions, in order".
+use Prim.Native.Nat.{ℕ, _+_}
+use mathlib.Core.List.{List, [], _∷_}
+use lib.Ieee.{Float}
+use Rattle.linalg.specs.Matrices.{fromColumns}
+use Rattle.choice.specs.Choose.{choose}
+use Rattle.p3p.specs.Types.{Pose, Choice}
+use Rattle.choice.specs.declared.choose.Choice.the-variants.{Best, Refused}
+use Rattle.frames.specs.Lent.{vectorAt}
+
+-- the slot that begins at a place: the rotation by columns, and the translation
+unfoldable pub poseAt : List Float → ℕ → Pose
+poseAt xs at = record { rotation = fromColumns (vectorAt xs at) (vectorAt xs (at + 3)) (vectorAt xs (at + 6)); translation = vectorAt xs (at + 9) }
+
+unfoldable pub chosen : List Float → ℕ → List Float → List Float → Choice
+chosen poses count target bearing =
+    choose (poseAt poses 0 ∷ poseAt poses 12 ∷ poseAt poses 24 ∷ poseAt poses 36 ∷ []) count (vectorAt target 0) (vectorAt bearing 0) .value
+
+abbrev pub bestAfter : Choice → ℕ → ℕ
+bestAfter (Best place value) held = place
+bestAfter (Refused number) held = held

@@ -1,0 +1,6 @@
+-- The definitions that the contracts of this crate cite, beside those of the crates below.
+pub mod Types
+pub mod Answer
+pub mod RootsLent
+pub mod SolveLent
+pub mod ChooseLent

@@ -1,0 +1,53 @@
+// The choice of a pose by a fourth target, over lent arrays.
+ghost use mathlib.Core.Path.{_≡_};
+ghost use Prim.Native.Nat.{_+_, _≤_};
+ghost use Rattle.p3p.specs.ChooseLent.{poseAt, chosen, bestAfter};
+ghost use Rattle.choice.specs.Answer.{number};
+use choice::choose::Choice;
+use frames::lent::vector_at;
+use frames::pose::Pose;
+use linalg::matrix3::Matrix3;
+
+// The slot that begins at `at`.
+fn pose_at(poses: &[f64; 48], at: usize) -> Pose
+    requires { ⌜ at + 12 ≤ 48 ⌝ }
+    ensures { λ r. ⌜ r ≡ poseAt (now (poses .entry)) at ⌝ }
+{
+    let column0 = vector_at(poses, at);
+    let column1 = vector_at(poses, at + 3);
+    let column2 = vector_at(poses, at + 6);
+    let translation = vector_at(poses, at + 9);
+    let rotation = Matrix3::from_columns(column0, column1, column2);
+    Pose {
+        rotation,
+        translation,
+    }
+}
+
+// The number from 1 of the pose under which the target lies nearest to its bearing. Returns 0, or the refusal number with nothing written.
+#[no_mangle]
+pub extern "C" fn p3p_choose(
+    poses: &[f64; 48],
+    count: u32,
+    target: &[f64; 3],
+    bearing: &[f64; 3],
+    best: &mut u32,
+) -> u32
+    ensures { λ r. ⌜ r ≡ number (chosen (now (poses .entry)) count (now (target .entry)) (now (bearing .entry))) ⌝ }
+    ensures { λ _. ⌜ now (best .exit) ≡ bestAfter (chosen (now (poses .entry)) count (now (target .entry)) (now (bearing .entry))) (now (best .entry)) ⌝ }
+{
+    let p0 = pose_at(poses, 0);
+    let p1 = pose_at(poses, 12);
+    let p2 = pose_at(poses, 24);
+    let p3 = pose_at(poses, 36);
+    let seen = vector_at(target, 0);
+    let ray = vector_at(bearing, 0);
+    let choice = choice::choose::choose([p0, p1, p2, p3], count, seen, ray);
+    match choice {
+        Choice::Best(place, _) => {
+            *best = place;
+            0
+        }
+        Choice::Refused(refusal) => refusal,
+    }
+}

@@ -1,0 +1,58 @@
+// The root finders. Each returns 0, or the refusal number of document 01 with nothing written.
+ghost use mathlib.Core.Path.{_≡_};
+ghost use Rattle.polynomial.specs.Answer.{number};
+ghost use Rattle.polynomial.specs.FastCbrt.{fastCbrt};
+ghost use Rattle.polynomial.specs.PolishedRoot.{polishedCubicRoot};
+ghost use Rattle.polynomial.specs.Quadratic.{quadraticRealMonic};
+ghost use Rattle.p3p.specs.RootsLent.{firstAfter, secondAfter};
+use polynomial::Roots;
+
+// The two roots of x^2 + b*x + c, not sorted.
+#[no_mangle]
+pub extern "C" fn p3p_quadratic(b: f64, c: f64, first: &mut f64, second: &mut f64) -> u32
+    ensures { λ r. ⌜ r ≡ number (quadraticRealMonic b c .value) ⌝ }
+    ensures { λ _. ⌜ now (first .exit) ≡ firstAfter (quadraticRealMonic b c .value) (now (first .entry)) ⌝ }
+    ensures { λ _. ⌜ now (second .exit) ≡ secondAfter (quadraticRealMonic b c .value) (now (second .entry)) ⌝ }
+{
+    let roots = polynomial::quadratic::quadratic_real_monic(b, c);
+    match roots {
+        Roots::Two(x, y) => {
+            *first = x;
+            *second = y;
+            0
+        }
+        Roots::One(x) => {
+            *first = x;
+            0
+        }
+        Roots::Refused(refusal) => refusal,
+    }
+}
+
+// One real root of x^3 + b*x^2 + c*x + d.
+#[no_mangle]
+pub extern "C" fn p3p_cubic(b: f64, c: f64, d: f64, root: &mut f64) -> u32
+    ensures { λ r. ⌜ r ≡ number (polishedCubicRoot b c d .value) ⌝ }
+    ensures { λ _. ⌜ now (root .exit) ≡ firstAfter (polishedCubicRoot b c d .value) (now (root .entry)) ⌝ }
+{
+    let roots = polynomial::cubic::polished_cubic_root(b, c, d);
+    match roots {
+        Roots::Two(x, _) => {
+            *root = x;
+            0
+        }
+        Roots::One(x) => {
+            *root = x;
+            0
+        }
+        Roots::Refused(number) => number,
+    }
+}
+
+// The cube root of Cardano's formula.
+#[no_mangle]
+pub extern "C" fn p3p_fast_cbrt(x: f64) -> f64
+    ensures { λ r. ⌜ r ≡ fastCbrt x .value ⌝ }
+{
+    polynomial::fast_cbrt::fast_cbrt(x)
+}

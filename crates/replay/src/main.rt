@@ -1,0 +1,128 @@
+// Runs the functions on the vectors in data/ and says of each file how many answers differ from the stored bits: data/exact has
+// the answers of exact arithmetic to the single operations (tests/ieee754), data/rust the Rust's (reference/). A file holds
+// records of words: the arguments, then the answer.
+mod chosen;
+mod operations;
+mod pieces;
+mod push;
+mod record;
+mod roots;
+mod stages;
+
+ghost use Prim.Native.Nat.{_≤_};
+use operations::Operation;
+use pieces::Piece;
+use roots::Finder;
+use stages::Stage;
+
+pub enum Subject {
+    Single(Operation),
+    Root(Finder),
+    Shared(Piece),
+    Whole(Stage),
+    Chosen,
+}
+
+// What a step through a file found: a record that agrees, one that differs or is cut short, or none.
+pub enum Found {
+    Same,
+    Different,
+    End,
+}
+
+// The bytes of a record.
+fn length(subject: Subject) -> usize
+    ensures { λ r. ⌜ r ≤ 632 ⌝ }
+{
+    match subject {
+        Subject::Single(operation) => operations::length(operation),
+        Subject::Root(finder) => roots::length(finder),
+        Subject::Shared(piece) => pieces::length(piece),
+        Subject::Whole(stage) => stages::length(stage),
+        Subject::Chosen => 464,
+    }
+}
+
+// Whether the function gives the record's answer.
+fn holds(subject: Subject, s: &[u8; 632]) -> bool {
+    match subject {
+        Subject::Single(operation) => operations::holds(operation, s),
+        Subject::Root(finder) => roots::holds(finder, s),
+        Subject::Shared(piece) => pieces::holds(piece, s),
+        Subject::Whole(stage) => stages::holds(stage, s),
+        Subject::Chosen => chosen::holds(s),
+    }
+}
+
+// Reads the next record and tries it.
+fn step(fd: i32, subject: Subject) -> Found {
+    let mut record = [0u8; 632];
+    let n = length(subject);
+    let got = io::read_full(fd, &mut record[..n]);
+    if got == 0 {
+        return Found::End;
+    }
+    if got != n {
+        return Found::Different;
+    }
+    if holds(subject, &record) {
+        Found::Same
+    } else {
+        Found::Different
+    }
+}
+
+// Steps through a file. A proved loop has to end, and nothing says that a file does, so the count of records bounds it.
+fn compare(subject: Subject, path: &[u8]) {
+    let fd = os::open_read(path);
+    if fd < 0 {
+        os::fail(path);
+        return;
+    }
+    let mut compared: u64 = 0;
+    let mut differ: u64 = 0;
+    while compared < u64::MAX {
+        let found = step(fd, subject);
+        match found {
+            Found::Same => {}
+            Found::Different => {
+                differ += 1;
+            }
+            Found::End => break,
+        }
+        compared += 1;
+    }
+    libc::close(fd);
+    replay_words::report::report(path, compared, differ);
+}
+
+fn main() {
+    compare(Subject::Single(Operation::Abs), b"exact/abs.bin");
+    compare(Subject::Single(Operation::Copysign), b"exact/copysign.bin");
+    compare(Subject::Single(Operation::Max), b"exact/max.bin");
+    compare(Subject::Single(Operation::Clamp), b"exact/clamp.bin");
+    compare(Subject::Single(Operation::IsFinite), b"exact/is_finite.bin");
+    compare(
+        Subject::Single(Operation::TotalOrder),
+        b"exact/total_order.bin",
+    );
+    compare(Subject::Single(Operation::TotalCmp), b"exact/total_cmp.bin");
+    compare(Subject::Single(Operation::Sqrt), b"exact/sqrt.bin");
+    compare(Subject::Single(Operation::Cbrt), b"exact/cbrt.bin");
+    compare(Subject::Single(Operation::Fma), b"exact/fma.bin");
+    compare(Subject::Root(Finder::Quadratic), b"rust/quadratic.bin");
+    compare(Subject::Root(Finder::Cubic), b"rust/cubic.bin");
+    compare(Subject::Root(Finder::FastCbrt), b"rust/fast_cbrt.bin");
+    compare(Subject::Shared(Piece::Refine), b"rust/refine.bin");
+    compare(Subject::Shared(Piece::Ray), b"rust/ray_fits.bin");
+    compare(Subject::Shared(Piece::Near), b"rust/near.bin");
+    compare(Subject::Shared(Piece::Project), b"rust/project.bin");
+    compare(Subject::Shared(Piece::Basis), b"rust/basis.bin");
+    compare(Subject::Shared(Piece::Edges), b"rust/edges.bin");
+    compare(Subject::Shared(Piece::Push), b"rust/push.bin");
+    compare(Subject::Whole(Stage::Eig), b"rust/eig.bin");
+    compare(Subject::Whole(Stage::RowCrosses), b"rust/row_crosses.bin");
+    compare(Subject::Whole(Stage::Condition), b"rust/condition.bin");
+    compare(Subject::Whole(Stage::Frame), b"rust/frame.bin");
+    compare(Subject::Chosen, b"rust/choice.bin");
+}
