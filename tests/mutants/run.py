@@ -6,7 +6,7 @@ sees the prover refuse each change. Contracts, specs/ and proofs/ stay as they a
                                     the same files is gone on with, and one of other files is begun anew
   .. --rounds=N                     stop after N checks of each crate
   tests/mutants/run.py --table      write RESULT.md from the results that are there
-  tests/mutants/run.py --witness CRATE  look again for inputs at which the mutants of its result differ (witness.py)
+  tests/mutants/run.py --witness CRATE  look again for inputs at which the mutants of its result differ (interpret/witness.py)
   tests/mutants/run.py --list CRATE print the mutants and try none
 
 Run it at the repository's root, after `rt check`. `RT` in the environment is the command for rt.
@@ -24,22 +24,22 @@ three: what a public one returns rests on its contract too.
 
 Programs and test programs (poses, poses_runs, words, vectors, *_test) have no contracts that say what they write, and are left out.
 reasons.txt says why a survivor is equivalent."""
-# The other files, in the data's way. What the crates declare: crates, tokens, kinds, grammar, items, world. What can be changed in a body, and by what:
-# changes, places, expressions, bodies; in what order: mutants. The checks: bench, verdicts, rounds. Inputs at which a mutant differs: trees,
-# values, operations, evaluate, machine, inputs, witness. What is written: results, table.
+# The other files are in folders, each of which uses those before it: syntax, change, interpret, check. The __init__.py of a folder
+# says what it holds.
 import os
 import sys
 
-from crates import CRATES
-from mutants import mutants_of
-from results import add_witness
-from rounds import try_crate
-from table import write_table
-from world import World
+from change.bodies import functions_of
+from change.mutants import mutants_of
+from check.crates import CRATES
+from check.results import add_witness
+from check.rounds import try_crate
+from check.table import write_table
+from syntax.world import World
 
 
 def print_mutants(world, crate):
-    for f in world.functions_of(crate):
+    for f in functions_of(world, crate):
         for m in mutants_of(f):
             print(f"{f.path}: {m.place.kind}{' (late)' if m.place.late else ''}: {m.old_line}  =>  {m.new_line}")
 

@@ -4,8 +4,8 @@ The functions that a mutant calls are the unchanged ones, as in its proof."""
 import copy
 import time
 
-from inputs import Inputs
-from values import Outside, Trap, plain
+from interpret.inputs import Inputs
+from interpret.values import Outside, Trap, plain
 
 INPUTS, SECONDS = 1500, 6
 

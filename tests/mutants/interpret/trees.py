@@ -1,6 +1,6 @@
 """The body of a function as nested tuples, for the interpreter: the first entry says what it is, and the rest are its parts."""
-from grammar import Grammar
-from tokens import ASSIGNMENTS, LEVELS, number_parts, tokens
+from syntax.grammar import Grammar
+from syntax.tokens import ASSIGNMENTS, LEVELS, number_parts, tokens
 
 
 class Parser(Grammar):

@@ -1,6 +1,6 @@
 """The value of an expression of trees.py. `on_X` is for the tuples that begin with X; env has the values of the locals."""
-from operations import built_in, cast, operate, root
-from values import Cell, Outside, Struct, Trap, Variant, held, taken
+from interpret.operations import built_in, cast, operate, root
+from interpret.values import Cell, Outside, Struct, Trap, Variant, held, taken
 
 
 def fits(pattern, value):

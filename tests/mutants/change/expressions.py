@@ -1,8 +1,8 @@
 """The expressions of a body: their types, and the places in them."""
-from changes import changed_bytes, near_floats, near_numbers
-from kinds import Number, bare, join
-from places import Marks, signature
-from tokens import LEVELS, number_parts
+from change.changes import changed_bytes, near_floats, near_numbers
+from change.places import Marks, signature
+from syntax.tokens import LEVELS, number_parts
+from syntax.types import Number, bare, join
 
 KNOWN = {"f64::from_bits": (["u64"], "f64"), "f64::to_bits": (["f64"], "u64"), "u64::leading_zeros": (["u64"], "u32"),
          "u64::trailing_zeros": (["u64"], "u32"), "u64::count_ones": (["u64"], "u32")}

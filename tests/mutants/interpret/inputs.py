@@ -3,8 +3,8 @@ import math
 import random
 import re
 
-from kinds import settled
-from values import Cell, Struct, Variant
+from interpret.values import Cell, Struct, Variant
+from syntax.types import settled
 
 SPECIAL = [0.0, -0.0, 1.0, -1.0, 2.0, 0.5, 3.0, 1e-14, 1e-10, 1e150, 1e-150, 1e308, 5e-324, 2.2250738585072014e-308, math.inf, -math.inf, math.nan]
 MODES = ["special", "special", "zeros", "round", "normal", "normal", "frame", "frame", "frame"]

@@ -1,8 +1,8 @@
 """The interpreter of the part of Rattle that the library crates use: calls and statements. `do_X` is for the statements that begin with X."""
-from evaluate import Evaluate, fits
-from operations import operate
-from trees import Parser
-from values import Break, Return, Trap, held, taken
+from interpret.evaluate import Evaluate, fits
+from interpret.operations import operate
+from interpret.trees import Parser
+from interpret.values import Break, Return, Trap, held, taken
 
 STEPS = 20000
 

@@ -1,10 +1,11 @@
 """The rounds of a crate: one check tries a mutant in every function that wants another, and those of which it does not tell are tried again."""
-from bench import Bench
-from crates import CRATES, own_file
-from mutants import mutants_of
-from results import add_witness, earlier, write_results
-from verdicts import front_errors, read
-from world import World
+from change.bodies import functions_of
+from change.mutants import mutants_of
+from check.bench import Bench
+from check.crates import CRATES, own_file
+from check.results import add_witness, earlier, write_results
+from check.verdicts import front_errors, read
+from syntax.world import World
 
 # The mutants that a function is given: refused for a fact or proved, and at most tried.
 WANTED = {"public": 10, "private": 3}
@@ -38,7 +39,7 @@ class Queues:
     """The mutants of a crate's functions, by the functions' paths: those that were tried and those that wait."""
 
     def __init__(self, root, crate, world):
-        self.root, self.crate, self.functions = root, crate, world.functions_of(crate)
+        self.root, self.crate, self.functions = root, crate, functions_of(world, crate)
         for f in self.functions:
             f.proof = own_file(root, f)
         self.waiting = {f.path: mutants_of(f) for f in self.functions}

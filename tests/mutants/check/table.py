@@ -1,8 +1,8 @@
 """RESULT.md, written from the results of all crates and the reasons of reasons.txt."""
 import os
 
-from crates import CRATES, source_sum
-from results import HERE, lines_of, path_of
+from check.crates import CRATES, source_sum
+from check.results import HERE, lines_of, path_of
 
 VERDICTS = ("fact", "shape", "survived", "no verdict")
 FOUND = ("differs", "no input found", "not tried")

@@ -1,9 +1,9 @@
 """The places of a body that a mutant changes, and what may stand there instead. An operand is replaced only by another of its type."""
 import re
 
-from changes import OPERATORS, near_floats, near_numbers
-from grammar import Grammar
-from kinds import INTEGERS, bare, settled
+from change.changes import OPERATORS, near_floats, near_numbers
+from syntax.grammar import Grammar
+from syntax.types import INTEGERS, bare, settled
 
 
 class Place:

@@ -1,7 +1,17 @@
 """The body of a function: its blocks, statements and patterns, with the locals that they bind."""
-from expressions import Expressions
-from kinds import join
-from tokens import ASSIGNMENTS
+from change.expressions import Expressions
+from syntax.tokens import ASSIGNMENTS
+from syntax.types import join
+
+
+def functions_of(world, crate):
+    """The functions of a crate, each with its places in the order of the text."""
+    out = []
+    for file in world.files:
+        for f, body, owner in file.bodies if file.crate == crate else []:
+            f.places = sorted(Body(file, f, body, owner).places(), key=lambda p: (p.start, p.end))
+            out.append(f)
+    return out
 
 
 class Body(Expressions):

@@ -2,9 +2,8 @@
 import os
 import re
 
-from bodies import Body
-from items import Items
-from tokens import tokens
+from syntax.items import Items
+from syntax.tokens import tokens
 
 
 class World:
@@ -24,10 +23,6 @@ class World:
             Items(file).declare()
         for file in self.files:
             file.resolve()
-
-    def functions_of(self, crate):
-        """The functions of a crate, with their places."""
-        return [f for file in self.files if file.crate == crate for f in file.find()]
 
 
 class File:
@@ -55,10 +50,3 @@ class File:
             return (self.crate, "::".join(path[:-1]), path[-1])
         crate = self.crate if path[0] == "crate" else path[0]
         return (crate, "::".join(path[1:-1]), path[-1])
-
-    def find(self):
-        """The file's functions, each with its places in the order of the text."""
-        for f, body, owner in self.bodies:
-            f.places += Body(self, f, body, owner).places()
-            f.places.sort(key=lambda p: (p.start, p.end))
-        return [f for f, _, _ in self.bodies]

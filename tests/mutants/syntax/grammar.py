@@ -1,6 +1,6 @@
-"""How an expression begins, the same for both readings of a body: that which marks what can be changed (expressions.py) and that which makes a tree
-to be run (trees.py)."""
-from kinds import Types
+"""How an expression begins, the same for both readings of a body: that which marks what can be changed (change/expressions.py) and that which makes a tree
+to be run (interpret/trees.py)."""
+from syntax.types import Types
 
 
 class Grammar(Types):

@@ -2,7 +2,7 @@
 import math
 import struct
 
-from values import Trap
+from interpret.values import Trap
 
 NAN = float("nan")
 
