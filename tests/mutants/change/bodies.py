@@ -15,7 +15,8 @@ def functions_of(world, crate):
 
 
 class Body(Expressions):
-    """Each function that reads a block or a statement gives its type; "!" is that of one that does not go on."""
+    """Each function that reads a block or a statement gives its type; "!" is that of one that does
+    not go on."""
 
     def places(self):
         self.block()
@@ -63,7 +64,8 @@ class Body(Expressions):
         self.fail(f"a statement goes on with {word}")
 
     def assignment(self, kind):
-        """The rest of an assignment. The places of its target are kept: an index or a field there is an operand too."""
+        """The rest of an assignment. The places of its target are kept: an index or a field there
+        is an operand too."""
         self.next()
         join(kind, self.expression())
         self.expect(";")

@@ -1,4 +1,5 @@
-"""The results of a crate, results/CRATE.tsv: written, read to go on with, and completed with whether an input was found."""
+"""The results of a crate, results/CRATE.tsv: written, read to go on with, and completed with
+whether an input was found."""
 import os
 import subprocess
 
@@ -54,7 +55,8 @@ def earlier(root, crate):
 
 
 def add_witness(crate, world):
-    """To each mutant of a crate's results, whether an input was found at which it answers otherwise."""
+    """To each mutant of a crate's results, whether an input was found at which it answers
+    otherwise."""
     lines, machine, known, out = lines_of(crate), Machine(world), {}, []
     for g in functions_of(world, crate):
         for m in mutants_of(g):

@@ -1,4 +1,5 @@
-"""The operations of the interpreter: binary operators, casts, and the functions that are built in."""
+"""The operations of the interpreter: binary operators, casts, and the functions that are built
+in."""
 import math
 import struct
 

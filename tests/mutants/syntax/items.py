@@ -1,5 +1,5 @@
-"""The items of a file: what it imports and declares. Types are read when every file has been declared, since a name may be of a later one.
-Ghost text (contracts, `ghost use`) is passed over."""
+"""The items of a file: what it imports and declares. Types are read when every file has been
+declared, since a name may be of a later one. Ghost text (contracts, `ghost use`) is passed over."""
 from syntax.types import Types
 
 

@@ -41,7 +41,8 @@ class File:
             action()
 
     def named(self, path, owner=None):
-        """What a path names in this file: a crate, a module and a name, or a built-in type; owner is the name that `Self` stands for."""
+        """What a path names in this file: a crate, a module and a name, or a built-in type; owner
+        is the name that `Self` stands for."""
         if path == ["Self"]:
             return self.key(owner)
         if len(path) == 1:
