@@ -1,7 +1,7 @@
-/* The functions of libexports.a (`rt staticlib exports`), for C and C++ on x86-64 Linux.
+/* The functions of libp3p.a (`rt staticlib p3p`), for C and C++ on x86-64 Linux.
  *
  * Each function's result, and what it leaves in the memory that is lent to it, is proved equal to a definition for every input, infinities and
- * NaNs too (crates/exports). None allocates, keeps state, or reads the floating-point environment's flags: each may be called from several threads
+ * NaNs too (crates/p3p). None allocates, keeps state, or reads the floating-point environment's flags: each may be called from several threads
  * at once. The rounding mode must be to nearest, as C starts a program.
  *
  * A pointer is to as many elements as its declaration says. Those that a function writes through must not overlap each other or what it reads.

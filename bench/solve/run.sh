@@ -5,9 +5,9 @@
 set -eu
 cd "$(dirname "$0")/../.."
 : "${1:?usage: run.sh SOURCES}"
-rt staticlib exports | tail -1
-library=target/staticlib/libexports.a
-frames=crates/vectors/data/rust/frame.bin
+rt staticlib p3p | tail -1
+library=target/staticlib/libp3p.a
+frames=crates/replay/data/rust/frame.bin
 out=target/bench/solve
 mkdir -p "$out"
 for program in stack repeat; do

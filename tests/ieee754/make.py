@@ -1,5 +1,5 @@
 #!/usr/bin/env python3
-"""Writes the test vectors of the single operations: crates/vectors/data/exact, a file for each operation.
+"""Writes the test vectors of the single operations: crates/replay/data/exact, a file for each operation.
 
     python3 tests/ieee754/make.py           write the files
     python3 tests/ieee754/make.py --check   say whether the files are those that this script makes
@@ -19,7 +19,7 @@ from fused import fma_arguments
 from roots import cbrt_arguments, sqrt_arguments
 from values import GRID, GRID_OF_THREE, SEED, Random
 
-DATA = os.path.join(os.path.dirname(os.path.abspath(__file__)), "..", "..", "crates", "vectors", "data", "exact")
+DATA = os.path.join(os.path.dirname(os.path.abspath(__file__)), "..", "..", "crates", "replay", "data", "exact")
 
 
 def on_grid(count, grid):

@@ -5,7 +5,7 @@
     python3 tests/poses/make.py --check         say whether the files are those that this script makes
     python3 tests/poses/make.py --all PROGRAM   have a program list every stored frame, and compare
 
-The frames and their answers are the Rust's, of crates/vectors/data/rust/frame.bin (reference/README.md has its layout), and the
+The frames and their answers are the Rust's, of crates/replay/data/rust/frame.bin (reference/README.md has its layout), and the
 listing is put together from these as document 01 says, "Frame records and their listing". PROGRAM is target/bin/poses. With --all it is
 given the frames by a file, and then by pipes that hand it a few bytes at a time."""
 
@@ -16,7 +16,7 @@ import tempfile
 from typing import NamedTuple
 
 ROOT = os.path.join(os.path.dirname(os.path.abspath(__file__)), "..", "..")
-FRAMES = os.path.join(ROOT, "crates", "vectors", "data", "rust", "frame.bin")
+FRAMES = os.path.join(ROOT, "crates", "replay", "data", "rust", "frame.bin")
 RUNS = os.path.join(ROOT, "crates", "poses_runs")
 LENGTH, VERSION, SIZE = 193, 1, 195
 # the bytes of a stored frame with its answer
