@@ -4,10 +4,10 @@
     docs/lines.py            rewrite the numbers in the table of definitions, and their sum
     docs/lines.py --check    say whether the numbers are up to date; exit status 1 if not
 
-The list is that of GUIDE.md itself: a row of its table has a crate, the files of its specs/ that are
-counted, with a note in brackets behind some, their lines, and the files that are not needed. Where a
-file is listed and not there, or there and not listed, the script says so with exit status 1, and
-writes nothing. Lib.antt, which only names the others, is not counted."""
+The list is that of GUIDE.md itself: a row of its table has a crate, the files of its specs/ that
+are counted, with a note in brackets behind some, their lines, and the files that are not needed.
+Where a file is listed and not there, or there and not listed, the script says so with exit status
+1, and writes nothing. Lib.antt, which only names the others, is not counted."""
 import os
 import re
 import sys

@@ -1,5 +1,6 @@
 #!/usr/bin/env bash
-# Compares the single operations with the C library's and with exact arithmetic, then times them. Needs gcc.
+# Compares the single operations with the C library's and with exact arithmetic, then times them.
+# Needs gcc.
 #   bench/ieee754/run.sh          10^6 arguments of sqrt and fma, 10^4 of the others
 #   bench/ieee754/run.sh long     10^7 and 10^5
 set -eu

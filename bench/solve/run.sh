@@ -1,6 +1,6 @@
 #!/usr/bin/env bash
-# How deep the stack of a solve gets, how long a solve takes beside the Rust's, and, where perf is installed, what the time goes into.
-# Needs gcc and what reference/README.md names.
+# How deep the stack of a solve gets, how long a solve takes beside the Rust's, and, where perf is
+# installed, what the time goes into. Needs gcc and what reference/README.md names.
 #   bench/solve/run.sh SOURCES     SOURCES: the Rust's original sources (reference/README.md)
 set -eu
 cd "$(dirname "$0")/../.."

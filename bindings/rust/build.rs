@@ -1,4 +1,5 @@
-//! Links the static library that `rt staticlib p3p` writes: the file that P3P_LIBRARY names, or the repository's own.
+//! Links the static library that `rt staticlib p3p` writes: the file that P3P_LIBRARY names, or the
+//! repository's own.
 
 use std::env;
 use std::path::PathBuf;
