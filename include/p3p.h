@@ -1,11 +1,13 @@
-/* The functions of libexports.a (`rt staticlib exports`), for C and C++ on x86-64 Linux.
+/* The functions of libp3p.a (`rt staticlib p3p`), for C and C++ on x86-64 Linux.
  *
- * Each function's result, and what it leaves in the memory that is lent to it, is proved equal to a definition for every input, infinities and
- * NaNs too (crates/exports). None allocates, keeps state, or reads the floating-point environment's flags: each may be called from several threads
- * at once. The rounding mode must be to nearest, as C starts a program.
+ * Each function's result, and what it leaves in the memory that is lent to it, is proved equal to a
+ * definition for every input, infinities and NaNs too (crates/p3p). None allocates, keeps state, or
+ * reads the floating-point environment's flags: each may be called from several threads at once.
+ * The rounding mode must be to nearest, as C starts a program.
  *
- * A pointer is to as many elements as its declaration says. Those that a function writes through must not overlap each other or what it reads.
- * Where a number is returned, 0 means that there is an answer; any other is one of enum p3p_refusal, and nothing has been written.
+ * A pointer is to as many elements as its declaration says. Those that a function writes through
+ * must not overlap each other or what it reads. Where a number is returned, 0 means that there is
+ * an answer; any other is one of enum p3p_refusal, and nothing has been written.
  */
 #ifndef P3P_H
 #define P3P_H
@@ -18,45 +20,57 @@ extern "C" {
 
 /* Why there is no answer. */
 enum p3p_refusal {
-    P3P_INPUT_NOT_FINITE = 1,       /* solve: one of the eighteen doubles is an infinity or a NaN */
-    P3P_NO_USABLE_ORDERING = 2,     /* solve: no ordering of the points is usable */
-    P3P_NO_POSE = 3,                /* solve: no pose was kept */
-    P3P_COEFFICIENT_NOT_FINITE = 4, /* quadratic, cubic: a coefficient is an infinity or a NaN */
-    P3P_NO_REAL_ROOTS = 5,          /* quadratic: the discriminant is below minus the band, or not finite */
-    P3P_NO_ROOT = 6,                /* cubic: no root was found */
-    P3P_NO_FINITE_SCORE = 10        /* choose: no pose has a finite score */
+    /* solve: one of the eighteen doubles is an infinity or a NaN */
+    P3P_INPUT_NOT_FINITE = 1,
+    /* solve: no ordering of the points is usable */
+    P3P_NO_USABLE_ORDERING = 2,
+    /* solve: no pose was kept */
+    P3P_NO_POSE = 3,
+    /* quadratic, cubic: a coefficient is an infinity or a NaN */
+    P3P_COEFFICIENT_NOT_FINITE = 4,
+    /* quadratic: the discriminant is below minus the band, or not finite */
+    P3P_NO_REAL_ROOTS = 5,
+    /* cubic: no root was found */
+    P3P_NO_ROOT = 6,
+    /* choose: no pose has a finite score */
+    P3P_NO_FINITE_SCORE = 10
 };
 
 /* ---- the three-point pose solver */
 
 /* The poses from which three world points are seen at three bearings.
  *
- * input    three world points and then the three bearings to them, each x, y, z. The bearings are to be unit vectors: those of other
- *          lengths are usually refused, and an answer to them is seldom of use.
- * poses    four slots of twelve: the rotation by columns (m00 m10 m20 m01 m11 m21 m02 m12 m22) and the translation x, y, z, from world to
- *          camera. Slots from *count on hold plus zeros.
+ * input    three world points and then the three bearings to them, each x, y, z. The bearings are
+ *          to be unit vectors: those of other lengths are usually refused, and an answer to them is
+ *          seldom of use.
+ * poses    four slots of twelve: the rotation by columns (m00 m10 m20 m01 m11 m21 m02 m12 m22) and
+ *          the translation x, y, z, from world to camera. Slots from *count on hold plus zeros.
  * updates  of each slot, how many times its depths were refined: 0 to 5.
  * count    how many slots hold a pose: 1 to 4.
  * Returns 0, or 1, 2 or 3. */
 uint32_t p3p_solve(const double input[18], double poses[48], uint32_t updates[4], uint32_t *count);
 
-/* The pose under which a fourth target lies nearest to its bearing: the lowest finite |camera x bearing|^2 / (camera . bearing)^2, of equal ones the earliest.
+/* The pose under which a fourth target lies nearest to its bearing: the lowest finite
+ * |camera x bearing|^2 / (camera . bearing)^2, of equal ones the earliest.
  *
  * poses    slots as p3p_solve writes them.
  * count    how many of them hold a pose; above 4 it is read as 4.
  * best     the number of the slot, from 1.
  * Returns 0, or 10. */
-uint32_t p3p_choose(const double poses[48], uint32_t count, const double target[3], const double bearing[3], uint32_t *best);
+uint32_t p3p_choose(const double poses[48], uint32_t count, const double target[3],
+                    const double bearing[3], uint32_t *best);
 
 /* ---- root finders */
 
-/* The two real roots of x^2 + b*x + c, not sorted; where the discriminant is zero, or below it by no more than rounding, -b/2 twice. Returns 0, or 4 or 5. */
+/* The two real roots of x^2 + b*x + c, not sorted; where the discriminant is zero, or below it by
+ * no more than rounding, -b/2 twice. Returns 0, or 4 or 5. */
 uint32_t p3p_quadratic(double b, double c, double *first, double *second);
 
 /* One real root of x^3 + b*x^2 + c*x + d, polished by Newton's method. Returns 0, or 4 or 6. */
 uint32_t p3p_cubic(double b, double c, double d, double *root);
 
-/* The approximate cube root from which the cubic starts: two steps of Halley's method, or the cube root where these would leave the normal range. */
+/* The approximate cube root from which the cubic starts: two steps of Halley's method, or the cube
+ * root where these would leave the normal range. */
 double p3p_fast_cbrt(double x);
 
 /* ---- single operations. A NaN that comes out has no promised sign or payload. */
@@ -73,10 +87,12 @@ double p3p_fma(double x, double y, double z);
 /* The magnitude of x with the sign of y, plus where y is a NaN. */
 double p3p_copysign(double x, double y);
 
-/* The greater of two numbers; a NaN beside a number is skipped, and plus zero is above minus zero. */
+/* The greater of two numbers; a NaN beside a number is skipped, and plus zero is above minus
+ * zero. */
 double p3p_max(double x, double y);
 
-/* -1, 0 or 1 where x is below y, equal to it or above it, by IEEE 754 totalOrder on numbers. NaN is above every number and equal to NaN. */
+/* -1, 0 or 1 where x is below y, equal to it or above it, by IEEE 754 totalOrder on numbers. NaN is
+ * above every number and equal to NaN. */
 int32_t p3p_total_cmp(double x, double y);
 
 #ifdef __cplusplus

@@ -4,9 +4,10 @@
   record.py            24 numbers a frame as text on standard input, records on standard output
   record.py --text     records on standard input, 24 numbers a line on standard output
 
-A frame is three world points, three bearings, the checking target and the checking bearing, each x, y, z. Numbers are
-parted by blanks or line ends; '#' starts a comment. Python's float() reads them, so `inf`, `nan` and `0x1.8p-3` written as
-`hex:0x1.8p-3` are numbers too. With --text each double is written in the shortest form that reads back to it."""
+A frame is three world points, three bearings, the checking target and the checking bearing, each x,
+y, z. Numbers are parted by blanks or line ends; '#' starts a comment. Python's float() reads them,
+so `inf`, `nan` and `0x1.8p-3` written as `hex:0x1.8p-3` are numbers too. With --text each double is
+written in the shortest form that reads back to it."""
 import struct
 import sys
 

@@ -26,7 +26,8 @@ static inline uint64_t leading(void) { return LEADING | next() >> 12; }
 // A field of an exponent, held inside the range of the finite doubles.
 static inline uint64_t field(int64_t e) { return (uint64_t)(e < 0 ? 0 : e > 2046 ? 2046 : e) << 52; }
 
-// 52 digits below the leading one: random, or a row of ones or zeros at the end, or one digit, or nearly the next binade.
+// 52 digits below the leading one: random, or a row of ones or zeros at the end, or one digit, or
+// nearly the next binade.
 static inline uint64_t fraction(void) {
     uint64_t f = next() >> 12;
     switch (below(6)) {
@@ -52,15 +53,16 @@ static inline uint64_t moved(uint64_t b, int step) {
     return (e + step + below(2040 / step - 1) * step) << 52 | (b & (LEADING - 1));
 }
 
-// A root of c modulo 2^54, for a c that is 1 modulo 8: Newton's method for 1 / sqrt(c), each turn of which doubles the right digits.
+// A root of c modulo 2^54, for a c that is 1 modulo 8: Newton's method for 1 / sqrt(c), each turn
+// of which doubles the right digits.
 static inline uint64_t root_modulo(uint64_t c) {
     uint64_t y = 1;
     for (int i = 0; i < 6; i++) y = y * ((3 - c * y * y) >> 1);
     return c * y & ((1ull << 54) - 1);
 }
 
-// An argument whose square root is as near to the middle of two doubles as any: the root of n * 2^52 has the middle z / 2 beside it,
-// where z * z - n * 2^54 = c is small.
+// An argument whose square root is as near to the middle of two doubles as any: the root of n *
+// 2^52 has the middle z / 2 beside it, where z * z - n * 2^54 = c is small.
 static inline uint64_t hard_square(void) {
     for (;;) {
         int64_t c = 1 + 8 * ((int64_t)below(4096) - 2048);
@@ -88,7 +90,8 @@ static inline double sqrt_argument(void) {
     }
 }
 
-// One of the two doubles beside the cube of the middle z / 2 of two doubles. z^3 has 160 to 162 digits.
+// One of the two doubles beside the cube of the middle z / 2 of two doubles. z^3 has 160 to 162
+// digits.
 static inline uint64_t middle_cube(void) {
     uint64_t z = leading() * 2 + 1;
     unsigned __int128 square = (unsigned __int128)z * z;
@@ -122,32 +125,32 @@ static inline void fma_arguments(double *x, double *y, double *z) {
     uint64_t a = sign(), b = sign(), c = sign(), s;
     switch (below(12)) {
     case 0: a = next(); b = next(); c = next(); break;
-    case 1: case 2:                                                   // every exponent, the addend near the product
+    case 1: case 2: // every exponent, the addend near the product
         d = below(2047); e = below(2047);
         a |= field(d) | fraction(); b |= field(e) | fraction(); c |= field(d + e - 1023 + (int64_t)below(260) - 130) | fraction();
         break;
-    case 3: case 4:                                                   // minus the rounded product, or a neighbour
+    case 3: case 4: // minus the rounded product, or a neighbour
         a |= field(400 + below(1200)) | fraction(); b |= field(400 + below(1200)) | fraction();
         c = bits(-(of(a) * of(b)));
         if ((c & ~SIGN) < INFINITE - 4 && (c & ~SIGN) > 4) c += below(9) - 4;
         break;
-    case 5:                                                           // subnormal results
+    case 5:         // subnormal results
         d = below(1100);
         a |= field(d) | fraction(); b |= field(1023 - d - (int64_t)below(140) + 20) | fraction(); c |= field(below(60)) | fraction();
         break;
-    case 6:                                                           // the overflow edge
+    case 6:         // the overflow edge
         d = 1023 + below(1024);
         a |= field(d) | fraction(); b |= field(3069 - d + (int64_t)below(8) - 4) | fraction(); c |= field(2046 - (int64_t)below(60)) | fraction();
         break;
     case 7: a = special(); b = special(); c = special(); break;
     case 8: a = special(); b = below(2) ? special() : next(); c = next(); break;
-    case 9:                                                           // a product one last digit from the middle of two doubles
+    case 9:         // a product one last digit from the middle of two doubles
         s = leading() | 1;
         a |= field(700 + below(400)) | (s & (LEADING - 1));
         b |= field(700 + below(400)) | (((LEADING >> 1) + below(3) - 1) * inverse(s) & (LEADING - 1));
         c = below(2) ? c : c | next() >> 12;
         break;
-    case 10:                                                          // an odd product of 54 digits is a middle; a far addend settles it
+    case 10:        // an odd product of 54 digits is a middle; a far addend settles it
         a |= bits((double)((next() >> 37) | 1 | 1 << 26)); b |= bits((double)((next() >> 37) | 1 | 1 << 26));
         c = below(2) ? c : c | field(below(1000)) | fraction();
         break;

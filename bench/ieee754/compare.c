@@ -1,5 +1,6 @@
-// The proved single operations beside others, bit for bit, every NaN as one value: the square root and the fused multiply-add beside
-// the C library's, the cube root by whole numbers, and copied sign, maximum and total order by the order of bit patterns.
+// The proved single operations beside others, bit for bit, every NaN as one value: the square root
+// and the fused multiply-add beside the C library's, the cube root by whole numbers, and copied
+// sign, maximum and total order by the order of bit patterns.
 //   compare [COUNT [SEED]]     COUNT arguments of sqrt and fma, a hundredth of that of the others
 #include <inttypes.h>
 #include <stdio.h>
@@ -42,9 +43,9 @@ static uint64_t parts(double x, int *e) {
     return m;
 }
 
-// Whether r is the double nearest to the cube root of x. For r = q * 2^k the root is to lie between the middles of r and its
-// neighbours, q - 1/2 (or q - 1/4 at the start of a binade) and q + 1/2, times 2^k. It never is one of them: the cube of a middle
-// has more digits than a double.
+// Whether r is the double nearest to the cube root of x. For r = q * 2^k the root is to lie between
+// the middles of r and its neighbours, q - 1/2 (or q - 1/4 at the start of a binade) and q + 1/2,
+// times 2^k. It never is one of them: the cube of a middle has more digits than a double.
 static int is_root(double x, double r) {
     if (isnan(x)) return isnan(r);
     if (x == 0 || isinf(x)) return bits(r) == bits(x);
@@ -53,7 +54,7 @@ static int is_root(double x, double r) {
     uint64_t m = parts(fabs(x), &e), q = parts(fabs(r), &k);
     int s = e + 6 - 3 * k;
     if (s < 0 || s > 138) return 0;
-    struct wide power = shifted(m, s);                                // 4^3 times the cube, in cubes of 2^k
+    struct wide power = shifted(m, s); // 4^3 times the cube, in cubes of 2^k
     return order(cube(4 * q - (q == LEADING ? 1 : 2)), power) < 0 && order(power, cube(4 * q + 2)) < 0;
 }
 
@@ -102,7 +103,8 @@ static long compare_cbrt(long count) {
     return report("cbrt", count, differ, results);
 }
 
-// The place of a double among the others: minus zero is below plus zero, and NaN above every number.
+// The place of a double among the others: minus zero is below plus zero, and NaN above every
+// number.
 static int64_t place(double x) {
     if (isnan(x)) return INT64_MAX;
     return signbit(x) ? -(int64_t)(bits(x) & ~SIGN) - 1 : (int64_t)bits(x);

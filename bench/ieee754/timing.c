@@ -1,6 +1,7 @@
-// Nanoseconds a call of the single operations beside the hardware's and the C library's. Each is called through a pointer, the
-// hardware's instruction too, so a call is in every figure; the rows `a call alone` have its cost.
-// In throughput the calls are independent; in latency each waits for the last.
+// Nanoseconds a call of the single operations beside the hardware's and the C library's. Each is
+// called through a pointer, the hardware's instruction too, so a call is in every figure; the rows
+// `a call alone` have its cost. In throughput the calls are independent; in latency each waits for
+// the last.
 #include <stdio.h>
 #include <time.h>
 #include "arguments.h"
@@ -15,7 +16,8 @@ static double __attribute__((noinline)) alone_three(double x, double y, double z
 static double __attribute__((noinline)) hardware_sqrt(double x) { return __builtin_sqrt(x); }
 static double __attribute__((noinline, target("fma"))) hardware_fma(double x, double y, double z) { return __builtin_fma(x, y, z); }
 
-// Arguments: of the roots, all exponents; of fma, exponents from 2^-10 to 2^9, and in the last set the addend is minus the product.
+// Arguments: of the roots, all exponents; of fma, exponents from 2^-10 to 2^9, and in the last set
+// the addend is minus the product.
 enum { ROOTS, SUMS, CANCELLING, SETS };
 static double arguments[SETS][3][N];
 
@@ -29,7 +31,8 @@ static void fill(void) {
     }
 }
 
-// A row has a function of one argument or of three; its ratio is to the row that follows it as far as `to` says.
+// A row has a function of one argument or of three; its ratio is to the row that follows it as far
+// as `to` says.
 struct row {
     const char *operation, *whose;
     double (*one)(double);

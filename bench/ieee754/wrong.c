@@ -1,4 +1,5 @@
-// Functions in the place of the exported ones, each plausible and wrong somewhere: the comparison has to find fault with every one.
+// Functions in the place of the exported ones, each plausible and wrong somewhere: the comparison
+// has to find fault with every one.
 #include <math.h>
 #include "../../include/p3p.h"
 

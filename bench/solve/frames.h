@@ -1,4 +1,5 @@
-// The inputs of stored frames: a file of records of 79 big-endian words, of which the first 18 are what a solve takes (reference/README.md, frame).
+// The inputs of stored frames: a file of records of 79 big-endian words, of which the first 18 are
+// what a solve takes (reference/README.md, frame).
 #include <stdint.h>
 #include <stdio.h>
 #include <string.h>

@@ -1,4 +1,5 @@
-// Solves the first thousand stored frames, which are realistic plates, over and over: for a profiler.
+// Solves the first thousand stored frames, which are realistic plates, over and over: for a
+// profiler.
 //   repeat FRAMES TIMES
 #include "../../include/p3p.h"
 #include "frames.h"

@@ -1,13 +1,13 @@
 #!/usr/bin/env bash
-# How deep the stack of a solve gets, how long a solve takes beside the Rust's, and, where perf is installed, what the time goes into.
-# Needs gcc and what reference/README.md names.
+# How deep the stack of a solve gets, how long a solve takes beside the Rust's, and, where perf is
+# installed, what the time goes into. Needs gcc and what reference/README.md names.
 #   bench/solve/run.sh SOURCES     SOURCES: the Rust's original sources (reference/README.md)
 set -eu
 cd "$(dirname "$0")/../.."
 : "${1:?usage: run.sh SOURCES}"
-rt staticlib exports | tail -1
-library=target/staticlib/libexports.a
-frames=crates/vectors/data/rust/frame.bin
+rt staticlib p3p | tail -1
+library=target/staticlib/libp3p.a
+frames=crates/replay/data/rust/frame.bin
 out=target/bench/solve
 mkdir -p "$out"
 for program in stack repeat; do

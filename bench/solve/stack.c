@@ -1,5 +1,6 @@
-// The deepest stack of one solve: each stored frame is solved on a thread whose stack was filled with a known byte, and the lowest byte that
-// changed is found. Prints the deepest of all frames, in bytes below the frame of the function that calls p3p_solve.
+// The deepest stack of one solve: each stored frame is solved on a thread whose stack was filled
+// with a known byte, and the lowest byte that changed is found. Prints the deepest of all frames,
+// in bytes below the frame of the function that calls p3p_solve.
 //   stack FRAMES
 #include "../../include/p3p.h"
 #include "frames.h"

@@ -158,8 +158,8 @@ pub fn edges(first: &[f64; 3], second: &[f64; 3], inverse: &[f64; 9]) -> [f64; 9
     words(&common::rotation_from_edges(vector(first), vector(second), &matrix(inverse)))
 }
 
-/// One push onto a list that holds `count` poses: the count then, and where it grew, the updates and the
-/// twelve words of the pose pushed.
+/// One push onto a list that holds `count` poses: the count then, and where it grew, the updates
+/// and the twelve words of the pose pushed.
 pub fn push(
     input: &[f64; 18],
     rotation: &[f64; 9],

@@ -1,10 +1,12 @@
 """The single operations of IEEE 754 binary64 on bit patterns, by exact whole numbers.
 
-No floating-point operation takes part. A finite double is a whole multiple of 2^-1074, and the middle of two neighbours is one of
-2^-1075, so every nonnegative value and every middle is a whole number of units of 2^-1075. The patterns of the nonnegative doubles,
-read as numbers, are in the order of their values. So the result of an operation is found among all 2^63 patterns by halving: the last
-pattern whose value is not above the exact result, and then that one or its successor by which side of their middle the exact result
-lies on, the even pattern at a tie. A root is never computed: v is at most the p-th root of a where v^p is at most a."""
+No floating-point operation takes part. A finite double is a whole multiple of 2^-1074, and the
+middle of two neighbours is one of 2^-1075, so every nonnegative value and every middle is a whole
+number of units of 2^-1075. The patterns of the nonnegative doubles, read as numbers, are in the
+order of their values. So the result of an operation is found among all 2^63 patterns by halving:
+the last pattern whose value is not above the exact result, and then that one or its successor by
+which side of their middle the exact result lies on, the even pattern at a tie. A root is never
+computed: v is at most the p-th root of a where v^p is at most a."""
 
 SIGN = 1 << 63
 INFINITY = 0x7ff0000000000000
@@ -31,7 +33,8 @@ def negative(bits):
 
 
 def units(bits):
-    """The magnitude of a finite double in units of 2^-1075; of the infinity, 2^1024, where the next binade would start."""
+    """The magnitude of a finite double in units of 2^-1075; of the infinity, 2^1024, where the next
+    binade would start."""
     field, digits = divmod(bits % SIGN, 1 << 52)
     return 2 * digits if field == 0 else (2 ** 52 + digits) << field
 
@@ -41,7 +44,8 @@ def signed_units(bits):
 
 
 def nearest(compare):
-    """The pattern of the double nearest to a positive number x, where compare(n) is the sign of n * 2^-1075 - x."""
+    """The pattern of the double nearest to a positive number x, where compare(n) is the sign of n *
+    2^-1075 - x."""
     low, high = 0, INFINITY
     while high - low > 1:
         middle = (low + high) // 2
@@ -132,7 +136,8 @@ def maximum(x, y):
 
 
 def clamp(x, low, high):
-    """Two comparisons, as in Rust: a NaN and the sign of a zero are kept, and an end that is a NaN bounds nothing."""
+    """Two comparisons, as in Rust: a NaN and the sign of a zero are kept, and an end that is a NaN
+    bounds nothing."""
     raised = low if less(x, low) else x
     return high if less(high, raised) else raised
 
@@ -152,35 +157,52 @@ def total_cmp(x, y):
 
 
 def check():
-    """Values worked by hand: each line says why."""
+    """Values worked by hand, with the reason above each."""
     two_to = lambda e: (e + 1023) << 52
     tenth_200 = of_ratio(1, 10 ** 200)
     cases = [
-        (of_ratio(3, 2), 0x3ff8000000000000),                       # 1.1 in binary
-        (of_ratio(1, 2 ** 1075), 0),                                # half of the smallest double: a tie, to zero
-        (of_ratio(3, 2 ** 1075), 2),                                # one and a half of it: a tie, to the even 2
-        (of_ratio(2 ** 1024 - 2 ** 970, 1), INFINITY),              # half-way from the largest double to 2^1024
+        # 1.1 in binary
+        (of_ratio(3, 2), 0x3ff8000000000000),
+        # half of the smallest double: a tie, to zero
+        (of_ratio(1, 2 ** 1075), 0),
+        # one and a half of it: a tie, to the even 2
+        (of_ratio(3, 2 ** 1075), 2),
+        # half-way from the largest double to 2^1024
+        (of_ratio(2 ** 1024 - 2 ** 970, 1), INFINITY),
         (of_ratio(2 ** 1024 - 2 ** 970 - 1, 1), LARGEST),
         (sqrt(two_to(2)), two_to(1)),
-        (sqrt(two_to(1)), 0x3ff6a09e667f3bcd),                      # 1.6a09e667f3bcc9.. in hexadecimal
-        (sqrt(ONE + 1), ONE),                                       # 1 + 2^-53 - 2^-107 .. lies below the middle 1 + 2^-53
-        (sqrt(ONE + 3), ONE + 1),                                   # 1 + 3/2 ulp less a little: below the middle again
+        # 1.6a09e667f3bcc9.. in hexadecimal
+        (sqrt(two_to(1)), 0x3ff6a09e667f3bcd),
+        # 1 + 2^-53 - 2^-107 .. lies below the middle 1 + 2^-53
+        (sqrt(ONE + 1), ONE),
+        # 1 + 3/2 ulp less a little: below the middle again
+        (sqrt(ONE + 3), ONE + 1),
         (sqrt(1), two_to(-537)),
         (sqrt(SIGN), SIGN),
         (sqrt(SIGN | 1), NAN),
-        (cbrt(0x403b000000000000), 0x4008000000000000),             # 27 and 3
+        # 27 and 3
+        (cbrt(0x403b000000000000), 0x4008000000000000),
         (cbrt(SIGN | two_to(3)), SIGN | two_to(1)),
-        (cbrt(two_to(1)), 0x3ff428a2f98d728b),                      # 1.428a2f98d728ae.. in hexadecimal
-        (cbrt(1), two_to(-358)),                                    # 1074 is 3 * 358
-        (fma(ONE + 1, ONE + 1, SIGN | ONE), two_to(-51)),           # 2^-51 + 2^-104: a tie, to the even one
-        (fma(ONE + 1, ONE - 2, SIGN | ONE), SIGN | two_to(-104)),   # (1 + u)(1 - u) - 1 = -u^2 for u = 2^-52
-        (fma(SIGN | tenth_200, tenth_200, 0), SIGN),                # -10^-400 is not zero, and rounds to minus zero
+        # 1.428a2f98d728ae.. in hexadecimal
+        (cbrt(two_to(1)), 0x3ff428a2f98d728b),
+        # 1074 is 3 * 358
+        (cbrt(1), two_to(-358)),
+        # 2^-51 + 2^-104: a tie, to the even one
+        (fma(ONE + 1, ONE + 1, SIGN | ONE), two_to(-51)),
+        # (1 + u)(1 - u) - 1 = -u^2 for u = 2^-52
+        (fma(ONE + 1, ONE - 2, SIGN | ONE), SIGN | two_to(-104)),
+        # -10^-400 is not zero, and rounds to minus zero
+        (fma(SIGN | tenth_200, tenth_200, 0), SIGN),
         (fma(LARGEST, ONE, two_to(970)), INFINITY),
         (fma(LARGEST, ONE, two_to(970) - 1), LARGEST),
-        (fma(LARGEST, two_to(1), SIGN | LARGEST), LARGEST),         # 2 max - max, though 2 max overflows
-        (fma(0, SIGN | ONE, 0), 0),                                 # -0 + 0
-        (fma(0, SIGN | ONE, SIGN), SIGN),                           # -0 + -0
-        (fma(ONE, ONE, SIGN | ONE), 0),                             # 1 - 1
+        # 2 max - max, though 2 max overflows
+        (fma(LARGEST, two_to(1), SIGN | LARGEST), LARGEST),
+        # -0 + 0
+        (fma(0, SIGN | ONE, 0), 0),
+        # -0 + -0
+        (fma(0, SIGN | ONE, SIGN), SIGN),
+        # 1 - 1
+        (fma(ONE, ONE, SIGN | ONE), 0),
         (maximum(SIGN, 0), 0), (maximum(NAN, SIGN), SIGN), (maximum(NAN, NAN), NAN),
         (clamp(NAN, 0, ONE), NAN), (clamp(SIGN, 0, ONE), SIGN), (clamp(two_to(1), 0, ONE), ONE),
         (total_cmp(SIGN, 0), 0), (total_cmp(NAN, INFINITY), 2), (total_cmp(NAN, NAN), 1), (total_cmp(SIGN | ONE, ONE), 0),

@@ -10,7 +10,8 @@ def inverse(x, digits):
 
 
 def with_last_digits(r, rest, dropped):
-    """Two significands whose product of 53 + dropped digits ends in the digits `rest`, which is odd."""
+    """Two significands whose product of 53 + dropped digits ends in the digits `rest`, which is
+    odd."""
     while True:
         x = r.odd(53)
         y = rest * inverse(x, dropped) % (1 << dropped) | (LEADING if dropped == 52 else 0)
@@ -25,7 +26,8 @@ def products(r):
 
 
 def ties(r, count):
-    """A product of 54 digits that is odd is the middle of two doubles; a far addend of either sign settles it."""
+    """A product of 54 digits that is odd is the middle of two doubles; a far addend of either sign
+    settles it."""
     found = []
     while len(found) < count:
         x, y = r.odd(27), r.odd(27)
@@ -39,7 +41,8 @@ def ties(r, count):
 
 
 def near_ties(r, count):
-    """Products whose dropped digits are one more or one less than a half, by the last digit of the product alone."""
+    """Products whose dropped digits are one more or one less than a half, by the last digit of the
+    product alone."""
     found = []
     for i in range(count):
         dropped = 52 + i % 2
@@ -50,7 +53,8 @@ def near_ties(r, count):
 
 
 def addend_ties(r, count):
-    """A product that is half of the addend's last place, or beside that by the product's own last place."""
+    """A product that is half of the addend's last place, or beside that by the product's own last
+    place."""
     found = []
     for _ in range(count):
         d, e, f = products(r)
@@ -62,8 +66,8 @@ def addend_ties(r, count):
 
 
 def cancellations(r, count):
-    """An addend that is minus the product: the whole of a short one, and the rounded product of a long one or its neighbour, which
-    leaves only the product's low digits."""
+    """An addend that is minus the product: the whole of a short one, and the rounded product of a
+    long one or its neighbour, which leaves only the product's low digits."""
     found = []
     for _ in range(count):
         d, e, f = products(r)
@@ -77,7 +81,8 @@ def cancellations(r, count):
 
 
 def far_apart(r, count):
-    """Product and addend that do not overlap, and powers of two from which something small is taken off."""
+    """Product and addend that do not overlap, and powers of two from which something small is taken
+    off."""
     found = []
     for i in range(count):
         d, e, f = products(r)
@@ -89,26 +94,29 @@ def far_apart(r, count):
 
 
 def tiny(r, count):
-    """Results below and around the smallest normal double, with addends that are zero, subnormal or normal."""
+    """Results below and around the smallest normal double, with addends that are zero, subnormal or
+    normal."""
     found = []
     for _ in range(count):
         d = r.below(700) - 950
-        e = -1127 - d + r.below(60) - 56                     # the product is from about 2^-1078 to 2^-1018
+        e = -1127 - d + r.below(60) - 56  # the product is from about 2^-1078 to 2^-1018
         a, b = normal(r.significand(), d) | r.sign(), normal(r.significand(), e) | r.sign()
         found += [(a, b, r.sign()), (a, b, r.bits(1 + r.below(52)) | r.sign()), (a, b, SMALLEST_NORMAL - 2 + r.below(4) | r.sign())]
     half, one = normal(LEADING, -53), ONE
     for s in (0, SIGN):
         for m in (1, 2, 3, 5, SMALLEST_NORMAL - 1, SMALLEST_NORMAL, SMALLEST_NORMAL + 1):
-            found += [(m | s, half, z) for z in (0, 1, SIGN | 1)]                           # ties at the smallest double
-            found += [(m | s, one - 1, z) for z in (0, 1, SIGN | 1)]                        # just below a double
-        # 2^-1022 less a half, a quarter of the smallest double, and less: to the smallest normal double or not
+            found += [(m | s, half, z) for z in (0, 1, SIGN | 1)]    # ties at the smallest double
+            found += [(m | s, one - 1, z) for z in (0, 1, SIGN | 1)] # just below a double
+        # 2^-1022 less a half, a quarter of the smallest double, and less: to the smallest normal
+        # double or not
         found += [(SMALLEST_NORMAL | s, one - k, z | s) for k in range(1, 5) for z in (0, 1)]
         found += [(SMALLEST_NORMAL + k | s, half, SMALLEST_NORMAL // 2 + j | s) for k in range(4) for j in range(-1, 1)]
     return found
 
 
 def subnormal_factors(r, count):
-    """A subnormal number times a normal one, with an addend that is zero or of the size of the product."""
+    """A subnormal number times a normal one, with an addend that is zero or of the size of the
+    product."""
     found = []
     for _ in range(count):
         n = r.bits(1 + r.below(52)) | 1
@@ -120,7 +128,8 @@ def subnormal_factors(r, count):
 
 
 def huge(r, count):
-    """Both sides of the largest double and of 2^1024 - 2^970, also where the product alone overflows."""
+    """Both sides of the largest double and of 2^1024 - 2^970, also where the product alone
+    overflows."""
     found = []
     for _ in range(count):
         d = r.below(900) + 19

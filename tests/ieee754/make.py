@@ -1,13 +1,15 @@
 #!/usr/bin/env python3
-"""Writes the test vectors of the single operations: crates/vectors/data/exact, a file for each operation.
+"""Writes the test vectors of the single operations: crates/replay/data/exact, a file for each
+operation.
 
     python3 tests/ieee754/make.py           write the files
     python3 tests/ieee754/make.py --check   say whether the files are those that this script makes
 
-A file is a row of records of 64-bit words, most significant byte first: the arguments as bit patterns, then the result. A NaN result is
-7ff8000000000000; is_finite and total_order answer 1 or 0, total_cmp 0, 1 or 2 for below, equal and above. The arguments come from
-values.py, roots.py and fused.py, by kinds that are hard for one way to compute or another, and the results from exact.py, by whole
-numbers alone."""
+A file is a row of records of 64-bit words, most significant byte first: the arguments as bit
+patterns, then the result. A NaN result is 7ff8000000000000; is_finite and total_order answer 1 or
+0, total_cmp 0, 1 or 2 for below, equal and above. The arguments come from values.py, roots.py and
+fused.py, by kinds that are hard for one way to compute or another, and the results from exact.py,
+by whole numbers alone."""
 
 import os
 import sys
@@ -19,7 +21,7 @@ from fused import fma_arguments
 from roots import cbrt_arguments, sqrt_arguments
 from values import GRID, GRID_OF_THREE, SEED, Random
 
-DATA = os.path.join(os.path.dirname(os.path.abspath(__file__)), "..", "..", "crates", "vectors", "data", "exact")
+DATA = os.path.join(os.path.dirname(os.path.abspath(__file__)), "..", "..", "crates", "replay", "data", "exact")
 
 
 def on_grid(count, grid):

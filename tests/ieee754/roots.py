@@ -3,7 +3,8 @@
 from exact import INFINITY, SIGN, is_finite
 from values import GRID, LEADING, NANS, neighbours, normal, whole
 
-# The cube root of HARD_CUBE * 2^-51 is the middle MIDDLE * 2^-53 of two doubles but for less than 2^-54 of their distance.
+# The cube root of HARD_CUBE * 2^-51 is the middle MIDDLE * 2^-53 of two doubles but for less than
+# 2^-54 of their distance.
 HARD_CUBE, MIDDLE = 0x19b78223aa307c, 13293282978278199
 assert abs(MIDDLE ** 3 - (HARD_CUBE << 108)) * 2 ** 53 < 3 * (MIDDLE - 1) ** 2
 
@@ -11,7 +12,8 @@ assert abs(MIDDLE ** 3 - (HARD_CUBE << 108)) * 2 ** 53 < 3 * (MIDDLE - 1) ** 2
 def roots_modulo(c, digits):
     """The odd z below 2^digits whose square is c modulo 2^digits, for a c that is 1 modulo 8."""
     z = 1
-    for k in range(3, digits):  # z * z is c modulo 2^k; a change of z by 2^(k - 1) changes it by 2^k modulo 2^(k + 1)
+    # z * z is c modulo 2^k; a change of z by 2^(k - 1) changes it by 2^k modulo 2^(k + 1)
+    for k in range(3, digits):
         if (z * z - c) >> k & 1:
             z += 1 << (k - 1)
     half = 1 << (digits - 1)
@@ -19,8 +21,9 @@ def roots_modulo(c, digits):
 
 
 def hard_squares(limit):
-    """The arguments whose square roots are the nearest of all to the middle of two doubles: the root of n * 2^52, n of 53 or 54
-    digits, has the middle z / 2 beside it where z * z - n * 2^54 = c is small. For c above 0 the root is below the middle."""
+    """The arguments whose square roots are the nearest of all to the middle of two doubles: the
+    root of n * 2^52, n of 53 or 54 digits, has the middle z / 2 beside it where z * z - n * 2^54 =
+    c is small. For c above 0 the root is below the middle."""
     found = []
     for c in range(1 - 8 * limit, 8 * limit, 8):
         for z in roots_modulo(c, 54):
@@ -31,8 +34,9 @@ def hard_squares(limit):
 
 
 def near_cubes(r, count, tries):
-    """Arguments whose cube root is near the middle of two doubles: of `tries` middles z / 2 the one whose cube comes nearest to a
-    whole number of 2^104, and that number, where it is a double. Both sides come up."""
+    """Arguments whose cube root is near the middle of two doubles: of `tries` middles z / 2 the one
+    whose cube comes nearest to a whole number of 2^104, and that number, where it is a double. Both
+    sides come up."""
     found = []
     while len(found) < count:
         best = min((r.odd(54) for _ in range(tries)), key=lambda z: min(z ** 3 % 2 ** 107, -z ** 3 % 2 ** 107))
@@ -54,7 +58,8 @@ def middle_cubes(r, count):
 
 
 def moved(r, bits, step):
-    """The same significand at an exponent that differs by a multiple of `step`, so that its root has the same digits."""
+    """The same significand at an exponent that differs by a multiple of `step`, so that its root
+    has the same digits."""
     field = bits // LEADING
     fields = range(field % step or step, 2047, step)
     return fields[r.below(len(fields))] * LEADING + bits % LEADING

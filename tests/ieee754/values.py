@@ -1,11 +1,13 @@
-"""What the arguments of the vectors are made from: special values, a random generator of a fixed seed, and patterns by their parts."""
+"""What the arguments of the vectors are made from: special values, a random generator of a fixed
+seed, and patterns by their parts."""
 
 from exact import INFINITY, LARGEST, NAN, ONE, SIGN, SMALLEST_NORMAL, of_ratio, units
 
 LEADING = 1 << 52
 SEED = 0x9e3779b97f4a7c15
 
-# zeros, the ends of the subnormal and of the normal range, the neighbours of 1, infinities, each in both signs; and a NaN
+# zeros, the ends of the subnormal and of the normal range, the neighbours of 1, infinities, each in
+# both signs; and a NaN
 MAGNITUDES = [0, 1, SMALLEST_NORMAL - 1, SMALLEST_NORMAL, ONE - 1, ONE, ONE + 1, LARGEST, INFINITY]
 GRID = MAGNITUDES + [SIGN | m for m in MAGNITUDES] + [NAN]
 # for three arguments, with fewer values

@@ -1,13 +1,15 @@
 #!/usr/bin/env python3
-"""Writes the stored runs of the listing: crates/poses_runs/data, a file for each run, and crates/poses_runs/stdout, what is expected.
+"""Writes the stored runs of the listing: crates/poses_runs/data, a file for each run, and
+crates/poses_runs/stdout, what is expected.
 
     python3 tests/poses/make.py                 write the files
-    python3 tests/poses/make.py --check         say whether the files are those that this script makes
+    python3 tests/poses/make.py --check         say whether the files are as this script makes them
     python3 tests/poses/make.py --all PROGRAM   have a program list every stored frame, and compare
 
-The frames and their answers are the Rust's, of crates/vectors/data/rust/frame.bin (reference/README.md has its layout), and the
-listing is put together from these as document 01 says, "Frame records and their listing". PROGRAM is target/bin/poses. With --all it is
-given the frames by a file, and then by pipes that hand it a few bytes at a time."""
+The frames and their answers are the Rust's, of crates/replay/data/rust/frame.bin
+(reference/README.md has its layout), and the listing is put together from these as document 01
+says, "Frame records and their listing". PROGRAM is target/bin/poses. With --all it is given the
+frames by a file, and then by pipes that hand it a few bytes at a time."""
 
 import os
 import subprocess
@@ -16,7 +18,7 @@ import tempfile
 from typing import NamedTuple
 
 ROOT = os.path.join(os.path.dirname(os.path.abspath(__file__)), "..", "..")
-FRAMES = os.path.join(ROOT, "crates", "vectors", "data", "rust", "frame.bin")
+FRAMES = os.path.join(ROOT, "crates", "replay", "data", "rust", "frame.bin")
 RUNS = os.path.join(ROOT, "crates", "poses_runs")
 LENGTH, VERSION, SIZE = 193, 1, 195
 # the bytes of a stored frame with its answer
@@ -35,7 +37,8 @@ class Frame(NamedTuple):
     slots: list
 
     def unseen(self):
-        """The same with a checking bearing of zeros, whose scores are all 0 ÷ 0: the choice is refused."""
+        """The same with a checking bearing of zeros, whose scores are all 0 ÷ 0: the choice is
+        refused."""
         return self._replace(words=self.words[:21] + [0] * 3, best=0)
 
     def record(self, length=LENGTH, version=VERSION):

@@ -1,6 +1,6 @@
-//! The three-point pose solver, its root finders and single operations: safe functions over the library that
-//! `rt staticlib exports` writes. Each answers every input, infinities and NaNs too, with the bits that its
-//! definition gives (crates/exports); nothing allocates.
+//! The three-point pose solver, its root finders and single operations: safe functions over the
+//! library that `rt staticlib p3p` writes. Each answers every input, infinities and NaNs too, with
+//! the bits that its definition gives (crates/p3p); nothing allocates.
 //!
 //! ```
 //! // A plate with four targets, two metres in front of the camera, and the unit bearings to them.

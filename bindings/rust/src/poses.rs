@@ -42,21 +42,24 @@ impl Deref for Poses {
     }
 }
 
-/// The poses from which three world points are seen at three bearings, each point and bearing as x, y, z. The bearings are to be unit
-/// vectors: those of other lengths are usually refused, and an answer to them is seldom of use.
+/// The poses from which three world points are seen at three bearings, each point and bearing as x,
+/// y, z. The bearings are to be unit vectors: those of other lengths are usually refused, and an
+/// answer to them is seldom of use.
 pub fn solve(world: &[[f64; 3]; 3], bearings: &[[f64; 3]; 3]) -> Result<Poses, Refusal> {
     let mut input = [0.0; 18];
     input[..9].copy_from_slice(world.as_flattened());
     input[9..].copy_from_slice(bearings.as_flattened());
     let (mut words, mut updates, mut count) = ([0.0; 48], [0; 4], 0);
-    // SAFETY: the references are to arrays of this function's own, of the lengths that the C function reads and writes.
+    // SAFETY: the references are to arrays of this function's own, of the lengths that the C
+    // function reads and writes.
     let number = unsafe { sys::p3p_solve(&input, &mut words, &mut updates, &mut count) };
     let slots = std::array::from_fn(|slot| Pose::from_slot(&words[12 * slot..12 * slot + 12], updates[slot]));
     Refusal::unless_zero(number, Poses { slots, count: count as usize })
 }
 
 /// The index of the pose under which a fourth target lies nearest to its bearing: the lowest finite
-/// |camera × bearing|² / (camera · bearing)², of equal ones the earliest. Poses after the fourth are not looked at.
+/// |camera × bearing|² / (camera · bearing)², of equal ones the earliest. Poses after the fourth
+/// are not looked at.
 pub fn choose(poses: &[Pose], target: &[f64; 3], bearing: &[f64; 3]) -> Result<usize, Refusal> {
     let mut words = [0.0; 48];
     for (pose, slot) in poses.iter().zip(words.chunks_exact_mut(12)) {
@@ -64,7 +67,8 @@ pub fn choose(poses: &[Pose], target: &[f64; 3], bearing: &[f64; 3]) -> Result<u
     }
     let count = poses.len().min(4) as u32;
     let mut best = 0;
-    // SAFETY: the references are to arrays of the lengths that the C function reads, and `best` is this function's own.
+    // SAFETY: the references are to arrays of the lengths that the C function reads, and `best` is
+    // this function's own.
     let number = unsafe { sys::p3p_choose(&words, count, target, bearing, &mut best) };
     // The C function counts from 1; a refusal leaves 0.
     Refusal::unless_zero(number, (best as usize).saturating_sub(1))

@@ -3,7 +3,8 @@
 use crate::refusal::Refusal;
 use crate::sys;
 
-/// The two real roots of x² + b·x + c, not sorted; where the discriminant is zero, or below it by no more than rounding, -b/2 twice.
+/// The two real roots of x² + b·x + c, not sorted; where the discriminant is zero, or below it by
+/// no more than rounding, -b/2 twice.
 pub fn quadratic(b: f64, c: f64) -> Result<[f64; 2], Refusal> {
     let (mut first, mut second) = (0.0, 0.0);
     // SAFETY: both references are to doubles of this function's own.

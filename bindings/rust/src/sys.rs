@@ -1,5 +1,5 @@
-//! The functions of include/p3p.h. References and arrays stand for C's pointers to as many elements; a `&mut` is never the same memory
-//! as another argument, as the header asks.
+//! The functions of include/p3p.h. References and arrays stand for C's pointers to as many
+//! elements; a `&mut` is never the same memory as another argument, as the header asks.
 
 extern "C" {
     // Numbers in and numbers out: there is nothing that a caller could break.

@@ -1,4 +1,5 @@
-//! The functions on cases whose answers are known: document 01, "Checked by hand", and a plate whose pose is given.
+//! The functions on cases whose answers are known: document 01, "Checked by hand", and a plate
+//! whose pose is given.
 
 use p3p::Refusal;
 use std::cmp::Ordering;

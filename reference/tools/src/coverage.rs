@@ -72,7 +72,8 @@ fn count(folder: &Path) -> Result<[(Counts, usize); 2], String> {
     Ok([frames, all])
 }
 
-/// Why one side of a test is not reached, where it is not; an error where it is reached and named as unreachable.
+/// Why one side of a test is not reached, where it is not; an error where it is reached and named
+/// as unreachable.
 fn note(frames: &Counts, all: &Counts, label: &str, outcome: bool) -> Result<Option<String>, String> {
     let side = if outcome { "yes" } else { "no" };
     let reason = reason(label, side);

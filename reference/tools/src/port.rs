@@ -1,4 +1,4 @@
-//! The port by its C interface (crate exports, include/p3p.h), asked as the copies are:
+//! The port by its C interface (crate p3p, include/p3p.h), asked as the copies are:
 //! a function's name and words in, words out.
 
 use crate::table::word;

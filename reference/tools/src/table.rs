@@ -37,7 +37,8 @@ pub const FUNCTIONS: &[Function] = &[
     function("max", 2, 1),
     function("clamp", 3, 1),      // x low high
     function("totalorder", 2, 1), // -1, 0 or 1 in two's complement
-    function("push", 32, 14),     // world, bearings, m, translation, updates, count -> count, updates, 12
+    // world, bearings, m, translation, updates, count -> count, updates, 12
+    function("push", 32, 14),
 ];
 
 pub fn find(name: &str) -> &'static Function {

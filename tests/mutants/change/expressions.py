@@ -1,16 +1,17 @@
 """The expressions of a body: their types, and the places in them."""
-from changes import changed_bytes, near_floats, near_numbers
-from kinds import Number, bare, join
-from places import Marks, signature
-from tokens import LEVELS, number_parts
+from change.changes import changed_bytes, near_floats, near_numbers
+from change.places import Marks, signature
+from syntax.tokens import LEVELS, number_parts
+from syntax.types import Number, bare, join
 
 KNOWN = {"f64::from_bits": (["u64"], "f64"), "f64::to_bits": (["f64"], "u64"), "u64::leading_zeros": (["u64"], "u32"),
          "u64::trailing_zeros": (["u64"], "u32"), "u64::count_ones": (["u64"], "u32")}
 
 
 class Expressions(Marks):
-    """Each function reads an expression and gives its type, or None where it is not known. structs: whether a brace after a name begins
-    a struct, which it does not in the condition of an `if`. Blocks, `if` and `match` are read by Body (bodies.py)."""
+    """Each function reads an expression and gives its type, or None where it is not known. structs:
+    whether a brace after a name begins a struct, which it does not in the condition of an `if`.
+    Blocks, `if` and `match` are read by Body (bodies.py)."""
 
     structs = True
 
@@ -107,7 +108,8 @@ class Expressions(Marks):
         return "usize" if name == "len" else None
 
     def arguments(self, params):
-        """The spans and the types of a call's arguments; params are the types that the callee asks for."""
+        """The spans and the types of a call's arguments; params are the types that the callee asks
+        for."""
         self.expect("(")
         spans, kinds = [], []
         for _ in self.each(")"):

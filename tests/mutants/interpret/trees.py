@@ -1,11 +1,12 @@
-"""The body of a function as nested tuples, for the interpreter: the first entry says what it is, and the rest are its parts."""
-from grammar import Grammar
-from tokens import ASSIGNMENTS, LEVELS, number_parts, tokens
+"""The body of a function as nested tuples, for the interpreter: the first entry says what it is,
+and the rest are its parts."""
+from syntax.grammar import Grammar
+from syntax.tokens import ASSIGNMENTS, LEVELS, number_parts, tokens
 
 
 class Parser(Grammar):
-    """Reads a text that begins with a body; the names in it are those of the file. structs: whether a brace after a name begins a struct,
-    which it does not in the condition of an `if`."""
+    """Reads a text that begins with a body; the names in it are those of the file. structs: whether
+    a brace after a name begins a struct, which it does not in the condition of an `if`."""
 
     def __init__(self, file, text, owner):
         super().__init__(file, tokens(text), 0)

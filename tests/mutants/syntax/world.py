@@ -2,9 +2,8 @@
 import os
 import re
 
-from bodies import Body
-from items import Items
-from tokens import tokens
+from syntax.items import Items
+from syntax.tokens import tokens
 
 
 class World:
@@ -25,10 +24,6 @@ class World:
         for file in self.files:
             file.resolve()
 
-    def functions_of(self, crate):
-        """The functions of a crate, with their places."""
-        return [f for file in self.files if file.crate == crate for f in file.find()]
-
 
 class File:
     def __init__(self, world, crate, module, path, short):
@@ -46,7 +41,8 @@ class File:
             action()
 
     def named(self, path, owner=None):
-        """What a path names in this file: a crate, a module and a name, or a built-in type; owner is the name that `Self` stands for."""
+        """What a path names in this file: a crate, a module and a name, or a built-in type; owner
+        is the name that `Self` stands for."""
         if path == ["Self"]:
             return self.key(owner)
         if len(path) == 1:
@@ -55,10 +51,3 @@ class File:
             return (self.crate, "::".join(path[:-1]), path[-1])
         crate = self.crate if path[0] == "crate" else path[0]
         return (crate, "::".join(path[1:-1]), path[-1])
-
-    def find(self):
-        """The file's functions, each with its places in the order of the text."""
-        for f, body, owner in self.bodies:
-            f.places += Body(self, f, body, owner).places()
-            f.places.sort(key=lambda p: (p.start, p.end))
-        return [f for f, _, _ in self.bodies]

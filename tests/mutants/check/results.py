@@ -1,15 +1,17 @@
-"""The results of a crate, results/CRATE.tsv: written, read to go on with, and completed with whether an input was found."""
+"""The results of a crate, results/CRATE.tsv: written, read to go on with, and completed with
+whether an input was found."""
 import os
 import subprocess
 
-import witness
-from bench import RT
-from crates import source_sum
-from machine import Machine
-from mutants import SEED, mutants_of
-from verdicts import why
+from change.bodies import functions_of
+from change.mutants import SEED, mutants_of
+from check.bench import RT
+from check.crates import source_sum
+from check.verdicts import why
+from interpret import witness
+from interpret.machine import Machine
 
-HERE = os.path.dirname(os.path.abspath(__file__))
+HERE = os.path.dirname(os.path.dirname(os.path.abspath(__file__)))
 RESULTS = os.path.join(HERE, "results")
 
 
@@ -53,9 +55,10 @@ def earlier(root, crate):
 
 
 def add_witness(crate, world):
-    """To each mutant of a crate's results, whether an input was found at which it answers otherwise."""
+    """To each mutant of a crate's results, whether an input was found at which it answers
+    otherwise."""
     lines, machine, known, out = lines_of(crate), Machine(world), {}, []
-    for g in world.functions_of(crate):
+    for g in functions_of(world, crate):
         for m in mutants_of(g):
             known.setdefault(m.key, []).append(m)
     for line in lines:

@@ -1,6 +1,7 @@
-"""The value of an expression of trees.py. `on_X` is for the tuples that begin with X; env has the values of the locals."""
-from operations import built_in, cast, operate, root
-from values import Cell, Outside, Struct, Trap, Variant, held, taken
+"""The value of an expression of trees.py. `on_X` is for the tuples that begin with X; env has the
+values of the locals."""
+from interpret.operations import built_in, cast, operate, root
+from interpret.values import Cell, Outside, Struct, Trap, Variant, held, taken
 
 
 def fits(pattern, value):
@@ -17,7 +18,8 @@ def fits(pattern, value):
 
 
 class Evaluate:
-    """The part of Machine (machine.py) that is for expressions; run, call and the function that runs, f, are there."""
+    """The part of Machine (machine.py) that is for expressions; run, call and the function that
+    runs, f, are there."""
 
     def named(self, path):
         """What a path names in the function that runs."""

@@ -3,16 +3,16 @@ import math
 import random
 import re
 
-from kinds import settled
-from values import Cell, Struct, Variant
+from interpret.values import Cell, Struct, Variant
+from syntax.types import settled
 
 SPECIAL = [0.0, -0.0, 1.0, -1.0, 2.0, 0.5, 3.0, 1e-14, 1e-10, 1e150, 1e-150, 1e308, 5e-324, 2.2250738585072014e-308, math.inf, -math.inf, math.nan]
 MODES = ["special", "special", "zeros", "round", "normal", "normal", "frame", "frame", "frame"]
 
 
 class Inputs:
-    """Each run has one mode: some have small round doubles, so that comparisons meet their bounds, and some the parts of one camera frame.
-    The seed is the function's path."""
+    """Each run has one mode: some have small round doubles, so that comparisons meet their bounds,
+    and some the parts of one camera frame. The seed is the function's path."""
 
     def __init__(self, world, function):
         self.world, self.rng = world, random.Random(function.path)
@@ -27,8 +27,9 @@ class Inputs:
         self.frame = self.camera_frame()
 
     def camera_frame(self):
-        """Three points before a camera, and their unit bearings; the camera's axes are the world's but for a shift. With them the vectors and
-        numbers that belong to them, so that a function of these meets a pose that holds, or nearly."""
+        """Three points before a camera, and their unit bearings; the camera's axes are the world's
+        but for a shift. With them the vectors and numbers that belong to them, so that a function
+        of these meets a pose that holds, or nearly."""
         shift = [self.rng.uniform(-2, 2) for _ in range(3)]
         points = [[self.rng.uniform(-2, 2), self.rng.uniform(-2, 2), self.rng.uniform(2, 6)] for _ in range(3)]
         norms = [math.sqrt(sum(x * x for x in p)) for p in points]

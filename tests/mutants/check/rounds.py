@@ -1,10 +1,12 @@
-"""The rounds of a crate: one check tries a mutant in every function that wants another, and those of which it does not tell are tried again."""
-from bench import Bench
-from crates import CRATES, own_file
-from mutants import mutants_of
-from results import add_witness, earlier, write_results
-from verdicts import front_errors, read
-from world import World
+"""The rounds of a crate: one check tries a mutant in every function that wants another, and those
+of which it does not tell are tried again."""
+from change.bodies import functions_of
+from change.mutants import mutants_of
+from check.bench import Bench
+from check.crates import CRATES, own_file
+from check.results import add_witness, earlier, write_results
+from check.verdicts import front_errors, read
+from syntax.world import World
 
 # The mutants that a function is given: refused for a fact or proved, and at most tried.
 WANTED = {"public": 10, "private": 3}
@@ -35,10 +37,11 @@ def settle(bench, mutants):
 
 
 class Queues:
-    """The mutants of a crate's functions, by the functions' paths: those that were tried and those that wait."""
+    """The mutants of a crate's functions, by the functions' paths: those that were tried and those
+    that wait."""
 
     def __init__(self, root, crate, world):
-        self.root, self.crate, self.functions = root, crate, world.functions_of(crate)
+        self.root, self.crate, self.functions = root, crate, functions_of(world, crate)
         for f in self.functions:
             f.proof = own_file(root, f)
         self.waiting = {f.path: mutants_of(f) for f in self.functions}
@@ -55,7 +58,8 @@ class Queues:
                     self.waiting[f.path].remove(m)
 
     def turn(self):
-        """The next mutant of each function that wants another; of a cycle of calls, which has one proof, one at a time."""
+        """The next mutant of each function that wants another; of a cycle of calls, which has one
+        proof, one at a time."""
         out = []
         for f in self.functions:
             if not any(m.function.proof == f.proof for m in out) and self.wants(f):
@@ -78,7 +82,8 @@ class Queues:
 
 
 def try_crate(root, crate, world, rounds):
-    """Tries the mutants of a crate for so many rounds, or, from a negative number, until no function wants another."""
+    """Tries the mutants of a crate for so many rounds, or, from a negative number, until no
+    function wants another."""
     queues = Queues(root, crate, world)
     queues.resume()
     bench = Bench(root, crate)

@@ -5,19 +5,31 @@ import re
 
 
 def libraries():
-    """The library crates that have code, in the order of crates.txt: `words` is a part of the test programs, `theorems` has none."""
+    """The library crates that have a function, in the order of crates.txt."""
     if not os.path.exists("crates.txt"):
         return []
     with open("crates.txt", encoding="utf-8") as f:
         names = re.findall(r"^(\w+):", f.read(), re.M)
-    return [n for n in names if n not in ("words", "theorems") and os.path.exists(os.path.join("crates", n, "src", "lib.rt"))]
+    return [n for n in names if has_function(os.path.join("crates", n, "src"))]
+
+
+def has_function(folder):
+    """Whether a library's sources have a function; a crate of definitions and proofs has none."""
+    if not os.path.exists(os.path.join(folder, "lib.rt")):
+        return False
+    for name in (n for n in os.listdir(folder) if n.endswith(".rt")):
+        with open(os.path.join(folder, name), encoding="utf-8") as f:
+            if re.search(r"^ *(pub )?(extern \"C\" )?fn ", f.read(), re.M):
+                return True
+    return False
 
 
 CRATES = libraries()
 
 
 def source_sum(root, crate):
-    """What the result rests on: the crate's sources, definitions and proofs; lines of comments do not count."""
+    """What the result rests on: the crate's sources, definitions and proofs; lines of comments do
+    not count."""
     sums = hashlib.sha256()
     top = os.path.join(root, "crates", crate)
     for part in ("src", "specs", "proofs"):

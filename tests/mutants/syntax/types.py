@@ -1,6 +1,7 @@
-"""The types of Rattle as the parsers keep them, and the reading of one. A type is the name of a built-in one, the crate, module and name of
-a declared one, ("ref", type) or ("ref", type, "mut"), or ("array", type, length)."""
-from tokens import Cursor
+"""The types of Rattle as the parsers keep them, and the reading of one. A type is the name of a
+built-in one, the crate, module and name of a declared one, ("ref", type) or ("ref", type, "mut"),
+or ("array", type, length)."""
+from syntax.tokens import Cursor
 
 INTEGERS = {"u8", "u16", "u32", "u64", "usize", "i8", "i16", "i32", "i64", "isize"}
 

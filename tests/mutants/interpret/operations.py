@@ -1,8 +1,9 @@
-"""The operations of the interpreter: binary operators, casts, and the functions that are built in."""
+"""The operations of the interpreter: binary operators, casts, and the functions that are built
+in."""
 import math
 import struct
 
-from values import Trap
+from interpret.values import Trap
 
 NAN = float("nan")
 

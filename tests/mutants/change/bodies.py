@@ -1,11 +1,22 @@
 """The body of a function: its blocks, statements and patterns, with the locals that they bind."""
-from expressions import Expressions
-from kinds import join
-from tokens import ASSIGNMENTS
+from change.expressions import Expressions
+from syntax.tokens import ASSIGNMENTS
+from syntax.types import join
+
+
+def functions_of(world, crate):
+    """The functions of a crate, each with its places in the order of the text."""
+    out = []
+    for file in world.files:
+        for f, body, owner in file.bodies if file.crate == crate else []:
+            f.places = sorted(Body(file, f, body, owner).places(), key=lambda p: (p.start, p.end))
+            out.append(f)
+    return out
 
 
 class Body(Expressions):
-    """Each function that reads a block or a statement gives its type; "!" is that of one that does not go on."""
+    """Each function that reads a block or a statement gives its type; "!" is that of one that does
+    not go on."""
 
     def places(self):
         self.block()
@@ -53,7 +64,8 @@ class Body(Expressions):
         self.fail(f"a statement goes on with {word}")
 
     def assignment(self, kind):
-        """The rest of an assignment. The places of its target are kept: an index or a field there is an operand too."""
+        """The rest of an assignment. The places of its target are kept: an index or a field there
+        is an operand too."""
         self.next()
         join(kind, self.expression())
         self.expect(";")

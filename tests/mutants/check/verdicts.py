@@ -1,7 +1,8 @@
 """The verdict of each mutant, from what the checker says."""
 import re
 
-# What antt says where a proof file names a fact or a step that the changed code does not have, or the other way round.
+# What antt says where a proof file names a fact or a step that the changed code does not have, or
+# the other way round.
 SHAPE = re.compile(r"that can be named from here|has no field|no such field|not a field|is not in scope|expected type `tie\.Need|has type `tie\.Need"
                    r"|unknown name|not a projection|too many arguments|takes? \d+ arguments?|does not cover|this pattern needs a function"
                    r"|^`walk`:")  # a proof by hand, which repeats the statements
@@ -47,7 +48,8 @@ def errors_by_file(said, crate):
 
 
 def refusal(own):
-    """The verdict of a function whose own proof has these errors, and the words that it rests on."""
+    """The verdict of a function whose own proof has these errors, and the words that it rests
+    on."""
     shape = [words for words in own if SHAPE.search(words)]
     facts = [words for words in own if any(re.search(pattern, words) for _, pattern in WORDS)]
     return "shape" if shape or not facts else "fact", (shape or facts or own)[0]

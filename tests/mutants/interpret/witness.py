@@ -1,11 +1,12 @@
-"""Inputs at which a mutant answers otherwise than the function does, by an interpreter (machine.py). Where there is one, the refusal is of
-a false fact, whatever the words of the refusal. Only functions with no `requires` are tried, since an input that breaks one shows nothing.
-The functions that a mutant calls are the unchanged ones, as in its proof."""
+"""Inputs at which a mutant answers otherwise than the function does, by an interpreter
+(machine.py). Where there is one, the refusal is of a false fact, whatever the words of the refusal.
+Only functions with no `requires` are tried, since an input that breaks one shows nothing. The
+functions that a mutant calls are the unchanged ones, as in its proof."""
 import copy
 import time
 
-from inputs import Inputs
-from values import Outside, Trap, plain
+from interpret.inputs import Inputs
+from interpret.values import Outside, Trap, plain
 
 INPUTS, SECONDS = 1500, 6
 
@@ -20,7 +21,8 @@ def outcome(machine, f, args, body):
 
 
 def differs(machine, function, text):
-    """Whether an input was found at which the changed text answers otherwise; None where none is tried."""
+    """Whether an input was found at which the changed text answers otherwise; None where none is
+    tried."""
     if function.requires:
         return None
     changed, inputs = machine.parse(function, text), Inputs(machine.world, function)

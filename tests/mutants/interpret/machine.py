@@ -1,8 +1,9 @@
-"""The interpreter of the part of Rattle that the library crates use: calls and statements. `do_X` is for the statements that begin with X."""
-from evaluate import Evaluate, fits
-from operations import operate
-from trees import Parser
-from values import Break, Return, Trap, held, taken
+"""The interpreter of the part of Rattle that the library crates use: calls and statements. `do_X`
+is for the statements that begin with X."""
+from interpret.evaluate import Evaluate, fits
+from interpret.operations import operate
+from interpret.trees import Parser
+from interpret.values import Break, Return, Trap, held, taken
 
 STEPS = 20000
 
@@ -52,7 +53,8 @@ class Machine(Evaluate):
         return getattr(self, "on_" + e[0])(env, *e[1:])
 
     def on_block(self, env, statements):
-        """The value of the last statement. What was stored to the locals outside is kept; those declared in the block are not."""
+        """The value of the last statement. What was stored to the locals outside is kept; those
+        declared in the block are not."""
         value, inner = None, dict(env)
         for s in statements:
             value = getattr(self, "do_" + s[0])(inner, *s[1:])

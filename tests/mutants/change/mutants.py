@@ -9,7 +9,8 @@ def squeeze(s):
 
 
 class Mutant:
-    """A place of a function and the text that stands there instead; verdict and said are what the prover makes of it."""
+    """A place of a function and the text that stands there instead; verdict and said are what the
+    prover makes of it."""
 
     def __init__(self, function, place, new):
         self.function, self.place, self.new = function, place, new
@@ -23,7 +24,8 @@ class Mutant:
         self.key = (function.path, place.kind, self.old_line, self.new_line)
 
     def within(self, text):
-        """The text of the function's file with this change; text may have other changes behind it."""
+        """The text of the function's file with this change; text may have other changes behind
+        it."""
         return text[: self.place.start] + self.new + text[self.place.end:]
 
 
@@ -39,7 +41,8 @@ def mutants_of(function):
 
 
 def ordered(function):
-    """The places and their texts: a place is tried once before any is tried twice, and the kinds of change take turns. Late places come last."""
+    """The places and their texts: a place is tried once before any is tried twice, and the kinds of
+    change take turns. Late places come last."""
     draws = drawn(function)
     order = []
     for late in (False, True):
@@ -56,7 +59,8 @@ def ordered(function):
 
 
 def drawn(function):
-    """Each place and text: whether it is late, its turn at the place, a random number, the place and the text."""
+    """Each place and text: whether it is late, its turn at the place, a random number, the place
+    and the text."""
     rng = random.Random(f"{SEED} {function.path}")
     out = []
     for place in function.places:

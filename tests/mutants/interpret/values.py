@@ -1,4 +1,5 @@
-"""The interpreter's values, and what ends a computation. Numbers and truth values are Python's, arrays are lists."""
+"""The interpreter's values, and what ends a computation. Numbers and truth values are Python's,
+arrays are lists."""
 import copy
 import struct
 

@@ -1,52 +1,59 @@
 """RESULT.md, written from the results of all crates and the reasons of reasons.txt."""
 import os
+import textwrap
 
-from crates import CRATES, source_sum
-from results import HERE, lines_of, path_of
+from check.crates import CRATES, source_sum
+from check.results import HERE, lines_of, path_of
 
 VERDICTS = ("fact", "shape", "survived", "no verdict")
 FOUND = ("differs", "no input found", "not tried")
 HEAD = """# The strength of the contracts
 
-Written by tests/mutants/run.py, which says how the mutants are made and tried. Each is one change of an operator, an operand or a constant in the body of a
-function; contracts, definitions and proofs stay.
+Written by tests/mutants/run.py, which says how the mutants are made and tried. Each is one change
+of an operator, an operand or a constant in the body of a function; contracts, definitions and
+proofs stay.
 
 - refused, fact: the prover could not prove a fact that the contract or the code's safety asks for;
-- refused, shape: the proof file names a fact or a step that the changed code does not have, which shows less, and is counted apart;
+- refused, shape: the proof file names a fact or a step that the changed code does not have, which
+  shows less, and is counted apart;
 - survived: the crate is proved with the change.
 
 | functions | refused, fact | refused, shape | survived | no verdict |
 |---|---|---|---|---|"""
-WORDS_HEAD = """The reasons (reasons.txt) are given by hand.
-
-By the prover's words, and by whether an input was found at which the changed function answers otherwise (witness.py: random inputs, an interpreter
-that is not the prover's; not tried where the function has a `requires`). Where one was found, the refused fact is false, whatever the words.
+WORDS_HEAD = """\
+By the prover's words, and by whether an input was found at which the changed function answers
+otherwise (interpret/witness.py: random inputs, an interpreter that is not the prover's; not tried
+where the function has a `requires`). Where one was found, the refused fact is false, whatever the
+words.
 
 | words | mutants | an input differs | no such input found | not tried |
 |---|---|---|---|---|"""
 FUNCTIONS_HEAD = """## By function
 
-Places: how many operators, operands and constants the body has that can be changed. A public function is in bold.
+Places: how many operators, operands and constants the body has that can be changed. A public
+function is in bold.
 
 | function | places | tried | refused, fact | refused, shape | survived | no verdict |
 |---|---|---|---|---|---|---|"""
 
 
 def reasons():
-    """By function, line before and line after, why a survivor is no hole; `*` stands for every line."""
+    """By function, line before and line after, why a survivor is no hole; `*` stands for every
+    line."""
     path, out = os.path.join(HERE, "reasons.txt"), {}
     if os.path.exists(path):
         with open(path, encoding="utf-8") as f:
             for block in f.read().split("\n\n"):
                 lines = [l for l in block.splitlines() if l and not l.startswith("#")]
-                if len(lines) == 4:
-                    out[(lines[0], lines[1].removeprefix("- "), lines[2].removeprefix("+ "))] = lines[3]
+                if len(lines) >= 4:
+                    out[(lines[0], lines[1].removeprefix("- "), lines[2].removeprefix("+ "))] = " ".join(lines[3:])
     return out
 
 
 class Tally:
-    """What the results come to. rows: the functions, each with its places and the count of each verdict; total: the count of each
-    verdict by public and private; said: by the prover's words, whether inputs were found."""
+    """What the results come to. rows: the functions, each with its places and the count of each
+    verdict; total: the count of each verdict by public and private; said: by the prover's words,
+    whether inputs were found."""
 
     def __init__(self, root):
         self.reasons, self.rows, self.heads, self.survivors, self.odd = reasons(), [], [], [], []
@@ -86,6 +93,10 @@ class Tally:
         return sum(s[4].startswith(begins) for s in self.survivors)
 
 
+def wrapped(text, indent=""):
+    return textwrap.wrap(text, 100, subsequent_indent=indent, break_long_words=False, break_on_hyphens=False)
+
+
 def cells(counts, keys):
     return " | ".join(str(counts.get(k, 0)) for k in keys) + " |"
 
@@ -98,10 +109,11 @@ def summary(tally):
     number = len(tally.survivors)
     same, tested = tally.reasoned("equivalent:"), tally.reasoned("equivalent for the caller:")
     outside = tally.reasoned("outside the contracts:")
-    return text + ["", f"Of the {number} survivors {same} compute the same, {tested} change a private function's answer within its contract, "
-                       "which leaves it open and whose caller tests it,",
-                   f"{outside} change what is read or written, of which no contract can speak, and are found by the stored runs (crates/poses_runs), "
-                   f"and {number - same - tested - outside} have no reason given."]
+    return text + [""] + wrapped(
+        f"Of the {number} survivors {same} compute the same, {tested} change a private function's answer within its "
+        f"contract, which leaves it open and whose caller tests it, {outside} change what is read or written, of which no "
+        f"contract can speak, and are found by the stored runs (crates/poses_runs), and {number - same - tested - outside} "
+        "have no reason given. The reasons (reasons.txt) are given by hand.") + [""]
 
 
 def by_words(tally):
@@ -113,9 +125,12 @@ def by_words(tally):
 
 def listed(tally):
     """The runs, the survivors, and the mutants with no verdict."""
-    text = ["", "## Runs", ""] + tally.heads + ["", "## Survivors", ""]
+    text = ["", "## Runs", ""]
+    for head in tally.heads:
+        text += wrapped(head, "  ")
+    text += ["", "## Survivors", ""]
     for name, where, old, new, reason in tally.survivors:
-        text += [f"`{name}`, {where}: {reason}", "", "```diff", f"- {old}", f"+ {new}", "```", ""]
+        text += wrapped(f"`{name}`, {where}: {reason}") + ["", "```diff", f"- {old}", f"+ {new}", "```", ""]
     if tally.odd:
         text += ["## No verdict", ""]
         for name, where, old, new, _ in tally.odd:

@@ -1,10 +1,10 @@
-"""The items of a file: what it imports and declares. Types are read when every file has been declared, since a name may be of a later one.
-Ghost text (contracts, `ghost use`) is passed over."""
-from kinds import Types
+"""The items of a file: what it imports and declares. Types are read when every file has been
+declared, since a name may be of a later one. Ghost text (contracts, `ghost use`) is passed over."""
+from syntax.types import Types
 
 
 class Function:
-    """A function of a crate; places is filled by File.find."""
+    """A function of a crate; places is filled by functions_of (change/bodies.py)."""
 
     def __init__(self, path, public, file, start):
         self.path, self.public, self.file, self.start, self.end = path, public, file, start, 0

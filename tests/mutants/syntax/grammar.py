@@ -1,10 +1,11 @@
-"""How an expression begins, the same for both readings of a body: that which marks what can be changed (expressions.py) and that which makes a tree
-to be run (trees.py)."""
-from kinds import Types
+"""How an expression begins, the same for both readings of a body: that which marks what can be
+changed (change/expressions.py) and that which makes a tree to be run (interpret/trees.py)."""
+from syntax.types import Types
 
 
 class Grammar(Types):
-    """A reading has `value`, `expression`, `array`, `block`, `conditional`, `match`, `returned` and `path_expression`."""
+    """A reading has `value`, `expression`, `array`, `block`, `conditional`, `match`, `returned` and
+    `path_expression`."""
 
     def primary(self):
         kind, word = self.tokens[self.at][:2]

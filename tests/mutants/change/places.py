@@ -1,14 +1,16 @@
-"""The places of a body that a mutant changes, and what may stand there instead. An operand is replaced only by another of its type."""
+"""The places of a body that a mutant changes, and what may stand there instead. An operand is
+replaced only by another of its type."""
 import re
 
-from changes import OPERATORS, near_floats, near_numbers
-from grammar import Grammar
-from kinds import INTEGERS, bare, settled
+from change.changes import OPERATORS, near_floats, near_numbers
+from syntax.grammar import Grammar
+from syntax.types import INTEGERS, bare, settled
 
 
 class Place:
-    """A span of a body and the texts that may stand there instead. A late one is tried after the others: it changes which facts the
-    prover asks for (an overflow for a zero divisor, another callee), so that the proof file seldom fits it."""
+    """A span of a body and the texts that may stand there instead. A late one is tried after the
+    others: it changes which facts the prover asks for (an overflow for a zero divisor, another
+    callee), so that the proof file seldom fits it."""
 
     def __init__(self, kind, start, end, options, late):
         self.kind, self.start, self.end, self.options, self.late = kind, start, end, options, late
@@ -20,7 +22,8 @@ def signature(f):
 
 
 class Marks(Grammar):
-    """A cursor in a function's body that marks places. What may stand there is asked for at the end, when types are settled."""
+    """A cursor in a function's body that marks places. What may stand there is asked for at the
+    end, when types are settled."""
 
     def __init__(self, file, f, body, owner):
         super().__init__(file, file.tokens, body)

@@ -1,0 +1,3 @@
+"""The prover's verdicts: the crates that are tried (crates), a copy of the repository to check a
+changed crate in (bench), what the prover's words come to (verdicts), the rounds of a crate
+(rounds), and what is written: results, and the table of RESULT.md."""
