@@ -54,16 +54,16 @@ module _ {k : ℤ} where
   unfolding noDivisor
   noDivisor-same d = ap₂ (λ (a b : Bool). a || not b) (eq-same d null) (finite-same d)
 
-  module _ {e e' : SquaredEdges} (b : Factors) (E : AtEdges k e e') where
+  module _ {e e' : SquaredEdges} (factors : Factors) (E : AtEdges k e e') where
     -- ---- the chart for u0.abs() < u1.abs()
     module _ (nullVector : Vector3) where
-      firstChartDepths-scales : (c c' : Candidates) (t t' : Float) → AtCandidates k c c' → At k (pos 0) t t' → Both (AtCandidates k) (firstChartDepths e b nullVector c t) (firstChartDepths e' b nullVector c' t')
+      firstChartDepths-scales : (c c' : Candidates) (t t' : Float) → AtCandidates k c c' → At k (pos 0) t t' → Both (AtCandidates k) (firstChartDepths e factors nullVector c t) (firstChartDepths e' factors nullVector c' t')
       unfolding firstChartDepths
       firstChartDepths-scales _ _ _ _ found tau =
           let u0 = same (nullVector .x) in
           let u1 = same (nullVector .y) in
           let u2 = same (nullVector .z) in
-          ! tau ⊗ (! tau ⊕ ! same (b .b02)) ⊕ ! same one >>= λ _ _ depthDenominator.
+          ! tau ⊗ (! tau ⊕ ! same (factors .b02)) ⊕ ! same one >>= λ _ _ depthDenominator.
           if ap₂ _||_ (le-same tau null) (le-same depthDenominator null) then pure found
           else (
           √_ {n = pos 1} (! (E .a02) ⊘ ! depthDenominator) >>= λ _ _ depth0.
@@ -71,13 +71,13 @@ module _ {k : ℤ} where
           ⊝ (! u0 ⊗ ! depth0 ⊕ ! u2 ⊗ ! depth2) ⊘ ! u1 >>= λ _ _ depth1.
           pure (pushIfPositive-at found depth1 (record { x = depth0; y = depth1; z = depth2 })))
 
-      firstChart-scales : {c c' : Candidates} → AtCandidates k c c' → Both (AtCandidates k) (firstChart e b nullVector c) (firstChart e' b nullVector c')
+      firstChart-scales : {c c' : Candidates} → AtCandidates k c c' → Both (AtCandidates k) (firstChart e factors nullVector c) (firstChart e' factors nullVector c')
       unfolding firstChart
       firstChart-scales found =
           let a01 = E .a01 in
           let a12 = E .a12 in
-          let b01 = same (b .b01) in
-          let b12 = same (b .b12) in
+          let b01 = same (factors .b01) in
+          let b12 = same (factors .b12) in
           let u0 = same (nullVector .x) in
           let u1 = same (nullVector .y) in
           let u2 = same (nullVector .z) in
@@ -91,10 +91,10 @@ module _ {k : ℤ} where
 
     -- ---- the other chart
     module _ (w0 w1 : Float) where
-      secondChartDepths-scales : (c c' : Candidates) (t t' : Float) → AtCandidates k c c' → At k (pos 0) t t' → Both (AtCandidates k) (secondChartDepths e b w0 w1 c t) (secondChartDepths e' b w0 w1 c' t')
+      secondChartDepths-scales : (c c' : Candidates) (t t' : Float) → AtCandidates k c c' → At k (pos 0) t t' → Both (AtCandidates k) (secondChartDepths e factors w0 w1 c t) (secondChartDepths e' factors w0 w1 c' t')
       unfolding secondChartDepths
       secondChartDepths-scales _ _ _ _ found tau =
-          ! tau ⊗ (! same (b .b12) ⊕ ! tau) ⊕ ! same one >>= λ _ _ depthDenominator.
+          ! tau ⊗ (! same (factors .b12) ⊕ ! tau) ⊕ ! same one >>= λ _ _ depthDenominator.
           if ap₂ _||_ (le-same tau null) (le-same depthDenominator null) then pure found
           else (
           √_ {n = pos 1} (! (E .a12) ⊘ ! depthDenominator) >>= λ _ _ depth1.
@@ -102,13 +102,13 @@ module _ {k : ℤ} where
           ! same w0 ⊗ ! depth1 ⊕ ! same w1 ⊗ ! depth2 >>= λ _ _ depth0.
           pure (pushIfPositive-at found depth0 (record { x = depth0; y = depth1; z = depth2 })))
 
-      weightChart-scales : {c c' : Candidates} → AtCandidates k c c' → Both (AtCandidates k) (weightChart e b w0 w1 c) (weightChart e' b w0 w1 c')
+      weightChart-scales : {c c' : Candidates} → AtCandidates k c c' → Both (AtCandidates k) (weightChart e factors w0 w1 c) (weightChart e' factors w0 w1 c')
       unfolding weightChart
       weightChart-scales found =
           let a01 = E .a01 in
           let a02 = E .a02 in
-          let b01 = same (b .b01) in
-          let b02 = same (b .b02) in
+          let b01 = same (factors .b01) in
+          let b02 = same (factors .b02) in
           let W0 = same w0 in
           let W1 = same w1 in
           (! a02 ⊖ ! a01) ⊗ ! W1 ⊗ ! W1 ⊖ ! a01 ⊗ ! b02 ⊗ ! W1 ⊖ ! a01 >>= λ _ _ denominator.
@@ -120,7 +120,7 @@ module _ {k : ℤ} where
           forRoots-scales roots secondChartDepths-scales found)
 
     module _ (nullVector : Vector3) where
-      secondChart-scales : {c c' : Candidates} → AtCandidates k c c' → Both (AtCandidates k) (secondChart e b nullVector c) (secondChart e' b nullVector c')
+      secondChart-scales : {c c' : Candidates} → AtCandidates k c c' → Both (AtCandidates k) (secondChart e factors nullVector c) (secondChart e' factors nullVector c')
       unfolding secondChart
       secondChart-scales found =
           if refl {a = noDivisor (nullVector .x)} then pure found
@@ -130,6 +130,6 @@ module _ {k : ℤ} where
           equal {k = k} (! same (nullVector .z) ⊗ ! same inverse) >>≡ λ w1.
           weightChart-scales w0 w1 found)
 
-      pub chart-scales : {c c' : Candidates} → AtCandidates k c c' → Both (AtCandidates k) (chart e b nullVector c) (chart e' b nullVector c')
+      pub chart-scales : {c c' : Candidates} → AtCandidates k c c' → Both (AtCandidates k) (chart e factors nullVector c) (chart e' factors nullVector c')
       unfolding chart
       chart-scales found = if refl {a = lt (abs (nullVector .x)) (abs (nullVector .y))} then firstChart-scales nullVector found else secondChart-scales found

@@ -1,6 +1,6 @@
 -- The cubic's coefficients are at degree 4, so whether an ordering is usable, and its condition, are the same in the two runs. Assumes nothing.
-use mathlib.Core.Path.{_≡_, refl}
-use mathlib.Core.Bool.{Bool}
+use mathlib.Core.Path.{_≡_, refl, ap, ap₂}
+use mathlib.Core.Bool.{Bool, not, _||_}
 use lib.IntN.{ℤ, pos}
 use lib.Ieee.{Float}
 use Rattle.ieee754.specs.Literal.{two, sixtyFour, epsilon}
@@ -20,16 +20,16 @@ pub record AtCoefficients (k : ℤ) (c c' : Coefficients) : Type 0 where
   pub cubic0 : At k (pos 4) (c .cubic0) (c' .cubic0)
 
 module _ {k : ℤ} where
-  pub cubicCoefficients-scales : {e e' : SquaredEdges} (angles : SquaredSines) → AtEdges k e e' → Both (AtCoefficients k) (cubicCoefficients e angles) (cubicCoefficients e' angles)
+  pub cubicCoefficients-scales : {e e' : SquaredEdges} (sines : SquaredSines) → AtEdges k e e' → Both (AtCoefficients k) (cubicCoefficients e sines) (cubicCoefficients e' sines)
   unfolding cubicCoefficients
-  cubicCoefficients-scales angles e =
+  cubicCoefficients-scales sines e =
       let a01 = e .a01 in
       let a02 = e .a02 in
       let a12 = e .a12 in
-      let triple = same (angles .triple) in
-      let s20 = same (angles .s20) in
-      let s12 = same (angles .s12) in
-      let s01 = same (angles .s01) in
+      let triple = same (sines .triple) in
+      let s20 = same (sines .s20) in
+      let s12 = same (sines .s12) in
+      let s01 = same (sines .s01) in
       ! a02 ⊗ (! a12 ⊗ ! s20 ⊖ ! a02 ⊗ ! s12) >>= λ _ _ cubic3.
       ! same two ⊗ ! triple ⊗ ! a12 ⊗ ! a02 ⊕ ! a02 ⊗ (! same two ⊗ ! a01 ⊕ ! a02) ⊗ ! s12 ⊕ ! a12 ⊗ (! a12 ⊖ ! a01) ⊗ ! s20 >>= λ _ _ cubic2.
       ! a12 ⊗ (! a02 ⊖ ! a12) ⊗ ! s01 ⊖ ! a01 ⊗ ! a01 ⊗ ! s12 ⊖ ! same two ⊗ ! a01 ⊗ (! triple ⊗ ! a12 ⊕ ! a02 ⊗ ! s12) >>= λ _ _ cubic1.
@@ -44,10 +44,10 @@ module _ {k : ℤ} where
   unfolding isUnusable
   isUnusable-same c =
       let scale = coefficientScale-at c in
-      if finite-same scale then (
+      if ap not (finite-same scale) then pure refl
+      else (
       ! scale ⊗ ! same epsilon ⊗ ! same sixtyFour >>= λ _ _ limit.
       pure (le-same (abs-at (c .cubic3)) limit))
-      else pure refl
 
   -- ---- the condition of an ordering
   foldedScale-at : {c c' : Coefficients} → AtCoefficients k c c' → At k (pos 4) (foldedScale c) (foldedScale c')
@@ -58,16 +58,15 @@ module _ {k : ℤ} where
   unfolding leadingShare
   leadingShare-scales c =
       let scale = foldedScale-at c in
-      if eq-same scale null then pure null
-      else if finite-same scale then ! abs-at (c .cubic3) ⊘ ! scale
-      else pure null
+      if ap₂ (λ (a b : Bool). a || not b) (eq-same scale null) (finite-same scale) then pure null
+      else ! abs-at (c .cubic3) ⊘ ! scale
 
   pub leadingCubicCondition-same : {w w' : World} (bearings : Bearings) → AtWorld k w w' → Both {A = Float} _≡_ (leadingCubicCondition w bearings) (leadingCubicCondition w' bearings)
   unfolding leadingCubicCondition
   leadingCubicCondition-same bearings w =
-      edgeVectors-scales w >>= λ _ _ vectors.
-      squaredEdges-scales vectors >>= λ _ _ edges.
+      edgeVectors-scales w >>= λ _ _ edges.
+      squaredEdges-scales edges >>= λ _ _ squares.
       alike {m = cosines bearings} >>≡ λ bearingCosines.
-      alike {m = squaredSines bearingCosines} >>≡ λ angles.
-      cubicCoefficients-scales angles edges >>= λ _ _ cubic.
+      alike {m = squaredSines bearingCosines} >>≡ λ sines.
+      cubicCoefficients-scales sines squares >>= λ _ _ cubic.
       equal (leadingShare-scales cubic)

@@ -3,5 +3,8 @@ mod NoRoots
 pub mod CandidateSlots
 pub mod EdgeScaling
 pub mod CubicScaling
+pub mod MeasureScaling
 pub mod MatrixScaling
+pub mod RatioScaling
 pub mod ChartScaling
+pub mod SignScaling

@@ -10,15 +10,15 @@ use Rattle.depths.specs.Matrix.{singularMatrix}
 use Rattle.depths.specs.Types.{SquaredEdges, Factors}
 
 module _ {k : ℤ} where
-  pub singularMatrix-scales : {e e' : SquaredEdges} (b : Factors) (g : Float) → AtEdges k e e' → Both (AtMatrix k (pos 2)) (singularMatrix e b g) (singularMatrix e' b g)
+  pub singularMatrix-scales : {e e' : SquaredEdges} (factors : Factors) (g : Float) → AtEdges k e e' → Both (AtMatrix k (pos 2)) (singularMatrix e factors g) (singularMatrix e' factors g)
   unfolding singularMatrix
-  singularMatrix-scales b g e =
+  singularMatrix-scales factors g e =
       let a01 = e .a01 in
       let a02 = e .a02 in
       let a12 = e .a12 in
-      let b01 = same (b .b01) in
-      let b02 = same (b .b02) in
-      let b12 = same (b .b12) in
+      let b01 = same (factors .b01) in
+      let b02 = same (factors .b02) in
+      let b12 = same (factors .b12) in
       ! a12 ⊗ (! same one ⊖ ! same g) >>= λ _ _ m00.
       ! same half ⊗ ! a12 ⊗ ! b01 >>= λ _ _ m01.
       ⊝ ! same half ⊗ ! a12 ⊗ ! b02 ⊗ ! same g >>= λ _ _ m02.

@@ -25,15 +25,15 @@ noDivisor denominator = eq denominator plusZero || not (finite denominator)
 
 -- ---- the chart for u0.abs() < u1.abs(): the depths of a root, then the chart
 unfoldable pub firstChartDepths : SquaredEdges → Factors → Vector3 → Candidates → Float → Traced Candidates
-firstChartDepths edges b nullVector found tau =
+firstChartDepths squares factors nullVector found tau =
     let record { x = u0; y = u1; z = u2 } = nullVector in
     do
       -- let depth_denominator = tau * (tau + b02) + 1.0;
-      depthDenominator ← ! tau ⊗ (! tau ⊕ ! (b .b02)) ⊕ ! one
+      depthDenominator ← ! tau ⊗ (! tau ⊕ ! (factors .b02)) ⊕ ! one
       if le tau plusZero || le depthDenominator plusZero then pure found
           else do
             -- let depth0 = (a02 / depth_denominator).sqrt();
-            depth0 ← √ (! (edges .a02) ⊘ ! depthDenominator)
+            depth0 ← √ (! (squares .a02) ⊘ ! depthDenominator)
             -- let depth2 = tau * depth0;
             depth2 ← ! tau ⊗ ! depth0
             -- let depth1 = -(u0 * depth0 + u2 * depth2) / u1;
@@ -41,9 +41,9 @@ firstChartDepths edges b nullVector found tau =
             pure (pushIfPositive found depth1 (vector depth0 depth1 depth2))
 
 unfoldable pub firstChart : SquaredEdges → Factors → Vector3 → Candidates → Traced Candidates
-firstChart edges b nullVector found =
-    let record { a01 = a01; a02 = a02; a12 = a12 } = edges in
-    let record { b01 = b01; b02 = b02; b12 = b12 } = b in
+firstChart squares factors nullVector found =
+    let record { a01 = a01; a02 = a02; a12 = a12 } = squares in
+    let record { b01 = b01; b02 = b02; b12 = b12 } = factors in
     let record { x = u0; y = u1; z = u2 } = nullVector in
     do
       -- let denominator = (a12 - a01) * u2 * u2 - a01 * u1 * u1 + a01 * b12 * u1 * u2;
@@ -55,17 +55,17 @@ firstChart edges b nullVector found =
             -- ((a12 - a01) * u0 * u0 + a12 * u1 * u1 - a12 * b01 * u0 * u1) / denominator
             quadraticC ← ((! a12 ⊖ ! a01) ⊗ ! u0 ⊗ ! u0 ⊕ ! a12 ⊗ ! u1 ⊗ ! u1 ⊖ ! a12 ⊗ ! b01 ⊗ ! u0 ⊗ ! u1) ⊘ ! denominator
             roots ← quadraticRealMonic quadraticB quadraticC
-            forRoots roots (firstChartDepths edges b nullVector) found
+            forRoots roots (firstChartDepths squares factors nullVector) found
 
 -- ---- the other chart: the depths of a root, the chart from w0 and w1 on, and the chart
 unfoldable pub secondChartDepths : SquaredEdges → Factors → Float → Float → Candidates → Float → Traced Candidates
-secondChartDepths edges b w0 w1 found tau = do
+secondChartDepths squares factors w0 w1 found tau = do
   -- let depth_denominator = tau * (b12 + tau) + 1.0;
-  depthDenominator ← ! tau ⊗ (! (b .b12) ⊕ ! tau) ⊕ ! one
+  depthDenominator ← ! tau ⊗ (! (factors .b12) ⊕ ! tau) ⊕ ! one
   if le tau plusZero || le depthDenominator plusZero then pure found
       else do
         -- let depth1 = (a12 / depth_denominator).sqrt();
-        depth1 ← √ (! (edges .a12) ⊘ ! depthDenominator)
+        depth1 ← √ (! (squares .a12) ⊘ ! depthDenominator)
         -- let depth2 = tau * depth1;
         depth2 ← ! tau ⊗ ! depth1
         -- let depth0 = w0 * depth1 + w1 * depth2;
@@ -73,9 +73,9 @@ secondChartDepths edges b w0 w1 found tau = do
         pure (pushIfPositive found depth0 (vector depth0 depth1 depth2))
 
 unfoldable pub weightChart : SquaredEdges → Factors → Float → Float → Candidates → Traced Candidates
-weightChart edges b w0 w1 found =
-    let record { a01 = a01; a02 = a02; a12 = a12 } = edges in
-    let record { b01 = b01; b02 = b02; b12 = b12 } = b in
+weightChart squares factors w0 w1 found =
+    let record { a01 = a01; a02 = a02; a12 = a12 } = squares in
+    let record { b01 = b01; b02 = b02; b12 = b12 } = factors in
     do
       -- let denominator = (a02 - a01) * w1 * w1 - a01 * b02 * w1 - a01;
       denominator ← (! a02 ⊖ ! a01) ⊗ ! w1 ⊗ ! w1 ⊖ ! a01 ⊗ ! b02 ⊗ ! w1 ⊖ ! a01
@@ -86,10 +86,10 @@ weightChart edges b w0 w1 found =
             -- ((a02 - a01) * w0 * w0 + a02 * b01 * w0 + a02) / denominator
             quadraticC ← ((! a02 ⊖ ! a01) ⊗ ! w0 ⊗ ! w0 ⊕ ! a02 ⊗ ! b01 ⊗ ! w0 ⊕ ! a02) ⊘ ! denominator
             roots ← quadraticRealMonic quadraticB quadraticC
-            forRoots roots (secondChartDepths edges b w0 w1) found
+            forRoots roots (secondChartDepths squares factors w0 w1) found
 
 unfoldable pub secondChart : SquaredEdges → Factors → Vector3 → Candidates → Traced Candidates
-secondChart edges b nullVector found =
+secondChart squares factors nullVector found =
     let record { x = u0; y = u1; z = u2 } = nullVector in
     if noDivisor u0 then pure found
     else do
@@ -99,10 +99,10 @@ secondChart edges b nullVector found =
       -- let w1 = u2 * inverse;
       w0 ← ! u1 ⊗ ! inverse
       w1 ← ! u2 ⊗ ! inverse
-      weightChart edges b w0 w1 found
+      weightChart squares factors w0 w1 found
 
 -- if u0.abs() < u1.abs() { .. } else { .. }
 unfoldable pub chart : SquaredEdges → Factors → Vector3 → Candidates → Traced Candidates
-chart edges b nullVector found =
-    if lt (abs (nullVector .x)) (abs (nullVector .y)) then firstChart edges b nullVector found
-    else secondChart edges b nullVector found
+chart squares factors nullVector found =
+    if lt (abs (nullVector .x)) (abs (nullVector .y)) then firstChart squares factors nullVector found
+    else secondChart squares factors nullVector found

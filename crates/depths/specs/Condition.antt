@@ -1,5 +1,6 @@
 -- `leading_cubic_condition` of lambdatwist.rs: how large the leading coefficient of the cubic is beside the largest. The Rust computes s01, s12, s20 and then triple; `squaredSines` has the order of
 -- `solve_ordered`, triple first.
+use mathlib.Core.Bool.{not, _||_}
 use lib.Ieee.{Float, eq}
 use lib.Ieee.Scale.{finite}
 use Rattle.ieee754.specs.Literal.{plusZero}
@@ -17,15 +18,15 @@ foldedScale c = max (max (max (max plusZero (abs (c .cubic3))) (abs (c .cubic2))
 
 unfoldable pub leadingShare : Coefficients → Traced Float
 leadingShare c =
-    if eq (foldedScale c) plusZero then pure plusZero
-    else if finite (foldedScale c) then ! abs (c .cubic3) ⊘ ! foldedScale c
-    else pure plusZero
+    -- if scale == 0.0 || !scale.is_finite() { return 0.0; }
+    if eq (foldedScale c) plusZero || not (finite (foldedScale c)) then pure plusZero
+    else ! abs (c .cubic3) ⊘ ! foldedScale c
 
 unfoldable pub leadingCubicCondition : World → Bearings → Traced Float
 leadingCubicCondition world bearings = do
-  vectors ← edgeVectors world
-  edges ← squaredEdges vectors
+  edges ← edgeVectors world
+  squares ← squaredEdges edges
   bearingCosines ← cosines bearings
-  angles ← squaredSines bearingCosines
-  cubic ← cubicCoefficients edges angles
+  sines ← squaredSines bearingCosines
+  cubic ← cubicCoefficients squares sines
   leadingShare cubic

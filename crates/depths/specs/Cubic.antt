@@ -1,6 +1,6 @@
 -- The coefficients of the cubic whose root gives the singular matrix, and the test by which an ordering of the points is unusable: `solve_ordered` (lambdatwist.rs), from `let cubic3` to the retry,
 -- and document 01, question 2.
-use mathlib.Core.Bool.{Bool, true}
+use mathlib.Core.Bool.{Bool, true, not}
 use lib.Ieee.{Float, le}
 use lib.Ieee.Scale.{finite}
 use Rattle.ieee754.specs.Literal.{two, sixtyFour, epsilon}
@@ -10,9 +10,9 @@ use Rattle.ieee754.specs.Traced.{Traced, pure, _>>=_, if_then_else_, _⊗_, _�
 use Rattle.depths.specs.Types.{SquaredEdges, SquaredSines, Coefficients}
 
 unfoldable pub cubicCoefficients : SquaredEdges → SquaredSines → Traced Coefficients
-cubicCoefficients edges angles =
-    let record { a01 = a01; a02 = a02; a12 = a12 } = edges in
-    let record { triple = triple; s20 = s20; s12 = s12; s01 = s01 } = angles in
+cubicCoefficients squares sines =
+    let record { a01 = a01; a02 = a02; a12 = a12 } = squares in
+    let record { triple = triple; s20 = s20; s12 = s12; s01 = s01 } = sines in
     do
       -- a02 * (a12 * s20_squared - a02 * s12_squared)
       cubic3 ← ! a02 ⊗ (! a12 ⊗ ! s20 ⊖ ! a02 ⊗ ! s12)
@@ -31,7 +31,7 @@ coefficientScale c = max (max (max (abs (c .cubic3)) (abs (c .cubic2))) (abs (c 
 -- !coefficient_scale.is_finite() || cubic3.abs() <= coefficient_scale * f64::EPSILON * 64.0: the product is reached only where the scale is finite
 unfoldable pub isUnusable : Coefficients → Traced Bool
 isUnusable c =
-    if finite (coefficientScale c) then (do
+    if not (finite (coefficientScale c)) then pure true
+    else do
       limit ← ! coefficientScale c ⊗ ! epsilon ⊗ ! sixtyFour
-      pure (le (abs (c .cubic3)) limit))
-    else pure true
+      pure (le (abs (c .cubic3)) limit)

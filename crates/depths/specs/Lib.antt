@@ -3,7 +3,10 @@ pub mod Types
 pub mod Edges
 pub mod Angles
 pub mod Cubic
+pub mod Measure
 pub mod Condition
 pub mod Matrix
+pub mod RatioOf
 pub mod DepthSlots
 pub mod Charts
+pub mod Signs

@@ -9,9 +9,9 @@ use Rattle.depths.specs.Types.{Matrix3, SquaredEdges, Factors}
 --     0.5 * a12 * b01, a12 - a01 + a02 * g, 0.5 * b12 * (a02 * g - a01),
 --     -0.5 * a12 * b02 * g, 0.5 * b12 * (a02 * g - a01), g * (a02 - a12) - a01)
 unfoldable pub singularMatrix : SquaredEdges → Factors → Float → Traced Matrix3
-singularMatrix edges b g =
-    let record { a01 = a01; a02 = a02; a12 = a12 } = edges in
-    let record { b01 = b01; b02 = b02; b12 = b12 } = b in
+singularMatrix squares factors g =
+    let record { a01 = a01; a02 = a02; a12 = a12 } = squares in
+    let record { b01 = b01; b02 = b02; b12 = b12 } = factors in
     do
       m00 ← ! a12 ⊗ (! one ⊖ ! g)
       m01 ← ! half ⊗ ! a12 ⊗ ! b01

@@ -12,3 +12,6 @@ pub use Rattle.depths.specs.declared.angles.Factors.{Factors}
 pub use Rattle.depths.specs.declared.candidates.Candidates.{Candidates}
 pub use Rattle.depths.specs.declared.cubic.Coefficients.{Coefficients}
 pub use Rattle.depths.specs.declared.edges.EdgeVectors.{EdgeVectors}
+pub use Rattle.depths.specs.declared.measured.Measured.{Measured}
+pub use Rattle.depths.specs.declared.ratio.Ratio.{Ratio}
+pub use Rattle.depths.specs.declared.ratio.Ratio.the-variants.{Real, NotReal}

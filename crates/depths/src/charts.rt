@@ -16,33 +16,27 @@ use polynomial::quadratic::quadratic_real_monic;
 pub fn no_divisor(denominator: f64) -> bool
     ensures { λ r. ⌜ r ≡ noDivisor denominator ⌝ }
 {
-    if denominator == 0.0 {
-        return true;
-    }
-    !is_finite(denominator)
+    (denominator == 0.0) | !is_finite(denominator)
 }
 
 // One root of the first chart's quadratic.
 pub fn first_chart_depths(
-    edges: SquaredEdges,
-    b: Factors,
+    squares: SquaredEdges,
+    factors: Factors,
     u: Vector3,
     found: Candidates,
     tau: f64,
 ) -> Candidates
-    ensures { λ r. ⌜ r ≡ firstChartDepths edges b u found tau .value ⌝ }
+    ensures { λ r. ⌜ r ≡ firstChartDepths squares factors u found tau .value ⌝ }
 {
     let u0 = u.x;
     let u1 = u.y;
     let u2 = u.z;
-    let depth_denominator = tau * (tau + b.b02) + 1.0;
-    if tau <= 0.0 {
+    let depth_denominator = tau * (tau + factors.b02) + 1.0;
+    if (tau <= 0.0) | (depth_denominator <= 0.0) {
         return found;
     }
-    if depth_denominator <= 0.0 {
-        return found;
-    }
-    let depth0 = sqrt(edges.a02 / depth_denominator);
+    let depth0 = sqrt(squares.a02 / depth_denominator);
     let depth2 = tau * depth0;
     let depth1 = -(u0 * depth0 + u2 * depth2) / u1;
     let depths = Vector3 {
@@ -53,13 +47,18 @@ pub fn first_chart_depths(
     found.push_if_positive(depth1, depths)
 }
 
-pub fn first_chart(edges: SquaredEdges, b: Factors, u: Vector3, found: Candidates) -> Candidates
-    ensures { λ r. ⌜ r ≡ firstChart edges b u found .value ⌝ }
+pub fn first_chart(
+    squares: SquaredEdges,
+    factors: Factors,
+    u: Vector3,
+    found: Candidates,
+) -> Candidates
+    ensures { λ r. ⌜ r ≡ firstChart squares factors u found .value ⌝ }
 {
-    let a01 = edges.a01;
-    let a12 = edges.a12;
-    let b01 = b.b01;
-    let b12 = b.b12;
+    let a01 = squares.a01;
+    let a12 = squares.a12;
+    let b01 = factors.b01;
+    let b12 = factors.b12;
     let u0 = u.x;
     let u1 = u.y;
     let u2 = u.z;
@@ -73,29 +72,26 @@ pub fn first_chart(edges: SquaredEdges, b: Factors, u: Vector3, found: Candidate
     let Roots::Two(first, second) = quadratic_real_monic(quadratic_b, quadratic_c) else {
         return found;
     };
-    let once = first_chart_depths(edges, b, u, found, first);
-    first_chart_depths(edges, b, u, once, second)
+    let once = first_chart_depths(squares, factors, u, found, first);
+    first_chart_depths(squares, factors, u, once, second)
 }
 
 // One root of the second chart's quadratic.
 pub fn second_chart_depths(
-    edges: SquaredEdges,
-    b: Factors,
+    squares: SquaredEdges,
+    factors: Factors,
     w0: f64,
     w1: f64,
     found: Candidates,
     tau: f64,
 ) -> Candidates
-    ensures { λ r. ⌜ r ≡ secondChartDepths edges b w0 w1 found tau .value ⌝ }
+    ensures { λ r. ⌜ r ≡ secondChartDepths squares factors w0 w1 found tau .value ⌝ }
 {
-    let depth_denominator = tau * (b.b12 + tau) + 1.0;
-    if tau <= 0.0 {
+    let depth_denominator = tau * (factors.b12 + tau) + 1.0;
+    if (tau <= 0.0) | (depth_denominator <= 0.0) {
         return found;
     }
-    if depth_denominator <= 0.0 {
-        return found;
-    }
-    let depth1 = sqrt(edges.a12 / depth_denominator);
+    let depth1 = sqrt(squares.a12 / depth_denominator);
     let depth2 = tau * depth1;
     let depth0 = w0 * depth1 + w1 * depth2;
     let depths = Vector3 {
@@ -108,18 +104,18 @@ pub fn second_chart_depths(
 
 // The second chart, by the weights w0 and w1.
 pub fn weight_chart(
-    edges: SquaredEdges,
-    b: Factors,
+    squares: SquaredEdges,
+    factors: Factors,
     w0: f64,
     w1: f64,
     found: Candidates,
 ) -> Candidates
-    ensures { λ r. ⌜ r ≡ weightChart edges b w0 w1 found .value ⌝ }
+    ensures { λ r. ⌜ r ≡ weightChart squares factors w0 w1 found .value ⌝ }
 {
-    let a01 = edges.a01;
-    let a02 = edges.a02;
-    let b01 = b.b01;
-    let b02 = b.b02;
+    let a01 = squares.a01;
+    let a02 = squares.a02;
+    let b01 = factors.b01;
+    let b02 = factors.b02;
     let denominator = (a02 - a01) * w1 * w1 - a01 * b02 * w1 - a01;
     if no_divisor(denominator) {
         return found;
@@ -129,12 +125,17 @@ pub fn weight_chart(
     let Roots::Two(first, second) = quadratic_real_monic(quadratic_b, quadratic_c) else {
         return found;
     };
-    let once = second_chart_depths(edges, b, w0, w1, found, first);
-    second_chart_depths(edges, b, w0, w1, once, second)
+    let once = second_chart_depths(squares, factors, w0, w1, found, first);
+    second_chart_depths(squares, factors, w0, w1, once, second)
 }
 
-pub fn second_chart(edges: SquaredEdges, b: Factors, u: Vector3, found: Candidates) -> Candidates
-    ensures { λ r. ⌜ r ≡ secondChart edges b u found .value ⌝ }
+pub fn second_chart(
+    squares: SquaredEdges,
+    factors: Factors,
+    u: Vector3,
+    found: Candidates,
+) -> Candidates
+    ensures { λ r. ⌜ r ≡ secondChart squares factors u found .value ⌝ }
 {
     let u0 = u.x;
     let u1 = u.y;
@@ -145,14 +146,14 @@ pub fn second_chart(edges: SquaredEdges, b: Factors, u: Vector3, found: Candidat
     let inverse = -(1.0 / u0);
     let w0 = u1 * inverse;
     let w1 = u2 * inverse;
-    weight_chart(edges, b, w0, w1, found)
+    weight_chart(squares, factors, w0, w1, found)
 }
 
-pub fn chart(edges: SquaredEdges, b: Factors, u: Vector3, found: Candidates) -> Candidates
-    ensures { λ r. ⌜ r ≡ chart edges b u found .value ⌝ }
+pub fn chart(squares: SquaredEdges, factors: Factors, u: Vector3, found: Candidates) -> Candidates
+    ensures { λ r. ⌜ r ≡ chart squares factors u found .value ⌝ }
 {
     if abs(u.x) < abs(u.y) {
-        return first_chart(edges, b, u, found);
+        return first_chart(squares, factors, u, found);
     }
-    second_chart(edges, b, u, found)
+    second_chart(squares, factors, u, found)
 }

@@ -27,10 +27,7 @@ pub fn leading_share(c: Coefficients) -> f64
     ensures { λ r. ⌜ r ≡ leadingShare c .value ⌝ }
 {
     let scale = folded_scale(c);
-    if scale == 0.0 {
-        return 0.0;
-    }
-    if !is_finite(scale) {
+    if (scale == 0.0) | !is_finite(scale) {
         return 0.0;
     }
     abs(c.cubic3) / scale
@@ -39,7 +36,7 @@ pub fn leading_share(c: Coefficients) -> f64
 pub fn leading_cubic_condition(world: World, bearings: Bearings) -> f64
     ensures { λ r. ⌜ r ≡ leadingCubicCondition world bearings .value ⌝ }
 {
-    let edges = squared_edges(edge_vectors(world));
-    let angles = squared_sines(cosines(bearings));
-    leading_share(cubic_coefficients(edges, angles))
+    let squares = squared_edges(edge_vectors(world));
+    let sines = squared_sines(cosines(bearings));
+    leading_share(cubic_coefficients(squares, sines))
 }

@@ -16,12 +16,12 @@ pub struct Coefficients {
     pub cubic0: f64,
 }
 
-pub fn cubic_coefficients(edges: SquaredEdges, sines: SquaredSines) -> Coefficients
-    ensures { λ r. ⌜ r ≡ cubicCoefficients edges sines .value ⌝ }
+pub fn cubic_coefficients(squares: SquaredEdges, sines: SquaredSines) -> Coefficients
+    ensures { λ r. ⌜ r ≡ cubicCoefficients squares sines .value ⌝ }
 {
-    let a01 = edges.a01;
-    let a02 = edges.a02;
-    let a12 = edges.a12;
+    let a01 = squares.a01;
+    let a02 = squares.a02;
+    let a12 = squares.a12;
     let triple = sines.triple;
     let s20 = sines.s20;
     let s12 = sines.s12;

@@ -6,15 +6,15 @@ use crate::angles::Factors;
 use frames::squared_edges::SquaredEdges;
 use linalg::matrix3::Matrix3;
 
-pub fn singular_matrix(edges: SquaredEdges, b: Factors, g: f64) -> Matrix3
-    ensures { λ r. ⌜ r ≡ singularMatrix edges b g .value ⌝ }
+pub fn singular_matrix(squares: SquaredEdges, factors: Factors, g: f64) -> Matrix3
+    ensures { λ r. ⌜ r ≡ singularMatrix squares factors g .value ⌝ }
 {
-    let a01 = edges.a01;
-    let a02 = edges.a02;
-    let a12 = edges.a12;
-    let b01 = b.b01;
-    let b02 = b.b02;
-    let b12 = b.b12;
+    let a01 = squares.a01;
+    let a02 = squares.a02;
+    let a12 = squares.a12;
+    let b01 = factors.b01;
+    let b02 = factors.b02;
+    let b12 = factors.b12;
     let m01 = 0.5 * a12 * b01;
     let m02 = -0.5 * a12 * b02 * g;
     let m12 = 0.5 * b12 * (a02 * g - a01);

@@ -1,17 +1,14 @@
--- The eigenvalues are at degree 2: the quadratic of which they are roots has its coefficients at 2 and 4. Their ratio is equal in the two runs. Assumes nothing.
-use mathlib.Core.Path.{_≡_, refl, ap}
+-- The eigenvalues are at degree 2: the quadratic of which they are roots has its coefficients at 2 and 4. Assumes nothing.
 use lib.IntN.{ℤ, pos}
 use lib.Ieee.{Float}
-use Rattle.ieee754.specs.Literal.{sixtyFour, epsilon}
 use Rattle.ieee754.specs.Scaling.{Both, At, Scales}
-use Rattle.ieee754.proofs.Degrees.{same, null, at-zero, !_, ⊝_, √_, _⊗_, _⊘_, _⊕_, _⊖_, pure, _>>=_, if_then_else_, choose, abs-at, max-at, lt-same, eq-same, finite-same}
+use Rattle.ieee754.proofs.Degrees.{null, !_, ⊝_, _⊗_, _⊕_, _⊖_, pure, _>>=_, choose, abs-at, lt-same, eq-same}
 use Rattle.linalg.specs.VectorScaling.{AtMatrix}
 use Rattle.linalg.proofs.MatrixDegrees.{trace-scales}
 use Rattle.polynomial.specs.RootScaling.{AtRoots, two-at, one-at, refused-at}
 use Rattle.polynomial.proofs.QuadraticScaling.{quadratic-scales}
 use Rattle.eigen.specs.EigenPair.{pairCoefficient, nonzeroPair, byMagnitude, pairOfRoots, eigenvaluePair}
-use Rattle.eigen.specs.RatioOf.{ratioOf}
-use Rattle.eigen.specs.Types.{Matrix3, Roots, Eigenvalues, Pair, NoPair, Ratio, Real, NotReal}
+use Rattle.eigen.specs.Types.{Matrix3, Roots, Eigenvalues, Pair, NoPair}
 
 pub data AtEigenvalues (k : ℤ) : Eigenvalues → Eigenvalues → Type 0 where
   pair-at : {x x' y y' : Float} → At k (pos 2) x x' → At k (pos 2) y y' → AtEigenvalues k (Pair x y) (Pair x' y')
@@ -45,15 +42,3 @@ module _ {k : ℤ} where
         pairCoefficient-scales >>= λ _ _ pairTerm.
         quadratic-scales traceCoefficient pairTerm >>= λ _ _ roots.
         pure (pairOfRoots-at roots)
-
-  pub ratioOf-same : {x x' y y' : Float} → At k (pos 2) x x' → At k (pos 2) y y' → Both {A = Ratio} _≡_ (ratioOf x y) (ratioOf x' y')
-  unfolding ratioOf
-  ratioOf-same first second =
-      ⊝ ! second ⊘ ! first >>= λ _ _ ratioSquared.
-      if finite-same ratioSquared then (
-      ⊝ ! same epsilon ⊗ ! same sixtyFour >>= λ _ _ limit.
-      if lt-same ratioSquared limit then pure (refl {a = NotReal})
-      else (
-      √_ {n = pos 0} (! max-at ratioSquared null) >>= λ _ _ ratio.
-      pure (ap Real (at-zero ratio))))
-      else pure (refl {a = NotReal})

@@ -5,4 +5,3 @@ pub mod ZeroVector
 pub mod EigenPair
 pub mod EigenvectorOf
 pub mod KnownZero
-pub mod RatioOf

@@ -10,7 +10,5 @@ pub use Rattle.eigen.specs.declared.eigenvalues.Eigenvalues.the-variants
 pub use Rattle.eigen.specs.declared.eigenvector.Precomputed.{Precomputed}
 pub use Rattle.eigen.specs.declared.known_zero.Eigensystem.{Eigensystem}
 pub use Rattle.eigen.specs.declared.known_zero.Eigensystem.the-variants.{Found, NotFound}
-pub use Rattle.eigen.specs.declared.ratio.Ratio.{Ratio}
-pub use Rattle.eigen.specs.declared.ratio.Ratio.the-variants.{Real, NotReal}
 pub use Rattle.eigen.specs.declared.row_crosses.Eigenvector.{Eigenvector}
 pub use Rattle.eigen.specs.declared.row_crosses.Eigenvector.the-variants.{Unit, Missing}

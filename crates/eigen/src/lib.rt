@@ -4,6 +4,5 @@
 pub mod eigenvalues;
 pub mod eigenvector;
 pub mod known_zero;
-pub mod ratio;
 pub mod row_crosses;
 pub mod zero_vector;

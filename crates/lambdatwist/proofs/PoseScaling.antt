@@ -23,21 +23,6 @@ use Rattle.lambdatwist.specs.Types.{Vector3, Matrix3, World, Bearings, S
 use Rattle.depths.proofs.ChartScaling.{AtCandidates, noCandidates-at, chart-scales}
 
 module _ {k : ℤ} where
-  -- ---- the candidates of either sign of the ratio
-  module _ {e e' : SquaredEdges} (b : Factors) (E : AtEdges k e e') where
-    signTurn-scales : (eigenvectors : Matrix3) (sign : Float) {c c' : Candidates} → AtCandidates k c c' → Both (AtCandidates k) (signTurn e b eigenvectors sign c) (signTurn e' b eigenvectors sign c')
-    unfolding signTurn
-    signTurn-scales eigenvectors sign found =
-        alike {m = vecMul (column1 eigenvectors) sign} >>≡ λ scaled.
-        alike {m = vecSub (column0 eigenvectors) scaled} >>≡ λ nullVector.
-        chart-scales b E nullVector found
-
-    pub candidates-scales : (eigenvectors : Matrix3) (ratio : Float) → Both (AtCandidates k) (candidates e b eigenvectors ratio) (candidates e' b eigenvectors ratio)
-    unfolding candidates
-    candidates-scales eigenvectors ratio =
-        signTurn-scales eigenvectors ratio noCandidates-at >>= λ _ _ once.
-        signTurn-scales eigenvectors (neg ratio) once
-
   -- ---- the poses
   allPositive-same : {d d' : Vector3} → AtVector k (pos 1) d d' → allPositive d ≡ allPositive d'
   unfolding allPositive

@@ -16,19 +16,6 @@ use Rattle.depths.specs.Charts.{chart}
 use Rattle.depths.specs.DepthSlots.{noCandidates}
 use Rattle.lambdatwist.specs.Types.{Vector3, Matrix3, SquaredEdges, Cosines, Refined, Solutions, Factors, Candidates, View}
 
--- the turn of one sign: let null_vector = eigenvectors.column(0) - sign * eigenvectors.column(1); with the factors of the product exchanged
-unfoldable pub signTurn : SquaredEdges → Factors → Matrix3 → Float → Candidates → Traced Candidates
-signTurn edges b eigenvectors sign found = do
-  scaled ← vecMul (column1 eigenvectors) sign
-  nullVector ← vecSub (column0 eigenvectors) scaled
-  chart edges b nullVector found
-
--- for sign in [ratio, -ratio] { .. }
-unfoldable pub candidates : SquaredEdges → Factors → Matrix3 → Float → Traced Candidates
-candidates edges b eigenvectors ratio = do
-  once ← signTurn edges b eigenvectors ratio noCandidates
-  signTurn edges b eigenvectors (neg ratio) once
-
 -- !depth.iter().any(|value| !value.is_finite() || *value <= 0.0)
 unfoldable pub allPositive : Vector3 → Bool
 allPositive d = allFinite d && (not (le (d .x) plusZero) && (not (le (d .y) plusZero) && not (le (d .z) plusZero)))

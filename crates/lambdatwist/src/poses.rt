@@ -25,29 +25,6 @@ pub struct View {
     pub bearings: Bearings,
 }
 
-// The turn of one sign of the ratio.
-pub fn sign_turn(
-    edges: SquaredEdges,
-    b: Factors,
-    vectors: Matrix3,
-    sign: f64,
-    found: Candidates,
-) -> Candidates
-    ensures { λ r. ⌜ r ≡ signTurn edges b vectors sign found .value ⌝ }
-{
-    let column0 = vectors.column0();
-    let column1 = vectors.column1();
-    let null = column0.sub(column1.mul(sign));
-    chart(edges, b, null, found)
-}
-
-pub fn candidates(edges: SquaredEdges, b: Factors, vectors: Matrix3, ratio: f64) -> Candidates
-    ensures { λ r. ⌜ r ≡ candidates edges b vectors ratio .value ⌝ }
-{
-    let once = sign_turn(edges, b, vectors, ratio, Candidates::none());
-    sign_turn(edges, b, vectors, -ratio, once)
-}
-
 pub fn all_positive(d: Vector3) -> bool
     ensures { λ r. ⌜ r ≡ allPositive d ⌝ }
 {

@@ -6,11 +6,15 @@ use Rattle.depths.proofs.charts.chart.Tie as tie
 
 returns : tie.Need-returns
 unfolding chart
-returns c = rw (← c .before .before .before .abs .ensures, ← c .before .before .abs2 .ensures, c .before .if1 .taken, ← c .first-chart .ensures)
+returns c =
+    let tested = c .before in
+    rw (← tested .before .before .abs .ensures, ← tested .before .abs2 .ensures, tested .if1 .taken, ← c .first-chart .ensures)
 
 returns-2 : tie.Need-returns-2
 unfolding chart
-returns-2 c = rw (← c .before .before .before .abs .ensures, ← c .before .before .abs2 .ensures, c .before .if1 .left, ← c .second-chart .ensures)
+returns-2 c =
+    let tested = c .before in
+    rw (← tested .before .before .abs .ensures, ← tested .before .abs2 .ensures, tested .if1 .left, ← c .second-chart .ensures)
 
 pub chart-spec : {M : Type 1} → statement M
 chart-spec =

@@ -6,16 +6,30 @@ use Rattle.depths.proofs.charts.weight_chart.Statement.{statement}
 use Rattle.depths.proofs.charts.weight_chart.Tie as tie
 
 returns : tie.Need-returns
-unfolding weightChart forRoots
+unfolding weightChart
 returns c = rw (← c .before .no-divisor .ensures, c .if1 .taken)
 
 returns-2 : tie.Need-returns-2
-unfolding weightChart forRoots
-returns-2 c = rw (← c .before .before .before .no-divisor .ensures, c .before .before .if1 .left, ← c .before .quadratic-real-monic .ensures) (no-turns (c .before .quadratic-real-monic .result) _ _ (c .match .keys2))
+unfolding weightChart
+returns-2 c =
+    let divides = c .before .before in
+    rw (← divides .before .no-divisor .ensures, divides .if1 .left, ← c .before .quadratic-real-monic .ensures)
+    (no-turns (c .before .quadratic-real-monic .result) _ _ (c .match .keys2))
 
 returns-3 : tie.Need-returns-3
 unfolding weightChart forRoots
-returns-3 c = rw (← c .before .before .before .before .before .before .before .no-divisor .ensures, c .before .before .before .before .before .before .if1 .left, ← c .before .before .before .before .before .quadratic-real-monic .ensures, c .before .before .before .first .given .1, ← c .before .second-chart-depths .ensures, ← c .second-chart-depths2 .ensures)
+returns-3 c =
+    let told = c .before .before .before in
+    let roots = told .before .before in
+    let divides = roots .before in
+    rw (
+      ← divides .before .no-divisor .ensures,
+      divides .if1 .left,
+      ← roots .quadratic-real-monic .ensures,
+      told .first .given .1,
+      ← c .before .second-chart-depths .ensures,
+      ← c .second-chart-depths2 .ensures,
+    )
 
 pub weight-chart-spec : {M : Type 1} → statement M
 weight-chart-spec =

@@ -1,7 +1,7 @@
 // The square root of minus the second eigenvalue over the first, with either sign of which a null vector is made: solve_ordered
 // (lambdatwist.rs), from `let ratio_squared` on.
 ghost use mathlib.Core.Path.{_≡_};
-ghost use Rattle.eigen.specs.RatioOf.{ratioOf};
+ghost use Rattle.depths.specs.RatioOf.{ratioOf};
 use ieee754::is_finite::is_finite;
 use ieee754::literal::EPSILON;
 use ieee754::max::max;

@@ -1,8 +1,8 @@
--- `lambdatwist::poses::sign_turn` meets its contract. Assumes nothing.
+-- `depths::signs::sign_turn` meets its contract. Assumes nothing.
 use borrow.Author.Needs.{needs}
-use Rattle.lambdatwist.specs.Poses.{signTurn}
-use Rattle.lambdatwist.proofs.poses.sign_turn.Statement.{statement}
-use Rattle.lambdatwist.proofs.poses.sign_turn.Tie as tie
+use Rattle.depths.specs.Signs.{signTurn}
+use Rattle.depths.proofs.signs.sign_turn.Statement.{statement}
+use Rattle.depths.proofs.signs.sign_turn.Tie as tie
 
 returns : tie.Need-returns
 unfolding signTurn

@@ -1,0 +1,13 @@
+-- `depths::measured::measure` meets its contract. Assumes nothing.
+use borrow.Author.Needs.{needs}
+use Rattle.depths.specs.Measure.{measure}
+use Rattle.depths.proofs.measured.measure.Statement.{statement}
+use Rattle.depths.proofs.measured.measure.Tie as tie
+
+returns : tie.Need-returns
+unfolding measure
+returns c = cc
+
+pub measure-spec : {M : Type 1} → statement M
+measure-spec =
+    tie.close (tie.spec (λ c _. search needs) (λ c _. search needs) (λ c _. search needs) (λ c _. search needs) returns)
