@@ -7,14 +7,32 @@ use native.Mathlib.Omega.{arith}
 use lib.ListN.{length, getD, take, drop, length-take, drop-of-length-le}
 use lib.Seq.{drop-cons, getD-take}
 use Rattle.lambdatwist.specs.Poses.{poseTurn, poseTurns}
-use Rattle.lambdatwist.specs.Types.{Vector3, Matrix3, SquaredEdges, Cosines, Solutions, View}
+use Rattle.lambdatwist.specs.Types.{Vector3, Matrix3, P3pInput, Measured, Solutions}
 
-module _ (view : View) (edges : SquaredEdges) (cosines : Cosines) (inverse : Matrix3) (count : ℕ) (depths : List Vector3) (at : ℕ) (output : Solutions) where
-  pub turns-end : min count (length depths) ≤ at → output ≡ poseTurns view edges cosines inverse (drop at (take count depths)) output .value
-  unfolding poseTurns
-  turns-end h = let short : length (take count depths) ≤ at = simp length-take h in rw (drop-of-length-le (take count depths) {i = at} short)
+module _
+    (input : P3pInput)
+    (measured : Measured)
+    (inverse : Matrix3)
+    (count : ℕ)
+    (depths : List Vector3)
+    (at : ℕ)
+    (output : Solutions)
+  where
+    abbrev turns : List Vector3 → Solutions → Solutions
+    turns rest so-far = poseTurns input measured inverse rest so-far .value
 
-  pub turns-go : (d : Vector3) → at < count → at < length depths
-      → poseTurns view edges cosines inverse (drop (at + 1) (take count depths)) (poseTurn view edges cosines inverse output (getD depths at d) .value) .value ≡ poseTurns view edges cosines inverse (drop at (take count depths)) output .value
-  unfolding poseTurns
-  turns-go d h g = let inside : at < length (take count depths) = simp length-take (omega arith) in rw (drop-cons (take count depths) at d, getD-take, add-one at)
+    pub turns-end : min count (length depths) ≤ at → output ≡ turns (drop at (take count depths)) output
+    unfolding poseTurns
+    turns-end h =
+        let short : length (take count depths) ≤ at = simp length-take h in
+        rw (drop-of-length-le (take count depths) {i = at} short)
+
+    pub turns-go : (d : Vector3)
+        → at < count
+        → at < length depths
+        → turns (drop (at + 1) (take count depths)) (poseTurn input measured inverse output (getD depths at d) .value)
+        ≡ turns (drop at (take count depths)) output
+    unfolding poseTurns
+    turns-go d h g =
+        let inside : at < length (take count depths) = simp length-take (omega arith) in
+        rw (drop-cons (take count depths) at d, getD-take, add-one at)

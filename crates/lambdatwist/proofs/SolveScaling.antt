@@ -1,6 +1,6 @@
 -- The solve of two runs whose worlds are at degree 1 and whose bearings are equal: answers alike, with the rotations, counts and refusals equal and the translations at degree 1. Assumes nothing.
 use mathlib.Core.Path.{_≡_, refl, ap, subst}
-use mathlib.Core.Bool.{_&&_}
+use mathlib.Core.Bool.{not, _&&_}
 use mathlib.Core.List.{Forall₂}
 use Prim.Native.Nat.{ℕ, zero, suc}
 use lib.Dec.{eqb}
@@ -10,27 +10,29 @@ use Rattle.ieee754.specs.Literal.{sixtyFour, epsilon}
 use Rattle.ieee754.specs.Traced as traced
 use Rattle.ieee754.specs.Traced.{Traced}
 use Rattle.ieee754.specs.Scaling.{Both}
-use Rattle.ieee754.proofs.Degrees.{same, at-zero, !_, _⊗_, _⊘_, pure, _>>=_, _>>≡_, if_then_else_, choose, alike, equal}
-use Rattle.linalg.specs.VectorScaling.{AtVector, AtRows}
+use Rattle.ieee754.proofs.Degrees.{same, at-zero, !_, _⊗_, _⊘_, pure, _>>=_, _>>≡_, if_then_else_, choose, equal}
+use Rattle.linalg.specs.VectorScaling.{AtVector, AtRows, AtMatrix}
 use Rattle.linalg.specs.Vectors.{allFinite}
 use Rattle.linalg.proofs.VectorDegrees.{allFinite-same}
 use Rattle.polynomial.specs.RootScaling.{AtRoots, two-at, one-at, refused-at}
 use Rattle.polynomial.proofs.CubicScaling.{cubic-scales}
 use Rattle.p3p_common.specs.Input.{inputFinite}
-use Rattle.frames.specs.FrameScaling.{AtWorld, AtEdges, AtPose}
+use Rattle.frames.specs.FrameScaling.{AtWorld, AtPose}
 use Rattle.p3p_common.specs.PoseScaling.{AtInput, AtBasis, inverse-at, singular-at, AtSolutions}
 use Rattle.p3p_common.proofs.BasisScaling.{worldBasisInverse-scales}
 use Rattle.p3p_common.proofs.SlotScaling.{empty-scales}
-use Rattle.depths.specs.Angles.{cosines, squaredSines, bearingFactors}
 use Rattle.lambdatwist.specs.Solve.{answered, refused, ifKept, orNoRoot, orNoSystem, orNoRatio, orSingular, solveCandidates, solveRoot, solveCubic, orderedOr, bestOr, solveOrdered, solve}
-use Rattle.lambdatwist.specs.Types.{Vector3, Matrix3, Roots, World, Bearings, SquaredEdges, Cosines, P3pInput, Basis, Solutions, EdgeVectors, Factors, Coefficients, Candidates, Eigensystem, Ratio, Real, NotReal, View, Answer}
-use Rattle.depths.proofs.EdgeScaling.{AtEdgeVectors, edgeVectors-scales, squaredEdges-scales}
-use Rattle.depths.proofs.CubicScaling.{AtCoefficients, cubicCoefficients-scales, isUnusable-same}
+use Rattle.lambdatwist.specs.Types.{Vector3, Matrix3, Roots, World, Bearings, P3pInput, Basis, Solutions, Factors, Measured, Coefficients, Candidates, Eigensystem, Ratio, Real, NotReal, Answer}
+use Rattle.depths.proofs.CubicScaling.{AtCoefficients, isUnusable-same}
+use Rattle.depths.proofs.MeasureScaling.{AtMeasured, measure-scales, measuredCubic-scales}
+use Rattle.depths.specs.Matrix.{singularMatrix}
+use Rattle.depths.specs.Signs.{candidates}
 use Rattle.depths.proofs.MatrixScaling.{singularMatrix-scales}
-use Rattle.eigen.proofs.EigenvalueScaling.{ratioOf-same}
+use Rattle.depths.proofs.RatioScaling.{ratioOf-same}
 use Rattle.eigen.proofs.SystemScaling.{AtSystem, found-at, not-found, eigWithKnownZero-scales}
 use Rattle.depths.proofs.ChartScaling.{AtCandidates}
-use Rattle.lambdatwist.proofs.PoseScaling.{candidates-scales, poses-scales}
+use Rattle.depths.proofs.SignScaling.{candidates-scales}
+use Rattle.lambdatwist.proofs.PoseScaling.{poses-scales}
 use Rattle.lambdatwist.proofs.PermutationScaling.{bestPermutation-scales}
 
 pub record AtAnswer (k : ℤ) (a a' : Answer) : Type 0 where
@@ -78,53 +80,66 @@ module _ {k : ℤ} where
   orSingular-scales singular-at next = pure (refused-alike 3)
 
   -- ---- the stages of the ordered solve
-  module _ {input input' : P3pInput} {world world' : World} (bearings : Bearings) (I : AtInput k input input') (W : AtWorld k world world') where
-    abbrev view : View
-    view = record { input = input; world = world; bearings = bearings }
-
-    abbrev view' : View
-    view' = record { input = input'; world = world'; bearings = bearings }
-
-    module _ {v v' : EdgeVectors} {e e' : SquaredEdges} (bearingCosines : Cosines) (D : AtEdgeVectors k v v') (E : AtEdges k e e') where
-      solveCandidates-scales : {c c' : Candidates} → AtCandidates k c c' → Both (AtAnswer k) (solveCandidates view v e bearingCosines c) (solveCandidates view' v' e' bearingCosines c')
+  module _ {input input' : P3pInput} (I : AtInput k input input') where
+    module _ {m m' : Measured} (M : AtMeasured k m m') where
+      solveCandidates-scales : {c c' : Candidates}
+          → AtCandidates k c c'
+          → Both (AtAnswer k) (solveCandidates input m c) (solveCandidates input' m' c')
       unfolding solveCandidates
       solveCandidates-scales found =
-          worldBasisInverse-scales (D .d01) (D .d02) >>= λ _ _ basis.
+          worldBasisInverse-scales (M .d01) (M .d02) >>= λ _ _ basis.
           orSingular-scales basis (λ _ _ worldInverse.
-          poses-scales bearings I W worldInverse bearingCosines E found >>= λ _ _ solutions.
+          poses-scales I M worldInverse found >>= λ _ _ solutions.
           pure (ifKept-at solutions))
 
-      solveRoot-scales : (b : Factors) (g : Float) → Both (AtAnswer k) (solveRoot view v e bearingCosines b g) (solveRoot view' v' e' bearingCosines b g)
+      -- the factors are equal, so they may be taken of either run
+      matrix-scales : (g : Float)
+          → Both (AtMatrix k (pos 2)) (singularMatrix (m .squares) (m .factors) g) (singularMatrix (m' .squares) (m' .factors) g)
+      matrix-scales g =
+          subst (λ (b : Factors). Both (AtMatrix k (pos 2)) (singularMatrix (m .squares) (m .factors) g) (singularMatrix (m' .squares) b g))
+          (M .factors)
+          (singularMatrix-scales (m .factors) g (M .squares))
+
+      found-scales : (e : Matrix3) (ratio : Float)
+          → Both (AtCandidates k) (candidates (m .squares) (m .factors) e ratio) (candidates (m' .squares) (m' .factors) e ratio)
+      found-scales e ratio =
+          subst (λ (b : Factors). Both (AtCandidates k) (candidates (m .squares) (m .factors) e ratio) (candidates (m' .squares) b e ratio))
+          (M .factors)
+          (candidates-scales (m .factors) (M .squares) e ratio)
+
+      solveRoot-scales : (g : Float) → Both (AtAnswer k) (solveRoot input m g) (solveRoot input' m' g)
       unfolding solveRoot
-      solveRoot-scales b g =
-          singularMatrix-scales b g E >>= λ _ _ matrix.
+      solveRoot-scales g =
+          matrix-scales g >>= λ _ _ matrix.
           eigWithKnownZero-scales matrix >>= λ _ _ system.
-          orNoSystem-scales system (λ eigenvectors _ _ values.
-          ratioOf-same (values .x) (values .y) >>≡ λ ratio.
+          orNoSystem-scales system (λ eigenvectors _ _ eigenvalues.
+          ratioOf-same (eigenvalues .x) (eigenvalues .y) >>≡ λ ratio.
           orNoRatio-scales ratio (λ real.
-          candidates-scales b E eigenvectors real >>= λ _ _ found.
+          found-scales eigenvectors real >>= λ _ _ found.
           solveCandidates-scales found))
 
-      solveCubic-scales : (b : Factors) {c c' : Coefficients} → AtCoefficients k c c' → Both (AtAnswer k) (solveCubic view v e bearingCosines b c) (solveCubic view' v' e' bearingCosines b c')
+      solveCubic-scales : {c c' : Coefficients}
+          → AtCoefficients k c c'
+          → Both (AtAnswer k) (solveCubic input m c) (solveCubic input' m' c')
       unfolding solveCubic
-      solveCubic-scales b c =
+      solveCubic-scales c =
           ! (c .cubic2) ⊘ ! (c .cubic3) >>= λ _ _ c2.
           ! (c .cubic1) ⊘ ! (c .cubic3) >>= λ _ _ c1.
           ! (c .cubic0) ⊘ ! (c .cubic3) >>= λ _ _ c0.
           cubic-scales c2 c1 c0 >>= λ _ _ root.
-          orNoRoot-scales root (solveRoot-scales b)
+          orNoRoot-scales root solveRoot-scales
 
-    orderedOr-scales : (retry : P3pInput → Traced Answer) → Both (AtAnswer k) (retry input) (retry input') → Both (AtAnswer k) (orderedOr retry view) (orderedOr retry view')
+    orderedOr-scales : {world world' : World} (bearings : Bearings)
+        → AtWorld k world world'
+        → (retry : P3pInput → Traced Answer)
+        → Both (AtAnswer k) (retry input) (retry input')
+        → Both (AtAnswer k) (orderedOr retry input world bearings) (orderedOr retry input' world' bearings)
     unfolding orderedOr
-    orderedOr-scales retry again =
-        edgeVectors-scales W >>= λ _ _ vectors.
-        squaredEdges-scales vectors >>= λ _ _ edges.
-        alike {m = cosines bearings} >>≡ λ bearingCosines.
-        alike {m = squaredSines bearingCosines} >>≡ λ angles.
-        alike {m = bearingFactors bearingCosines} >>≡ λ b.
-        cubicCoefficients-scales angles edges >>= λ _ _ cubic.
+    orderedOr-scales bearings w retry again =
+        measure-scales bearings w >>= λ _ _ measured.
+        measuredCubic-scales measured >>= λ _ _ cubic.
         isUnusable-same cubic >>= λ _ _ unusable.
-        if unusable then again else solveCubic-scales bearingCosines vectors edges b cubic
+        if unusable then again else solveCubic-scales measured cubic
 
   -- ---- the given ordering, and the retry with one less
   module _ {world world' : World} (bearings : Bearings) (W : AtWorld k world world') where
@@ -139,8 +154,10 @@ module _ {k : ℤ} where
 
     -- the solve of an ordering of the given points, with n retries left
     abbrev Ordered : ℕ → Type 0
-    Ordered n = (w w' : World) (f : Bearings) → AtWorld k w w'
-        → Both (AtAnswer k) (solveOrdered n (record { input = given; world = w; bearings = f })) (solveOrdered n (record { input = given'; world = w'; bearings = f }))
+    Ordered n =
+        (w w' : World) (f : Bearings)
+        → AtWorld k w w'
+        → Both (AtAnswer k) (solveOrdered n given w f) (solveOrdered n given' w' f)
 
     retry-scales : (n : ℕ) → Ordered n → Both (AtAnswer k) (bestOr (solveOrdered n) given) (bestOr (solveOrdered n) given')
     unfolding bestOr
@@ -148,18 +165,21 @@ module _ {k : ℤ} where
         bestPermutation-scales bearings W >>= λ best best' h.
         equal {k = k} (! same sixtyFour ⊗ ! same epsilon) >>≡ λ limit.
         if ap (λ (c : Float). le c limit) (h .condition) then pure (refused-alike 2)
-        else subst (λ (f : Bearings). Both (AtAnswer k) (solveOrdered n (record { input = given; world = best .world; bearings = best .bearings })) (solveOrdered n (record { input = given'; world = best' .world; bearings = f })))
-        (h .bearings) (ordered (best .world) (best' .world) (best .bearings) (h .world))
+        else subst (λ (f : Bearings). Both (AtAnswer k) (solveOrdered n given (best .world) (best .bearings)) (solveOrdered n given' (best' .world) f))
+        (h .bearings)
+        (ordered (best .world) (best' .world) (best .bearings) (h .world))
 
     solveOrdered-scales : (n : ℕ) → Ordered n
     unfolding solveOrdered
-    solveOrdered-scales zero w w' f h = orderedOr-scales f same-input h (λ input. traced.pure (refused 2)) (pure (refused-alike 2))
-    solveOrdered-scales (suc n) w w' f h = orderedOr-scales f same-input h (bestOr (solveOrdered n)) (retry-scales n (solveOrdered-scales n))
+    solveOrdered-scales zero w w' f h = orderedOr-scales same-input f h (λ input. traced.pure (refused 2)) (pure (refused-alike 2))
+    solveOrdered-scales (suc n) w w' f h = orderedOr-scales same-input f h (bestOr (solveOrdered n)) (retry-scales n (solveOrdered-scales n))
 
     inputFinite-same : inputFinite given ≡ inputFinite given'
     unfolding inputFinite
-    inputFinite-same = λ i. allFinite-same (W .p0) i && allFinite-same (W .p1) i && allFinite-same (W .p2) i && allFinite (bearings .f0) && allFinite (bearings .f1) && allFinite (bearings .f2)
+    inputFinite-same = λ i.
+        allFinite-same (W .p0) i && allFinite-same (W .p1) i && allFinite-same (W .p2) i
+        && allFinite (bearings .f0) && allFinite (bearings .f1) && allFinite (bearings .f2)
 
     pub solve-scales : Both (AtAnswer k) (solve world bearings) (solve world' bearings)
     unfolding solve
-    solve-scales = if inputFinite-same then solveOrdered-scales 1 world world' bearings W else pure (refused-alike 1)
+    solve-scales = if ap not inputFinite-same then pure (refused-alike 1) else solveOrdered-scales 1 world world' bearings W

@@ -1,6 +1,7 @@
 -- The solve of eighteen doubles: `solve_ordered`, `solve_best_conditioned_permutation` and `solve_solver_minimal` of lambdatwist.rs, with the refusals of document 01. An ordering is solved with an
 -- allowance of retries; where it is unusable and one is left, the best conditioned of the other orderings is solved with one less.
 use Prim.Native.Nat.{ℕ, zero, suc}
+use mathlib.Core.Bool.{not}
 use lib.Dec.{eqb}
 use lib.Ieee.{Float, le}
 use Rattle.ieee754.specs.Literal.{sixtyFour, epsilon}
@@ -9,15 +10,15 @@ use Rattle.polynomial.specs.PolishedRoot.{polishedCubicRoot}
 use Rattle.p3p_common.specs.Input.{inputFinite}
 use Rattle.p3p_common.specs.Slots.{empty}
 use Rattle.p3p_common.specs.WorldBasisInverse.{worldBasisInverse}
-use Rattle.depths.specs.Edges.{edgeVectors, squaredEdges}
-use Rattle.depths.specs.Angles.{cosines, squaredSines, bearingFactors}
-use Rattle.depths.specs.Cubic.{cubicCoefficients, isUnusable}
+use Rattle.depths.specs.Measure.{measure, measuredCubic}
+use Rattle.depths.specs.Cubic.{isUnusable}
 use Rattle.depths.specs.Matrix.{singularMatrix}
+use Rattle.depths.specs.RatioOf.{ratioOf}
+use Rattle.depths.specs.Signs.{candidates}
 use Rattle.eigen.specs.KnownZero.{eigWithKnownZero}
-use Rattle.eigen.specs.RatioOf.{ratioOf}
-use Rattle.lambdatwist.specs.Poses.{candidates, poses}
+use Rattle.lambdatwist.specs.Poses.{poses}
 use Rattle.lambdatwist.specs.Permutation.{bestPermutation}
-use Rattle.lambdatwist.specs.Types.{Vector3, Matrix3, Roots, Two, One, Refused, World, Bearings, SquaredEdges, Cosines, P3pInput, Basis, Inverse, Singular, Solutions, EdgeVectors, Factors, Coefficients, Candidates, Eigensystem, Found, NotFound, Ratio, Real, NotReal, View, Answer}
+use Rattle.lambdatwist.specs.Types.{Vector3, Matrix3, Roots, Two, One, Refused, World, Bearings, P3pInput, Basis, Inverse, Singular, Solutions, Measured, Coefficients, Candidates, Eigensystem, Found, NotFound, Ratio, Real, NotReal, Answer}
 
 -- ---- an answer: number 0 with the poses that were kept, or a refusal's number with count 0 and plus zeros
 unfoldable pub answered : ℕ → Solutions → Answer
@@ -38,7 +39,7 @@ orNoRoot (Two first second) next = pure (refused 3)
 orNoRoot (Refused number) next = pure (refused 3)
 
 unfoldable pub orNoSystem : Eigensystem → (Matrix3 → Vector3 → Traced Answer) → Traced Answer
-orNoSystem (Found vectors values) next = next vectors values
+orNoSystem (Found eigenvectors eigenvalues) next = next eigenvectors eigenvalues
 orNoSystem NotFound next = pure (refused 3)
 
 unfoldable pub orNoRatio : Ratio → (Float → Traced Answer) → Traced Answer
@@ -52,59 +53,54 @@ orSingular Singular next = pure (refused 3)
 -- ---- the stages of `solve_ordered`, from the last to the first
 
 -- let Some(world_inverse) = world_basis_inverse(d01, d02) else { .. }, and the poses
-unfoldable pub solveCandidates : View → EdgeVectors → SquaredEdges → Cosines → Candidates → Traced Answer
-solveCandidates view vectors edges bearingCosines found = do
-  basis ← worldBasisInverse (vectors .d01) (vectors .d02)
+unfoldable pub solveCandidates : P3pInput → Measured → Candidates → Traced Answer
+solveCandidates input measured found = do
+  basis ← worldBasisInverse (measured .d01) (measured .d02)
   orSingular basis (λ worldInverse. do
-    solutions ← poses view edges bearingCosines worldInverse found
+    solutions ← poses input measured worldInverse found
     pure (ifKept solutions))
 
 -- from `let matrix = ..` on
-unfoldable pub solveRoot : View → EdgeVectors → SquaredEdges → Cosines → Factors → Float → Traced Answer
-solveRoot view vectors edges bearingCosines b g = do
-  matrix ← singularMatrix edges b g
+unfoldable pub solveRoot : P3pInput → Measured → Float → Traced Answer
+solveRoot input measured g = do
+  matrix ← singularMatrix (measured .squares) (measured .factors) g
   system ← eigWithKnownZero matrix
-  orNoSystem system (λ eigenvectors values. do
-    ratio ← ratioOf (values .x) (values .y)
+  orNoSystem system (λ eigenvectors eigenvalues. do
+    ratio ← ratioOf (eigenvalues .x) (eigenvalues .y)
     orNoRatio ratio (λ real. do
-      found ← candidates edges b eigenvectors real
-      solveCandidates view vectors edges bearingCosines found))
+      found ← candidates (measured .squares) (measured .factors) eigenvectors real
+      solveCandidates input measured found))
 
 -- let Some(g) = polished_cubic_root(cubic2 / cubic3, cubic1 / cubic3, cubic0 / cubic3) else { .. }
-unfoldable pub solveCubic : View → EdgeVectors → SquaredEdges → Cosines → Factors → Coefficients → Traced Answer
-solveCubic view vectors edges bearingCosines b c = do
+unfoldable pub solveCubic : P3pInput → Measured → Coefficients → Traced Answer
+solveCubic input measured c = do
   c2 ← ! (c .cubic2) ⊘ ! (c .cubic3)
   c1 ← ! (c .cubic1) ⊘ ! (c .cubic3)
   c0 ← ! (c .cubic0) ⊘ ! (c .cubic3)
   root ← polishedCubicRoot c2 c1 c0
-  orNoRoot root (solveRoot view vectors edges bearingCosines b)
+  orNoRoot root (solveRoot input measured)
 
--- the ordered solve, with what is done where the ordering is unusable
-unfoldable pub orderedOr : (P3pInput → Traced Answer) → View → Traced Answer
-orderedOr retry view = do
-  vectors ← edgeVectors (view .world)
-  edges ← squaredEdges vectors
-  bearingCosines ← cosines (view .bearings)
-  angles ← squaredSines bearingCosines
-  b ← bearingFactors bearingCosines
-  cubic ← cubicCoefficients edges angles
+-- the ordered solve of the points and bearings in some order, with what is done where that ordering is unusable
+unfoldable pub orderedOr : (P3pInput → Traced Answer) → P3pInput → World → Bearings → Traced Answer
+orderedOr retry input world bearings = do
+  measured ← measure world bearings
+  cubic ← measuredCubic measured
   unusable ← isUnusable cubic
-  if unusable then retry (view .input) else solveCubic view vectors edges bearingCosines b cubic
+  if unusable then retry input else solveCubic input measured cubic
 
 -- ---- the retry
 -- if condition <= 64.0 * f64::EPSILON { .. }
 -- solve_ordered(input, world, bearings, false)
-unfoldable pub bestOr : (View → Traced Answer) → P3pInput → Traced Answer
+unfoldable pub bestOr : (P3pInput → World → Bearings → Traced Answer) → P3pInput → Traced Answer
 bestOr ordered input = do
   best ← bestPermutation input
   limit ← ! sixtyFour ⊗ ! epsilon
-  if le (best .condition) limit then pure (refused 2)
-      else ordered (record { input = input; world = best .world; bearings = best .bearings })
+  if le (best .condition) limit then pure (refused 2) else ordered input (best .world) (best .bearings)
 
 -- with n retries left. The retry is written out as `bestOr`, since a definition may call itself only with a smaller number; by the next definition it is the retry of the Rust.
-unfoldable pub solveOrdered : ℕ → View → Traced Answer
-solveOrdered zero view = orderedOr (λ input. pure (refused 2)) view
-solveOrdered (suc n) view = orderedOr (bestOr (solveOrdered n)) view
+unfoldable pub solveOrdered : ℕ → P3pInput → World → Bearings → Traced Answer
+solveOrdered zero input world bearings = orderedOr (λ input. pure (refused 2)) input world bearings
+solveOrdered (suc n) input world bearings = orderedOr (bestOr (solveOrdered n)) input world bearings
 
 unfoldable pub solveBestConditionedPermutation : ℕ → P3pInput → Traced Answer
 solveBestConditionedPermutation n input = bestOr (solveOrdered n) input
@@ -113,5 +109,4 @@ solveBestConditionedPermutation n input = bestOr (solveOrdered n) input
 unfoldable pub solve : World → Bearings → Traced Answer
 solve world bearings =
     let input : P3pInput = record { world = world; bearings = bearings } in
-    if inputFinite input then solveOrdered 1 (record { input = input; world = world; bearings = bearings })
-    else pure (refused 1)
+    if not (inputFinite input) then pure (refused 1) else solveOrdered 1 input world bearings

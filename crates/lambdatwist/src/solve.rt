@@ -4,29 +4,21 @@ ghost use mathlib.Core.Path.{_≡_};
 ghost use Prim.Native.Nat.{_≤_};
 ghost use Rattle.lambdatwist.specs.Solve as Solve;
 use crate::permutation::best_permutation;
-use crate::poses::View;
-use crate::poses::candidates;
 use crate::poses::poses;
-use depths::angles::Factors;
-use depths::angles::bearing_factors;
-use depths::angles::cosines;
-use depths::angles::squared_sines;
 use depths::candidates::Candidates;
 use depths::cubic::Coefficients;
-use depths::cubic::cubic_coefficients;
 use depths::cubic::is_unusable;
-use depths::edges::EdgeVectors;
-use depths::edges::edge_vectors;
-use depths::edges::squared_edges;
 use depths::matrix::singular_matrix;
+use depths::measured::Measured;
+use depths::measured::measure;
+use depths::measured::measured_cubic;
+use depths::ratio::Ratio;
+use depths::ratio::ratio_of;
+use depths::signs::candidates;
 use eigen::known_zero::Eigensystem;
 use eigen::known_zero::eig_with_known_zero;
-use eigen::ratio::Ratio;
-use eigen::ratio::ratio_of;
 use frames::bearings::Bearings;
-use frames::cosines::Cosines;
 use frames::pose::Pose;
-use frames::squared_edges::SquaredEdges;
 use frames::world::World;
 use ieee754::literal::EPSILON;
 use p3p_common::input::P3pInput;
@@ -76,53 +68,35 @@ fn if_kept(solutions: Solutions) -> Answer
     answered(0, solutions)
 }
 
-fn solve_candidates(
-    view: View,
-    vectors: EdgeVectors,
-    edges: SquaredEdges,
-    cosines: Cosines,
-    found: Candidates,
-) -> Answer
-    ensures { λ r. ⌜ r ≡ Solve.solveCandidates view vectors edges cosines found .value ⌝ }
+fn solve_candidates(input: P3pInput, measured: Measured, found: Candidates) -> Answer
+    ensures { λ r. ⌜ r ≡ Solve.solveCandidates input measured found .value ⌝ }
 {
-    let d01 = vectors.d01;
-    let d02 = vectors.d02;
+    let d01 = measured.d01;
+    let d02 = measured.d02;
     let Basis::Inverse(inverse) = world_basis_inverse(d01, d02) else {
         return refused(3);
     };
-    if_kept(poses(view, edges, cosines, inverse, found))
+    if_kept(poses(input, measured, inverse, found))
 }
 
-fn solve_root(
-    view: View,
-    vectors: EdgeVectors,
-    edges: SquaredEdges,
-    cosines: Cosines,
-    b: Factors,
-    g: f64,
-) -> Answer
-    ensures { λ r. ⌜ r ≡ Solve.solveRoot view vectors edges cosines b g .value ⌝ }
+fn solve_root(input: P3pInput, measured: Measured, g: f64) -> Answer
+    ensures { λ r. ⌜ r ≡ Solve.solveRoot input measured g .value ⌝ }
 {
-    let matrix = singular_matrix(edges, b, g);
-    let Eigensystem::Found(eigenvectors, values) = eig_with_known_zero(matrix) else {
+    let squares = measured.squares;
+    let factors = measured.factors;
+    let matrix = singular_matrix(squares, factors, g);
+    let Eigensystem::Found(eigenvectors, eigenvalues) = eig_with_known_zero(matrix) else {
         return refused(3);
     };
-    let Ratio::Real(ratio) = ratio_of(values.x, values.y) else {
+    let Ratio::Real(ratio) = ratio_of(eigenvalues.x, eigenvalues.y) else {
         return refused(3);
     };
-    let found = candidates(edges, b, eigenvectors, ratio);
-    solve_candidates(view, vectors, edges, cosines, found)
+    let found = candidates(squares, factors, eigenvectors, ratio);
+    solve_candidates(input, measured, found)
 }
 
-fn solve_cubic(
-    view: View,
-    vectors: EdgeVectors,
-    edges: SquaredEdges,
-    cosines: Cosines,
-    b: Factors,
-    c: Coefficients,
-) -> Answer
-    ensures { λ r. ⌜ r ≡ Solve.solveCubic view vectors edges cosines b c .value ⌝ }
+fn solve_cubic(input: P3pInput, measured: Measured, c: Coefficients) -> Answer
+    ensures { λ r. ⌜ r ≡ Solve.solveCubic input measured c .value ⌝ }
 {
     let cubic3 = c.cubic3;
     let c2 = c.cubic2 / cubic3;
@@ -131,25 +105,22 @@ fn solve_cubic(
     let Roots::One(g) = polished_cubic_root(c2, c1, c0) else {
         return refused(3);
     };
-    solve_root(view, vectors, edges, cosines, b, g)
+    solve_root(input, measured, g)
 }
 
-fn solve_ordered(view: View, retries: u32) -> Answer
-    ensures { λ r. ⌜ r ≡ Solve.solveOrdered retries view .value ⌝ }
+// The points and bearings in some order of the input's.
+fn solve_ordered(input: P3pInput, world: World, bearings: Bearings, retries: u32) -> Answer
+    ensures { λ r. ⌜ r ≡ Solve.solveOrdered retries input world bearings .value ⌝ }
 {
-    let vectors = edge_vectors(view.world);
-    let edges = squared_edges(vectors);
-    let cosines = cosines(view.bearings);
-    let angles = squared_sines(cosines);
-    let b = bearing_factors(cosines);
-    let cubic = cubic_coefficients(edges, angles);
+    let measured = measure(world, bearings);
+    let cubic = measured_cubic(measured);
     if is_unusable(cubic) {
         if retries == 0 {
             return refused(2);
         }
-        return solve_best_conditioned_permutation(view.input, retries - 1);
+        return solve_best_conditioned_permutation(input, retries - 1);
     }
-    solve_cubic(view, vectors, edges, cosines, b, cubic)
+    solve_cubic(input, measured, cubic)
 }
 
 fn solve_best_conditioned_permutation(input: P3pInput, retries: u32) -> Answer
@@ -161,12 +132,7 @@ fn solve_best_conditioned_permutation(input: P3pInput, retries: u32) -> Answer
     }
     let world = best.world;
     let bearings = best.bearings;
-    let view = View {
-        input,
-        world,
-        bearings,
-    };
-    solve_ordered(view, retries)
+    solve_ordered(input, world, bearings, retries)
 }
 
 // The poses of three world points and the bearings to them.
@@ -177,10 +143,5 @@ pub fn solve(world: World, bearings: Bearings) -> Answer
     if !input_finite(input) {
         return refused(1);
     }
-    let view = View {
-        input,
-        world,
-        bearings,
-    };
-    solve_ordered(view, 1)
+    solve_ordered(input, world, bearings, 1)
 }

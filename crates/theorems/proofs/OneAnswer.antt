@@ -1,6 +1,6 @@
 -- Demand 1 of the mission, as specs/OneAnswer.antt states it: the answer to eighteen doubles is one to four finite poses or number 1, 2 or 3. Assumes nothing.
 use mathlib.Core.Path.{refl}
-use mathlib.Core.Bool.{Bool, not, _||_}
+use mathlib.Core.Bool.{Bool, true, false, not, _||_}
 use Prim.Native.Nat.{ℕ}
 use native.Mathlib.Nat.{pos-of-ne-zero}
 use lib.Dec.{T, T-not, eqb}
@@ -16,7 +16,7 @@ use Rattle.p3p_common.proofs.SlotLaws.{Kept}
 use Rattle.lambdatwist.specs.Permutation.{bestPermutation}
 use Rattle.lambdatwist.specs.Solve.{answered, refused, ifKept, orNoRoot, orNoSystem, orNoRatio, orSingular, solveCandidates, solveRoot, solveCubic, orderedOr, bestOr, solveOrdered, solve}
 use Rattle.theorems.specs.OneAnswer.{Accepted, Refused, orderingUnusable, noOrdering, OneAnswer, refused-1, refused-2, refused-3, accepted}
-use Rattle.theorems.specs.Types.{Vector3, Matrix3, Roots, World, Bearings, SquaredEdges, Cosines, P3pInput, Basis, Inverse, Singular, Solutions, Eigensystem, Found, NotFound, Ratio, Real, NotReal, EdgeVectors, Factors, Coefficients, Candidates, View, Answer}
+use Rattle.theorems.specs.Types.{Vector3, Matrix3, Roots, World, Bearings, P3pInput, Basis, Inverse, Singular, Solutions, Eigensystem, Found, NotFound, Ratio, Real, NotReal, Coefficients, Candidates, Answer, Measured}
 use Rattle.lambdatwist.proofs.KeptPoses.{poses-kept}
 
 -- ---- the two kinds of answer
@@ -54,46 +54,55 @@ module _ (P : Answer → Type 0) (three : P (refused 3)) (found : (a : Answer) �
   orSingular-gives (Inverse m) f h = h m
   orSingular-gives Singular f h = three
 
-  module _ (view : View) (vectors : EdgeVectors) (edges : SquaredEdges) (angles : Cosines) where
-    solveCandidates-gives : (c : Candidates) → Gives (solveCandidates view vectors edges angles c)
+  module _ (input : P3pInput) (measured : Measured) where
+    solveCandidates-gives : (c : Candidates) → Gives (solveCandidates input measured c)
     unfolding solveCandidates
-    solveCandidates-gives c = orSingular-gives _ _ (λ m. ifKept-so P three found _ (poses-kept view edges angles m c))
+    solveCandidates-gives c = orSingular-gives _ _ (λ m. ifKept-so P three found _ (poses-kept input measured m c))
 
-    solveRoot-gives : (b : Factors) (g : Float) → Gives (solveRoot view vectors edges angles b g)
+    solveRoot-gives : (g : Float) → Gives (solveRoot input measured g)
     unfolding solveRoot
-    solveRoot-gives b g = orNoSystem-gives _ _ (λ m v. orNoRatio-gives _ _ (λ x. solveCandidates-gives _))
+    solveRoot-gives g = orNoSystem-gives _ _ (λ m v. orNoRatio-gives _ _ (λ x. solveCandidates-gives _))
 
-    solveCubic-gives : (b : Factors) (c : Coefficients) → Gives (solveCubic view vectors edges angles b c)
+    solveCubic-gives : (c : Coefficients) → Gives (solveCubic input measured c)
     unfolding solveCubic
-    solveCubic-gives b c = orNoRoot-gives _ _ (λ g. solveRoot-gives b g)
+    solveCubic-gives c = orNoRoot-gives _ _ solveRoot-gives
 
 -- ---- question 2: the given ordering, or else the best of the others
 module _ (input : P3pInput) (finite : T (inputFinite input)) where
   -- one ordering: what it leads to where it is unusable, and where it is usable
-  ordering-one : (retry : P3pInput → Traced Answer) (view : View) → (T (orderingUnusable (view .world) (view .bearings)) → OneAnswer input (retry (view .input) .value))
-      → (T (not (orderingUnusable (view .world) (view .bearings))) → T (not (noOrdering input))) → OneAnswer input (orderedOr retry view .value)
+  ordering-one : (retry : P3pInput → Traced Answer) (world : World) (bearings : Bearings)
+      → (T (orderingUnusable world bearings) → OneAnswer input (retry input .value))
+      → (T (not (orderingUnusable world bearings)) → T (not (noOrdering input)))
+      → OneAnswer input (orderedOr retry input world bearings .value)
   unfolding orderedOr orderingUnusable
-  ordering-one retry view unusable usable =
-      either-way (λ (m : Traced Answer). OneAnswer input (m .value)) (orderingUnusable (view .world) (view .bearings)) unusable
-      (λ u. solveCubic-gives (OneAnswer input) (refused-3 finite (usable u) (refused-so 3)) (λ a. accepted finite (usable u)) view _ _ _ _ _)
+  ordering-one retry world bearings unusable usable =
+      either-way (λ (m : Traced Answer). OneAnswer input (m .value)) (orderingUnusable world bearings) unusable
+      (λ u. solveCubic-gives (OneAnswer input) (refused-3 finite (usable u) (refused-so 3)) (λ a. accepted finite (usable u)) input _ _)
 
-  orderings-one : OneAnswer input (solveOrdered 1 (record { input = input; world = input .world; bearings = input .bearings }) .value)
+  orderings-one : OneAnswer input (solveOrdered 1 input (input .world) (input .bearings) .value)
   unfolding solveOrdered bestOr noOrdering
   orderings-one =
       let best = bestPermutation input .value in
       let given : Bool = orderingUnusable (input .world) (input .bearings) in
       let low : Bool = le (best .condition) (mul binary64 sixtyFour epsilon) in
       let other : Bool = orderingUnusable (best .world) (best .bearings) in
-      ordering-one (bestOr (solveOrdered 0)) (record { input = input; world = input .world; bearings = input .bearings })
+      ordering-one (bestOr (solveOrdered 0)) (input .world) (input .bearings)
       (λ g. either-way (λ (m : Traced Answer). OneAnswer input (m .value)) low
       (λ l. refused-2 finite (and-i given (low || other) g (or-left low other l)) (refused-so 2))
-      (λ n. ordering-one (λ _. pure (refused 2)) (record { input = input; world = best .world; bearings = best .bearings })
+      (λ n. ordering-one (λ _. pure (refused 2)) (best .world) (best .bearings)
       (λ o. refused-2 finite (and-i given (low || other) g (or-right low other o)) (refused-so 2))
       (λ u. not-both-right given (low || other) (neither low other n u))))
       (not-both-left given (low || other))
+
+-- a test that is not denied passes
+not-not : (b : Bool) → T (not (not b)) → T b
+not-not true t = tt
+not-not false t = absurd t
 
 pub one-answer : (world : World) (bearings : Bearings) → OneAnswer (record { world = world; bearings = bearings }) (solve world bearings .value)
 unfolding solve
 one-answer world bearings =
     let input : P3pInput = record { world = world; bearings = bearings } in
-    either-way (λ (m : Traced Answer). OneAnswer input (m .value)) (inputFinite input) (λ finite. orderings-one input finite) (λ not-finite. refused-1 not-finite (refused-so 1))
+    either-way (λ (m : Traced Answer). OneAnswer input (m .value)) (not (inputFinite input))
+    (λ not-finite. refused-1 not-finite (refused-so 1))
+    (λ finite. orderings-one input (not-not (inputFinite input) finite))

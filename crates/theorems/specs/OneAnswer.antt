@@ -10,9 +10,8 @@ use Rattle.ieee754.specs.Literal.{sixtyFour, epsilon}
 use Rattle.frames.specs.Poses.{zeroPose}
 use Rattle.p3p_common.specs.Input.{inputFinite}
 use Rattle.p3p_common.specs.PoseSlots.{PoseSlots}
-use Rattle.depths.specs.Edges.{edgeVectors, squaredEdges}
-use Rattle.depths.specs.Angles.{cosines, squaredSines}
-use Rattle.depths.specs.Cubic.{cubicCoefficients, isUnusable}
+use Rattle.depths.specs.Measure.{measure, measuredCubic}
+use Rattle.depths.specs.Cubic.{isUnusable}
 use Rattle.lambdatwist.specs.Permutation.{bestPermutation}
 use Rattle.theorems.specs.Types.{World, Bearings, P3pInput, Answer}
 
@@ -33,7 +32,7 @@ pub record Refused (number : ℕ) (answer : Answer) : Type 0 where
 -- ---- question 2 of document 01: is there a usable ordering?
 -- one ordering of the points and bearings is not
 unfoldable pub orderingUnusable : World → Bearings → Bool
-orderingUnusable world bearings = isUnusable (cubicCoefficients (squaredEdges (edgeVectors world .value) .value) (squaredSines (cosines bearings .value) .value) .value) .value
+orderingUnusable world bearings = isUnusable (measuredCubic (measure world bearings .value) .value) .value
 
 -- there is none: the given one is unusable, and of the best conditioned of the five others the condition is at most 64 * 2 ^ -52 or it is unusable too
 unfoldable pub noOrdering : P3pInput → Bool

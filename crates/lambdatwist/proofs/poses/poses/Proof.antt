@@ -11,11 +11,13 @@ use Rattle.lambdatwist.proofs.poses.poses.Statement.{statement}
 use Rattle.lambdatwist.proofs.poses.poses.Tie as tie
 
 abbrev Inv-loop : tie.InvT-loop
-Inv-loop view edges cosines inverse count depths output₀ at₀ output at =
-    (at ≤ 4) × (poseTurns view edges cosines inverse (drop at (take count depths)) output .value ≡ poseTurns view edges cosines inverse (take count depths) output₀ .value)
+Inv-loop input measured inverse count depths output₀ at₀ output at =
+    (at ≤ 4)
+    × (poseTurns input measured inverse (drop at (take count depths)) output .value
+    ≡ poseTurns input measured inverse (take count depths) output₀ .value)
 
 abbrev μ-loop : tie.MeasureT-loop
-μ-loop view edges cosines inverse count depths output₀ at₀ output at = 4 - at
+μ-loop input measured inverse count depths output₀ at₀ output at = 4 - at
 
 loop-holds : tie.Need-loop-holds Inv-loop μ-loop
 loop-holds c = (search needs, refl)
@@ -25,7 +27,7 @@ unfolding poses
 returns c =
     let loop = c .before .before .loop in
     let found = c .before .before .before .before .before .args .found in
-    rw (← c .before .before .before .empty .ensures) (turns-end _ _ _ _ (found .count) (found .depths) (loop .at) (loop .output) (omega (arith, c .if1 .taken)) ∙ loop .inv .1)
+    rw (← c .before .before .before .empty .ensures) (turns-end _ _ _ (found .count) (found .depths) (loop .at) (loop .output) (omega (arith, c .if1 .taken)) ∙ loop .inv .1)
 
 loop-less : tie.Need-loop-less Inv-loop μ-loop
 loop-less c = omega arith
@@ -34,17 +36,17 @@ loop-again : tie.Need-loop-again Inv-loop μ-loop
 loop-again c =
     let start = c .before .before .before .before .before .before .before in
     let loop = c .before .before .before .before .loop in
-    let four = four-slots (start .args .found) (start .good .1 .1 .1 .1 .0) in
-    (search needs, rw (c .pose-turn .ensures) (turns-go _ _ _ _ _ _ (loop .at) (loop .output) _ (c .before .before .if1 .left) (omega (arith, c .before .before .before .loop-test .taken, four)) ∙ loop .inv .1))
+    let four = four-slots (start .args .found) (start .good .1 .1 .1 .0) in
+    (search needs, rw (c .pose-turn .ensures) (turns-go _ _ _ _ _ (loop .at) (loop .output) _ (c .before .before .if1 .left) (omega (arith, c .before .before .before .loop-test .taken, four)) ∙ loop .inv .1))
 
 returns-2 : tie.Need-returns-2 Inv-loop μ-loop
 unfolding poses
 returns-2 c =
     let loop = c .before .loop in
     let start = c .before .before .before .before in
-    let four = four-slots (start .args .found) (start .good .1 .1 .1 .1 .0) in
+    let four = four-slots (start .args .found) (start .good .1 .1 .1 .0) in
     let past : min (start .args .found .count) (length (start .args .found .depths)) ≤ loop .at = omega (arith, c .loop-test .left, four) in
-    rw (← c .before .before .empty .ensures) (turns-end _ _ _ _ (start .args .found .count) (start .args .found .depths) (loop .at) (loop .output) past ∙ loop .inv .1)
+    rw (← c .before .before .empty .ensures) (turns-end _ _ _ (start .args .found .count) (start .args .found .depths) (loop .at) (loop .output) past ∙ loop .inv .1)
 
 pub poses-spec : {M : Type 1} → statement M
 poses-spec =

@@ -7,14 +7,23 @@ use Rattle.lambdatwist.proofs.solve.solve_candidates.Tie as tie
 
 returns : tie.Need-returns
 unfolding solveCandidates orSingular
-returns c = rw (← c .before .before .before .world-basis-inverse .ensures, c .before .enum-told .given .1, ← c .refused .ensures)
+returns c =
+    let told = c .before in
+    rw (← told .before .before .world-basis-inverse .ensures, told .enum-told .given .1, ← c .refused .ensures)
 
 if-kept-requires : tie.Need-if-kept-requires
-if-kept-requires c κs = rw (c .poses .ensures) (poses-kept _ _ _ _ _ .few)
+if-kept-requires c κs = rw (c .poses .ensures) (poses-kept _ _ _ _ .few)
 
 returns-2 : tie.Need-returns-2
 unfolding solveCandidates orSingular
-returns-2 c = rw (← c .before .before .before .before .before .world-basis-inverse .ensures, c .before .before .before .inverse .given .1, ← c .before .poses .ensures, ← c .if-kept .ensures)
+returns-2 c =
+    let told = c .before .before .before in
+    rw (
+      ← told .before .before .world-basis-inverse .ensures,
+      told .inverse .given .1,
+      ← c .before .poses .ensures,
+      ← c .if-kept .ensures,
+    )
 
 pub solve-candidates-spec : {M : Type 1} → statement M
 solve-candidates-spec =

@@ -7,11 +7,15 @@ use Rattle.lambdatwist.proofs.solve.solve_cubic.Tie as tie
 
 returns : tie.Need-returns
 unfolding solveCubic orNoRoot
-returns c = rw (← c .before .before .polished-cubic-root .ensures, c .refused .ensures) (no-root (c .before .before .polished-cubic-root .result) _ (c .before .match .keys2))
+returns c =
+    let root = c .before .before in
+    rw (← root .polished-cubic-root .ensures, c .refused .ensures) (no-root (root .polished-cubic-root .result) _ (c .before .match .keys2))
 
 returns-2 : tie.Need-returns-2
 unfolding solveCubic orNoRoot
-returns-2 c = rw (← c .before .before .before .before .polished-cubic-root .ensures, c .before .before .g .given .1, ← c .solve-root .ensures)
+returns-2 c =
+    let told = c .before .before in
+    rw (← told .before .before .polished-cubic-root .ensures, told .g .given .1, ← c .solve-root .ensures)
 
 pub solve-cubic-spec : {M : Type 1} → statement M
 solve-cubic-spec =
