@@ -5,7 +5,7 @@ use lib.IntN.{ℤ, pos}
 use lib.Ieee.{Float}
 use Rattle.ieee754.specs.Literal.{two, sixtyFour, epsilon}
 use Rattle.ieee754.specs.Scaling.{Both, At, Scales}
-use Rattle.ieee754.proofs.Degrees.{same, null, !_, _⊗_, _⊘_, _⊕_, _⊖_, pure, _>>=_, _>>≡_, if_then_else_, abs-at, max-at, le-same, eq-same, finite-same, alike, equal}
+use Rattle.ieee754_laws.proofs.Degrees.{same, null, !_, _⊗_, _⊘_, _⊕_, _⊖_, pure, _>>=_, _>>≡_, if_then_else_, abs-at, max-at, le-same, eq-same, finite-same, alike, equal}
 use Rattle.frames.specs.FrameScaling.{AtWorld, AtEdges}
 use Rattle.depths.specs.Angles.{cosines, squaredSines}
 use Rattle.depths.specs.Cubic.{cubicCoefficients, coefficientScale, isUnusable}

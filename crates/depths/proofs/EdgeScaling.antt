@@ -1,7 +1,7 @@
 -- The edges of the world's triangle are at degree 1, and their squared lengths at 2. Assumes nothing.
 use lib.IntN.{ℤ, pos}
 use Rattle.ieee754.specs.Scaling.{Both}
-use Rattle.ieee754.proofs.Degrees.{pure, _>>=_}
+use Rattle.ieee754_laws.proofs.Degrees.{pure, _>>=_}
 use Rattle.linalg.specs.VectorScaling.{AtVector}
 use Rattle.linalg.proofs.VectorDegrees.{vecSub-scales, normSquared-scales}
 use Rattle.frames.specs.FrameScaling.{AtWorld, AtEdges}

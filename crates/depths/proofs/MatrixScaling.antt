@@ -3,7 +3,7 @@ use lib.IntN.{ℤ, pos}
 use lib.Ieee.{Float}
 use Rattle.ieee754.specs.Literal.{half, one}
 use Rattle.ieee754.specs.Scaling.{Both}
-use Rattle.ieee754.proofs.Degrees.{same, !_, ⊝_, _⊗_, _⊕_, _⊖_, pure, _>>=_}
+use Rattle.ieee754_laws.proofs.Degrees.{same, !_, ⊝_, _⊗_, _⊕_, _⊖_, pure, _>>=_}
 use Rattle.linalg.specs.VectorScaling.{AtMatrix}
 use Rattle.frames.specs.FrameScaling.{AtEdges}
 use Rattle.depths.specs.Matrix.{singularMatrix}

@@ -3,7 +3,7 @@
 use mathlib.Core.Path.{_≡_, refl}
 use lib.IntN.{ℤ, pos}
 use Rattle.ieee754.specs.Scaling.{Both}
-use Rattle.ieee754.proofs.Degrees.{pure, _>>=_, _>>≡_, alike}
+use Rattle.ieee754_laws.proofs.Degrees.{pure, _>>=_, _>>≡_, alike}
 use Rattle.linalg.specs.VectorScaling.{AtVector}
 use Rattle.frames.specs.FrameScaling.{AtWorld, AtEdges}
 use Rattle.depths.specs.Angles.{cosines, squaredSines, bearingFactors}

@@ -5,7 +5,7 @@ use lib.IntN.{ℤ, pos}
 use lib.Ieee.{Float}
 use Rattle.ieee754.specs.Literal.{sixtyFour, epsilon}
 use Rattle.ieee754.specs.Scaling.{Both, At}
-use Rattle.ieee754.proofs.Degrees.{same, null, at-zero, !_, ⊝_, √_, _⊗_, _⊘_, pure, _>>=_, if_then_else_, max-at, lt-same, finite-same}
+use Rattle.ieee754_laws.proofs.Degrees.{same, null, at-zero, !_, ⊝_, √_, _⊗_, _⊘_, pure, _>>=_, if_then_else_, max-at, lt-same, finite-same}
 use Rattle.depths.specs.RatioOf.{ratioOf}
 use Rattle.depths.specs.Types.{Ratio, Real, NotReal}
 

@@ -2,7 +2,7 @@
 use lib.IntN.{ℤ}
 use lib.Ieee.{Float, neg}
 use Rattle.ieee754.specs.Scaling.{Both}
-use Rattle.ieee754.proofs.Degrees.{_>>=_, _>>≡_, alike}
+use Rattle.ieee754_laws.proofs.Degrees.{_>>=_, _>>≡_, alike}
 use Rattle.linalg.specs.Vectors.{vecSub, vecMul}
 use Rattle.linalg.specs.Matrices.{column0, column1}
 use Rattle.frames.specs.FrameScaling.{AtEdges}

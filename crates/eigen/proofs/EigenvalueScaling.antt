@@ -2,7 +2,7 @@
 use lib.IntN.{ℤ, pos}
 use lib.Ieee.{Float}
 use Rattle.ieee754.specs.Scaling.{Both, At, Scales}
-use Rattle.ieee754.proofs.Degrees.{null, !_, ⊝_, _⊗_, _⊕_, _⊖_, pure, _>>=_, choose, abs-at, lt-same, eq-same}
+use Rattle.ieee754_laws.proofs.Degrees.{null, !_, ⊝_, _⊗_, _⊕_, _⊖_, pure, _>>=_, choose, abs-at, lt-same, eq-same}
 use Rattle.linalg.specs.VectorScaling.{AtMatrix}
 use Rattle.linalg.proofs.MatrixDegrees.{trace-scales}
 use Rattle.polynomial.specs.RootScaling.{AtRoots, two-at, one-at, refused-at}

@@ -5,8 +5,8 @@ use lib.IntN.{ℤ, pos}
 use lib.Ieee.{Float}
 use Rattle.ieee754.specs.Literal.{one, sixtyFour, epsilon}
 use Rattle.ieee754.specs.Scaling.{Both, At, Scales}
-use Rattle.ieee754.proofs.Degrees.{same, null, !_, ⊝_, √_, _⊗_, _⊘_, _⊕_, _⊖_, pure, _>>=_, if_then_else_, choose, abs-at, le-same, finite-same, total-same}
-use Rattle.ieee754.proofs.MinPositive.{floored, epsilon64-small, norm-at}
+use Rattle.ieee754_laws.proofs.Degrees.{same, null, !_, ⊝_, √_, _⊗_, _⊘_, _⊕_, _⊖_, pure, _>>=_, if_then_else_, choose, abs-at, le-same, finite-same, total-same}
+use Rattle.ieee754_laws.proofs.MinPositive.{floored, epsilon64-small, norm-at}
 use Rattle.linalg.specs.Vectors.{norm}
 use Rattle.linalg.specs.VectorScaling.{AtVector, AtMatrix}
 use Rattle.linalg.proofs.VectorDegrees.{vector-at-zero, vecDiv-scales, normSquared-scales, cross-scales}

@@ -3,7 +3,7 @@ use lib.IntN.{ℤ, pos}
 use lib.Ieee.{Float}
 use Rattle.ieee754.specs.Traced.{Traced}
 use Rattle.ieee754.specs.Scaling.{Both, At}
-use Rattle.ieee754.proofs.Degrees.{null, !_, _⊗_, pure, _>>=_, _>>≡_, if_then_else_}
+use Rattle.ieee754_laws.proofs.Degrees.{null, !_, _⊗_, pure, _>>=_, _>>≡_, if_then_else_}
 use Rattle.linalg.specs.Matrices.{fromColumns}
 use Rattle.linalg.specs.VectorScaling.{AtVector, AtMatrix}
 use Rattle.linalg.proofs.MatrixDegrees.{matFinite-same}

@@ -2,7 +2,7 @@
 use mathlib.Core.Path.{_≡_, refl, subst}
 use lib.IntN.{ℤ, pos}
 use Rattle.ieee754.specs.Scaling.{Both}
-use Rattle.ieee754.proofs.Degrees.{_>>=_}
+use Rattle.ieee754_laws.proofs.Degrees.{_>>=_}
 use Rattle.linalg.specs.VectorScaling.{AtVector}
 use Rattle.linalg.proofs.VectorDegrees.{vecAdd-scales}
 use Rattle.linalg.proofs.MatrixDegrees.{same-matrix, columns-at, matVec-scales}

@@ -1,8 +1,10 @@
--- The root of a significand times a power of two: its digits and its exponent, said once for every degree p. Assumes nothing.
+-- The root of a significand times a power of two: its digits and its exponent, said once for every
+-- degree p. Assumes nothing.
 use Prim.Native.Nat.{ℕ, _+_, _-_, _*_, _/_, _%_, _^_, _≤_, _<_}
 use mathlib.Core.Path.{_≡_, sym, ap, _∙_, subst}
 use mathlib.Core.Bool.{Bool}
-use native.Mathlib.Nat.{le-trans, le-of-eq, lt-of-lt-of-le, mul-assoc, mul-comm, mul-left-comm, mul-le-mul-right, le-mul-of-pos-right, mul-pos, mod-lt, div-add-mod}
+use native.Mathlib.Nat.{le-trans, le-of-eq, lt-of-lt-of-le, mul-assoc, mul-comm, mul-left-comm}
+use native.Mathlib.Nat.{mul-le-mul-right, le-mul-of-pos-right, mul-pos, mod-lt, div-add-mod}
 use native.Mathlib.Omega.{arith}
 use lib.Dec.{lit<}
 use lib.Pow.{pow-add, pow-pos, pow-mono, shl-lt, shl-exact}
@@ -10,27 +12,14 @@ use lib.Ieee.{Float, binary64, units}
 use lib.Ieee.Exact.{HasValue}
 use Rattle.ieee754.specs.Root.{roundRoot}
 use Rattle.ieee754.proofs.RootLaws.{roundRoot-at, nearest-ge, nearest-le}
-use Rattle.ieee754.specs.inner.Nearest.{IsNearest}
-use Rattle.ieee754.specs.inner.Normal.{IsNormal}
-use Rattle.ieee754.specs.declared.normal.Scaled.{Scaled}
-use Rattle.ieee754.proofs.Reading.{times}
+use Rattle.ieee754_roots.specs.Nearest.{IsNearest}
+use Rattle.ieee754_roots.proofs.Moved.{moved}
+use Rattle.ieee754_parts.specs.Normal.{IsNormal}
+use Rattle.ieee754_parts.specs.declared.normal.Scaled.{Scaled}
+use Rattle.ieee754_parts.proofs.Reading.{times}
 
--- a significand of 53 digits, moved up by less than p
-moved : (p m t : ℕ) → 2 ^ 52 ≤ m → m < 2 ^ 53 → t < p → (2 ^ 52 ≤ m * 2 ^ t) × (m * 2 ^ t < 2 ^ (52 + p))
-moved p m t l h o = (le-trans l (le-mul-of-pos-right m (pow-pos t)), lt-of-lt-of-le (shl-lt 53 t h) (pow-mono (omega arith)))
-
--- so in a word it loses no digit
-module _ (p m t : ℕ) (low : 2 ^ 52 ≤ m) (high : m < 2 ^ 53) (less : t < p) (room : p ≤ 12) where
-  exact : m * 2 ^ t % 2 ^ 64 ≡ m * 2 ^ t
-  exact = shl-exact 53 t 64 high (omega arith)
-
-  pub moved-range : let n = m * 2 ^ t % 2 ^ 64 in (2 ^ 52 ≤ n) × (n < 2 ^ (52 + p))
-  moved-range = subst (λ (n : ℕ). (2 ^ 52 ≤ n) × (n < 2 ^ (52 + p))) (sym exact) (moved p m t low high less)
-
-  pub moved-nearest : {q : ℕ} → IsNearest p (m * 2 ^ t % 2 ^ 64 * 2 ^ (52 * (p - 1))) q → IsNearest p (m * 2 ^ t * 2 ^ (52 * (p - 1))) q
-  moved-nearest {q} h = subst (λ (n : ℕ). IsNearest p (n * 2 ^ (52 * (p - 1))) q) exact h
-
--- times 2 ^ (52 * (p - 1)) it has as many digits as makes 53 digits of its root
+-- a significand moved up, times 2 ^ (52 * (p - 1)), has as many digits as makes 53 digits of its
+-- root
 digits-ge : (p n : ℕ) → 0 < p → 2 ^ 52 ≤ n → 2 ^ (p * 52) ≤ n * 2 ^ (52 * (p - 1))
 digits-ge p n P h =
     let e : p * 52 ≡ 52 + 52 * (p - 1) = omega arith in
@@ -44,8 +33,8 @@ digits-lt p n P h =
 regroup : (m a b c d h k : ℕ) → a * b ≡ c * d → m * a * (b * (h * k)) ≡ m * c * h * (k * d)
 regroup m a b c d h k e = simp (mul-assoc, mul-comm, mul-left-comm) (simp (mul-assoc, mul-comm, mul-left-comm) at (ap (λ (z : ℕ). m * (h * k) * z) e))
 
--- The p-th root of m * 2 ^ e / 2 ^ 1126. In p-th powers of the smallest double the radicand is n times that of 2 ^ k, with n of the size above, and
--- k the exponent, more by `bias`, divided by p.
+-- The p-th root of m * 2 ^ e / 2 ^ 1126. In p-th powers of the smallest double the radicand is n
+-- times that of 2 ^ k, with n of the size above, and k the exponent, more by `bias`, divided by p.
 module _ (p bias m e : ℕ) (P : 0 < p) (gap : p * 1074 ≡ bias + (52 * (p - 1) + 1126)) (low : 2 ^ 52 ≤ m) (high : m < 2 ^ 53) where
   k : ℕ
   k = (e + bias) / p
@@ -84,7 +73,8 @@ module _ (p bias m e : ℕ) (P : 0 < p) (gap : p * 1074 ≡ bias + (52 * (p - 1)
     unfolding n
     root-le = nearest-le p 53 n q lt near
 
-    pub root-scaled : (s : Bool) → roundRoot p binary64 s (m * 2 ^ e) (2 ^ 1126) ≡ units binary64 s q ((e + bias) / p)
+    pub root-scaled : (s : Bool)
+        → roundRoot p binary64 s (m * 2 ^ e) (2 ^ 1126) ≡ units binary64 s q ((e + bias) / p)
     unfolding n k
     root-scaled s = roundRoot-at p binary64 s (m * 2 ^ e) (2 ^ 1126) k n q P (lit< tt) radicand ge lt near
 

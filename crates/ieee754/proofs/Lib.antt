@@ -1,30 +1,9 @@
--- What the proofs of this crate share, from numbers and words up to rounding and roots; then the laws that crates above cite, and theorems about the definitions.
-pub mod Order
-pub mod Sizes
+-- What the proofs of this crate's functions share: tests, powers, signs, and roots from powers up
+-- to the digits and exponent of a double's root; then worked examples of the definitions.
+pub mod Tests
 pub mod PowerLaws
-pub mod Carry
-pub mod Nearest
-pub mod Jam
-pub mod Rounding
-pub mod Sums
-pub mod Reading
-pub mod Patterns
 pub mod Sign
 pub mod RootLaws
 pub mod RootValues
 pub mod Exponent
-pub mod Powers
-pub mod RoundScale
-pub mod Laws
-pub mod Degrees
-pub mod Entries
-pub mod RegularNormal
-pub mod MinPositive
-pub mod Finite
-pub mod Fitting
-pub mod RootRegular
-pub mod RootNearest
-pub mod FmaLaws
-pub mod SignLaws
-pub mod OrderLaws
-pub mod Examples
+mod Examples

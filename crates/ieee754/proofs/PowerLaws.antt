@@ -1,7 +1,11 @@
--- Powers of whole numbers to any degree p: of a product and of a power, of a number moved up by k digits, of an odd number, and how powers compare. Assumes nothing.
+-- Powers of whole numbers to any degree p: of a product and of a power, of a number moved up by k
+-- digits, of an odd number, and how powers compare. Assumes nothing.
 use Prim.Native.Nat.{ℕ, zero, suc, _+_, _*_, _%_, _^_, _≤_, _<_}
 use mathlib.Core.Path.{_≡_, sym, ap, _∙_}
-use native.Mathlib.Nat.{le-trans, le-of-eq, lt-irrefl, lt-of-not-le, not-le-of-lt, mul-one, one-mul, mul-comm, mul-assoc, mul-left-comm, mul-mul-mul-comm, mul-add, suc-mul, mul-le-mul-right, lt-of-mul-lt-mul-right, pow-zero, pow-suc, one-le-pow, pow-le-pow-left}
+use native.Mathlib.Nat.{le-trans, le-of-eq, lt-irrefl, lt-of-not-le, not-le-of-lt, mul-one, one-mul}
+use native.Mathlib.Nat.{mul-comm, mul-assoc, mul-left-comm, mul-mul-mul-comm, mul-add, suc-mul}
+use native.Mathlib.Nat.{mul-le-mul-right, lt-of-mul-lt-mul-right, pow-zero, pow-suc, one-le-pow}
+use native.Mathlib.Nat.{pow-le-pow-left}
 use native.Mathlib.Omega.{arith}
 use lib.Pow.{pow-add}
 

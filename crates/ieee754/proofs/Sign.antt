@@ -1,11 +1,13 @@
--- The sign of a value and of its bit pattern: a pattern with the sign's bit cleared is the magnitude (`abs-bits`), and that bit is the value's sign (`negative-bits`). Assumes nothing.
+-- The sign of a value and of its bit pattern: a pattern with the sign's bit cleared is the
+-- magnitude (`abs-bits`), and that bit is the value's sign (`negative-bits`). Assumes nothing.
 use Prim.Native.Nat.{ℕ, zero, suc, _+_, _-_, _/_, _%_, _<_}
 use mathlib.Core.Path.{_≡_, refl, sym, ap, ap₂, _∙_, subst}
 use mathlib.Core.Bool.{Bool, true, false, not, cond}
 use native.Mathlib.Nat.{mod-lt, mul-pos, zero-lt-suc, mod-mod, mod-mod-of-dvd, dvd-mul-right}
 use lib.Dec.{T, leb, eqb}
 use lib.Pow.{pow-pos}
-use lib.Ieee.{Float, nan, inf, Format, prec, low, hid, ones, top, odd, ofFields, ofBits, toBits, isNan, fits}
+use lib.Ieee.{Float, nan, inf, Format, prec, low, hid, ones, top, odd, ofFields, ofBits, toBits}
+use lib.Ieee.{isNan, fits}
 use lib.Ieee.Bits.{ofBits-toBits}
 use borrow.Author.Tests.{lt-leb}
 use Rattle.ieee754.specs.Magnitude.{abs}
@@ -22,7 +24,8 @@ unfolding ofFields abs
 abs-fields f s zero t = abs-odd (prec f) s t 0 (low f)
 abs-fields f s (suc x) t = go (eqb (suc x) (ones f)) (eqb t 0)
   where
-    go : (a b : Bool) → abs (cond a (cond b (inf s) nan) (odd (prec f) s (hid f + t) x (low f))) ≡ cond a (cond b (inf false) nan) (odd (prec f) false (hid f + t) x (low f))
+    go : (a b : Bool)
+        → abs (cond a (cond b (inf s) nan) (odd (prec f) s (hid f + t) x (low f))) ≡ cond a (cond b (inf false) nan) (odd (prec f) false (hid f + t) x (low f))
     go true true = refl
     go true false = refl
     go false b = abs-odd (prec f) s (hid f + t) x (low f)
@@ -32,12 +35,16 @@ unfolding odd
 negative-odd d s zero k l = refl
 negative-odd d s (suc q) k l = refl
 
-negative-fields : (f : Format) (s : Bool) (x t : ℕ) → T (not (isNan (ofFields f s x t))) → negative (ofFields f s x t) ≡ s
+negative-fields : (f : Format) (s : Bool) (x t : ℕ)
+    → T (not (isNan (ofFields f s x t)))
+    → negative (ofFields f s x t) ≡ s
 unfolding ofFields isNan
 negative-fields f s zero t h = negative-odd (prec f) s t 0 (low f)
 negative-fields f s (suc x) t h = go (eqb (suc x) (ones f)) (eqb t 0) h
   where
-    go : (a b : Bool) → T (not (isNan (cond a (cond b (inf s) nan) (odd (prec f) s (hid f + t) x (low f))))) → negative (cond a (cond b (inf s) nan) (odd (prec f) s (hid f + t) x (low f))) ≡ s
+    go : (a b : Bool)
+        → T (not (isNan (cond a (cond b (inf s) nan) (odd (prec f) s (hid f + t) x (low f)))))
+        → negative (cond a (cond b (inf s) nan) (odd (prec f) s (hid f + t) x (low f))) ≡ s
     go true true h = refl
     go true false h = absurd h
     go false b h = negative-odd (prec f) s (hid f + t) x (low f)
@@ -53,7 +60,10 @@ abs-bits f x h =
     ∙ sym (abs-fields f (leb (top f) b) (b % top f / hid f) (b % hid f))
     ∙ ap abs (ofBits-toBits f x h)
 
-pub negative-bits : (f : Format) (x : Float) → T (fits f x) → T (not (isNan x)) → leb (top f) (toBits f x) ≡ negative x
+pub negative-bits : (f : Format) (x : Float)
+    → T (fits f x)
+    → T (not (isNan x))
+    → leb (top f) (toBits f x) ≡ negative x
 unfolding ofBits
 negative-bits f x h n =
     let b = toBits f x in

@@ -1,4 +1,5 @@
--- Rust's f64::clamp: two comparisons, so a NaN and a zero's sign are kept. From document 01, "Rounding and sums".
+-- Rust's f64::clamp: two comparisons, so a NaN and a zero's sign are kept. From document 01,
+-- "Rounding and sums".
 use mathlib.Core.Bool.{cond}
 use lib.Ieee.{Float, lt}
 

@@ -1,5 +1,5 @@
--- Rust's f64::copysign, IEEE 754's copySign: the magnitude of x with the sign of y. From document 01, module 1.
--- A NaN has no sign here, so where y is one the sign is plus.
+-- Rust's f64::copysign, IEEE 754's copySign: the magnitude of x with the sign of y. From
+-- document 01, module 1. A NaN has no sign here, so where y is one the sign is plus.
 use mathlib.Core.Bool.{Bool, false}
 use lib.Ieee.{Float, nan, inf, fin}
 

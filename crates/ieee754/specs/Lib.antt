@@ -1,4 +1,5 @@
--- The definitions that the contracts of this crate cite, in reading order, and under `inner` what its inner functions return.
+-- The definitions that the contracts of this crate cite, in reading order; then those that the
+-- formulas above and the scaling rule are stated with, Traced and Scaling.
 pub mod Literal
 pub mod Magnitude
 pub mod CopySign
@@ -9,4 +10,3 @@ pub mod Root
 pub mod Fma
 pub mod Traced
 pub mod Scaling
-pub mod inner

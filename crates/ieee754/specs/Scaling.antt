@@ -1,5 +1,7 @@
--- What the scaling rule, demand 3 of the mission, says of two runs. k is fixed: the world's coordinates differ by the factor 2 ^ k between them.
--- A quantity has a degree n, a whole number, and is 2 ^ (n * k) times as large in the second run: a length has degree 1, an area 2, a cosine or a bearing 0.
+-- What the scaling rule, demand 3 of the mission, says of two runs. k is fixed: the world's
+-- coordinates differ by the factor 2 ^ k between them. A quantity has a degree n, a whole number,
+-- and is 2 ^ (n * k) times as large in the second run: a length has degree 1, an area 2, a cosine
+-- or a bearing 0.
 use mathlib.Core.Path.{_≡_}
 use Prim.Native.Nat.{ℕ, zero, suc}
 use lib.IntN.{ℤ, _+ℤ_, _*ℤ_}
@@ -7,7 +9,8 @@ use lib.Dec.{T}
 use lib.Ieee.{Float, nan, inf, fin}
 use Rattle.ieee754.specs.Traced.{Traced}
 
--- 2 ^ t times a value, for any whole number t: the exponent moves. A zero, an infinity and `nan` stay as they are.
+-- 2 ^ t times a value, for any whole number t: the exponent moves. A zero, an infinity and `nan`
+-- stay as they are.
 abbrev pub moved : ℤ → ℕ → ℤ → ℤ
 moved t zero e = e
 moved t (suc m) e = e +ℤ t

@@ -1,4 +1,5 @@
--- IEEE 754's totalOrder on numbers, with NaN above every number, and Rust's f64::total_cmp by it. From document 01, "What the reference is".
+-- IEEE 754's totalOrder on numbers, with NaN above every number, and Rust's f64::total_cmp by it.
+-- From document 01, "What the reference is".
 use mathlib.Core.Bool.{Bool, not, _&&_, _||_, cond}
 use lib.Ieee.{Float, isNan, lt, eq}
 use Rattle.ieee754.specs.CopySign.{negative}

@@ -1,6 +1,9 @@
--- A value together with whether every rounding operation on the way to it met the premise of the scaling rule, as document 01 states it in "Rounding and sums": none divides by zero or overflows,
--- and no nonzero exact result is below 2 ^ -1022. Each operator of the Rust has a lifted one here, so that a formula is transcribed as it stands: `!` makes a traced value of a value that is at
--- hand, and `do` binds a `let`. What cannot round (negation, magnitude, copied sign, maximum, clamp, comparisons) is not traced.
+-- A value together with whether every rounding operation on the way to it met the premise of the
+-- scaling rule, as document 01 states it in "Rounding and sums": none divides by zero or overflows,
+-- and no nonzero exact result is below 2 ^ -1022. Each operator of the Rust has a lifted one here,
+-- so that a formula is transcribed as it stands: `!` makes a traced value of a value that is at
+-- hand, and `do` binds a `let`. What cannot round (negation, magnitude, copied sign, maximum,
+-- clamp, comparisons) is not traced.
 use Prim.Native.Nat.{ℕ, _+_, _-_, _*_, _^_}
 use mathlib.Core.Bool.{Bool, true, false, _&&_, _||_, not, cond, Bool·beq}
 use lib.Dec.{leb, ltb, eqb}
@@ -22,9 +25,11 @@ abbrev pub if_then_else_ : {A : Type 0} → Bool → A → A → A
 if true then a else b = a
 if false then a else b = b
 
--- ---- what is asked of an operation's exact result. On a NaN or an infinity, and for the square root of a negative number, there is none, and nothing is asked.
+-- ---- what is asked of an operation's exact result. On a NaN or an infinity, and for the square
+-- root of a negative number, there is none, and nothing is asked.
 
--- The p-th root of n / d is zero, or from 2 ^ -1022 up and below 2 ^ 1024 - 2 ^ 970. At p = 1 that is n / d itself.
+-- The p-th root of n / d is zero, or from 2 ^ -1022 up and below 2 ^ 1024 - 2 ^ 970. At p = 1 that
+-- is n / d itself.
 unfoldable pub inRange : ℕ → ℕ → ℕ → Bool
 inRange p n d = eqb n 0 || (leb d (n * 2 ^ (p * 1022)) && ltb n (d * (2 ^ 1024 - 2 ^ 970) ^ p))
 
@@ -68,7 +73,7 @@ fmaRegular (fin s m e) (fin t n d) (inf u) = true
 fmaRegular (fin s m e) (fin t n d) (fin u l g) =
     inRange 1 (magnitude (unlike s t) (m * up e * (n * up d) * down g) u (l * up g * (down e * down d))) (down e * down d * down g)
 
--- no double fails the tests of its roots (`sqrt-regular`, `cbrt-regular` in the proofs)
+-- no double fails the tests of its roots (`sqrt-regular`, `cbrt-regular` in `ieee754_laws`)
 unfoldable pub sqrtRegular : Float → Bool
 sqrtRegular nan = true
 sqrtRegular (inf s) = true

@@ -1,7 +1,7 @@
 // Rust's f64::abs.
 ghost use mathlib.Core.Path.{_≡_};
 ghost use Rattle.ieee754.specs.Magnitude as Magnitude;
-use crate::format::SIGN;
+use ieee754_parts::format::SIGN;
 
 // x with the sign cleared.
 pub fn abs(x: f64) -> f64

@@ -1,9 +1,9 @@
-// Doubles and their bit patterns: Rust's from_bits and to_bits, but that there is one NaN. Every NaN's pattern is read as
-// it, and it is written as 7ff8000000000000.
+// Doubles and their bit patterns: Rust's from_bits and to_bits, but that there is one NaN. Every
+// NaN's pattern is read as it, and it is written as 7ff8000000000000.
 ghost use mathlib.Core.Path.{_≡_};
 ghost use lib.Ieee.{binary64, ofBits, toBits};
-use crate::format::INFINITY;
-use crate::format::SIGN;
+use ieee754_parts::format::INFINITY;
+use ieee754_parts::format::SIGN;
 
 const NAN: u64 = 0x7ff8_0000_0000_0000;
 

@@ -2,7 +2,7 @@
 ghost use mathlib.Core.Path.{_≡_};
 ghost use Rattle.ieee754.specs.CopySign as CopySign;
 use crate::abs::abs;
-use crate::format::SIGN;
+use ieee754_parts::format::SIGN;
 
 // Whether the sign of y is set, of a zero too; a NaN has none.
 pub fn negative(y: f64) -> bool

@@ -1,7 +1,7 @@
 // Rust's f64::sqrt, IEEE 754's squareRoot. From document 01, module 1.
 //
-// A guess at the root of the significand, made with floats, is settled in integers, and where neither it nor the next
-// number is right the digits are found one by one. So nothing is claimed of the floats.
+// The digits of the root are those of the whole number nearest to a square root, which integers
+// find (crate `ieee754_roots`).
 ghost use mathlib.Core.Path.{_≡_};
 ghost use mathlib.Core.Bool.{false};
 ghost use Prim.Native.Nat.{_*_, _^_, _≤_, _<_};
@@ -9,111 +9,13 @@ ghost use lib.Dec.{T};
 ghost use lib.Ieee.{binary64};
 ghost use lib.Ieee.Scale.{finite};
 ghost use Rattle.ieee754.specs.Root as Root;
-ghost use Rattle.ieee754.specs.inner.Nearest.{IsNearest, Settled, IsResidue};
-use crate::format::LEADING;
-use crate::format::SIGN;
 use crate::is_finite::is_finite;
-use crate::normal::normalise;
-use crate::pack::pack_finite;
-use crate::start::half_reciprocal_root;
-use crate::unpack::unpack;
-use crate::wide::Difference;
-use crate::wide::Wide;
-use crate::wide::product;
-use crate::wide::word_difference;
-
-// What `residue` adds: 2^55, which is 8 * 2^52.
-const BIAS: u64 = 0x80_0000_0000_0000;
-
-// 2^-53, half the weight of the last digit of a root from 1 up to 2.
-const HALF_LAST: f64 = 0.00000000000000011102230246251565;
-
-// The whole number nearest to the root of n * 2^52, which has 53 digits. They are found one by one from the top: `root`
-// is what the digits so far come to, `bit` the weight of the last of them, and `rest * bit` what is left of n * 2^52
-// once the square of `root` is taken off.
-fn by_digits(n: u64) -> u64
-    requires { ⌜ (2 ^ 52 ≤ n) × (n < 2 ^ 54) ⌝ }
-    ensures { λ r. ⌜ IsNearest 2 (n * 2 ^ 52) r ⌝ }
-{
-    let mut root = LEADING;
-    let mut bit = LEADING;
-    let mut rest = n - LEADING;
-    while 1 < bit {
-        bit = bit / 2;
-        rest = rest * 2;
-        let step = root * 2 + bit;
-        if step <= rest {
-            rest = rest - step;
-            root = root + bit;
-        }
-    }
-    if root < rest { root + 1 } else { root }
-}
-
-// A guess at the root of x = m * 2^odd / 2^52: half the root's reciprocal from a line, mended by Newton's method, then 2x
-// times that, mended once more and lowered by half a last digit, so that the guess is the nearest double or the one
-// below. Nothing is claimed of it.
-fn guess(m: u64, odd: u64) -> f64
-    requires { ⌜ (2 ^ 52 ≤ m) × (m < 2 ^ 53) × (odd < 2) ⌝ }
-{
-    let bits = (1022 + odd) * LEADING + m;
-    let x = f64::from_bits(bits);
-    let twice = x + x;
-    let start = half_reciprocal_root(x, bits);
-    let h = 1.5 * start - twice * start * (start * start);
-    let r = twice * h;
-    r + ((x - r * r) * h - HALF_LAST)
-}
-
-// n * 2^52 - q * q, plus `BIAS` so that it is no less than 0 where it is small.
-fn residue(n: u64, q: u64) -> Difference
-    requires { ⌜ (n < 2 ^ 54) × (q < 2 ^ 53) ⌝ }
-    ensures { λ r. ⌜ IsResidue (n * 2 ^ 52) q r ⌝ }
-{
-    let square = product(q, q);
-    let raised = n + 8;
-    let low = raised % 0x1000 * LEADING;
-    let target = Wide {
-        hi: raised / 0x1000,
-        lo: low,
-    };
-    word_difference(target, square)
-}
-
-// The whole number nearest to the root of n * 2^52, if that is q or q + 1, and 0 if not.
-fn settled(n: u64, q: u64) -> u64
-    requires { ⌜ (n < 2 ^ 54) × (2 ^ 52 ≤ q) × (q < 2 ^ 53) ⌝ }
-    ensures { λ r. ⌜ Settled 2 (n * 2 ^ 52) r ⌝ }
-{
-    let r = residue(n, q);
-    if r.lost {
-        return 0;
-    }
-    if BIAS + 3 * q + 2 < r.lo {
-        return 0;
-    }
-    if r.lo + q <= BIAS {
-        return 0;
-    }
-    if BIAS + q < r.lo { q + 1 } else { q }
-}
-
-// The whole number nearest to the root of m * 2^odd * 2^52.
-fn nearest(m: u64, odd: u64) -> u64
-    requires { ⌜ (2 ^ 52 ≤ m) × (m < 2 ^ 53) × (odd < 2) ⌝ }
-    ensures { λ r. ⌜ IsNearest 2 (m * 2 ^ odd * 2 ^ 52) r ⌝ }
-{
-    let n = m << odd;
-    let root = guess(m, odd);
-    if root < 4.0 {
-        let digits = f64::to_bits(root) % LEADING + LEADING;
-        let q = settled(n, digits);
-        if q != 0 {
-            return q;
-        }
-    }
-    by_digits(n)
-}
+use ieee754_parts::format::LEADING;
+use ieee754_parts::format::SIGN;
+use ieee754_parts::normal::normalise;
+use ieee754_parts::pack::pack_finite;
+use ieee754_parts::unpack::unpack;
+use ieee754_roots::sqrt::nearest;
 
 // The root of sig * 2^exp / 2^1126. In squares of the smallest double that is sig * 2^y * 2^52.
 fn scaled(sig: u64, exp: u64) -> f64
@@ -140,7 +42,8 @@ fn sqrt_other(x: f64) -> f64
     scaled(n.sig, n.exp)
 }
 
-// The same, with the common case first: the pattern of a positive normal number gives its parts at once.
+// The same, with the common case first: the pattern of a positive normal number gives its parts at
+// once.
 fn sqrt_finite(x: f64) -> f64
     requires { ⌜ T (finite x) ⌝ }
     ensures { λ r. ⌜ r ≡ Root.sqrt x ⌝ }

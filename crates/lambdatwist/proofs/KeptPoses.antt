@@ -4,7 +4,7 @@ use mathlib.Core.List.{List, [], _∷_}
 use Prim.Native.Nat.{_≤_}
 use lib.ListN.{take}
 use Rattle.ieee754.specs.Traced.{Traced}
-use Rattle.ieee754.proofs.Order.{either-way}
+use Rattle.ieee754.proofs.Tests.{either-way}
 use Rattle.linalg.proofs.Finite.{rotation-finite}
 use Rattle.p3p_common.specs.RefineDepths.{refineDepths}
 use Rattle.p3p_common.specs.Slots.{empty}

@@ -4,7 +4,7 @@ use mathlib.Core.List.{List, Forall₂, Forall₂·nil, Forall₂·cons}
 use lib.IntN.{ℤ, pos}
 use lib.Ieee.{lt}
 use Rattle.ieee754.specs.Scaling.{Both}
-use Rattle.ieee754.proofs.Degrees.{pure, _>>=_, choose}
+use Rattle.ieee754_laws.proofs.Degrees.{pure, _>>=_, choose}
 use Rattle.linalg.specs.VectorScaling.{AtVector}
 use Rattle.frames.specs.FrameScaling.{AtWorld}
 use Rattle.lambdatwist.specs.Permutation.{withCondition, better, bestOf, bestPermutation}

@@ -10,7 +10,7 @@ use Rattle.ieee754.specs.Literal.{sixtyFour, epsilon}
 use Rattle.ieee754.specs.Traced as traced
 use Rattle.ieee754.specs.Traced.{Traced}
 use Rattle.ieee754.specs.Scaling.{Both}
-use Rattle.ieee754.proofs.Degrees.{same, at-zero, !_, _⊗_, _⊘_, pure, _>>=_, _>>≡_, if_then_else_, choose, equal}
+use Rattle.ieee754_laws.proofs.Degrees.{same, at-zero, !_, _⊗_, _⊘_, pure, _>>=_, _>>≡_, if_then_else_, choose, equal}
 use Rattle.linalg.specs.VectorScaling.{AtVector, AtRows, AtMatrix}
 use Rattle.linalg.specs.Vectors.{allFinite}
 use Rattle.linalg.proofs.VectorDegrees.{allFinite-same}

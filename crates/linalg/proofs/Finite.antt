@@ -2,8 +2,8 @@
 use lib.Dec.{T}
 use lib.Ieee.{Float, binary64, neg, add, sub, mul}
 use lib.Ieee.Scale.{finite}
-use Rattle.ieee754.proofs.Order.{three, all-three}
-use Rattle.ieee754.proofs.Finite.{neg-operand, add-operands, mul-operands}
+use Rattle.ieee754.proofs.Tests.{three, all-three}
+use Rattle.ieee754_laws.proofs.Finite.{neg-operand, add-operands, mul-operands}
 use Rattle.linalg.specs.Vectors.{allFinite, vecSub}
 use Rattle.linalg.specs.Matrices.{matVec, matFinite, column0, column1, column2}
 use Rattle.linalg.specs.Types.{Vector3, Matrix3}

@@ -3,7 +3,7 @@ use mathlib.Core.Path.{_≡_}
 use mathlib.Core.Bool.{_&&_}
 use lib.IntN.{ℤ, pos, _+ℤ_}
 use Rattle.ieee754.specs.Scaling.{Both, Scales}
-use Rattle.ieee754.proofs.Degrees.{same, at-zero, null, !_, _⊗_, _⊕_, degree, pure, _>>=_}
+use Rattle.ieee754_laws.proofs.Degrees.{same, at-zero, null, !_, _⊗_, _⊕_, degree, pure, _>>=_}
 use Rattle.linalg.specs.Types.{Vector3, Matrix3}
 use Rattle.linalg.specs.Matrices.{fromColumns, fromRows, column0, column1, column2, matVec, matMul, matNormSquared, trace, matFinite}
 use Rattle.linalg.specs.VectorScaling.{AtEntries, AtVector, AtRows, AtColumns, AtMatrix}

@@ -4,7 +4,7 @@ use mathlib.Core.Bool.{_&&_}
 use lib.IntN.{ℤ, pos, _+ℤ_, _-ℤ_}
 use lib.Ieee.{Float}
 use Rattle.ieee754.specs.Scaling.{Both, At, Scales}
-use Rattle.ieee754.proofs.Degrees.{same, at-zero, null, !_, _⊗_, _⊘_, _⊕_, _⊖_, pure, _>>=_, abs-at, finite-same}
+use Rattle.ieee754_laws.proofs.Degrees.{same, at-zero, null, !_, _⊗_, _⊘_, _⊕_, _⊖_, pure, _>>=_, abs-at, finite-same}
 use Rattle.linalg.specs.Types.{Vector3}
 use Rattle.linalg.specs.Vectors.{zeros, vecSub, vecAdd, vecMul, vecDiv, dot, normSquared, cross, absSum, allFinite}
 use Rattle.linalg.specs.VectorScaling.{AtEntries, AtVector}

@@ -5,7 +5,7 @@ use lib.IntN.{ℤ, pos, negsuc}
 use lib.Ieee.{Float}
 use Rattle.ieee754.specs.Literal.{one, sixtyFour, epsilon}
 use Rattle.ieee754.specs.Scaling.{Both, At}
-use Rattle.ieee754.proofs.Degrees.{same, !_, _⊗_, _⊘_, pure, if_then_else_, _>>=_, both-map, max-at, le-same, finite-same}
+use Rattle.ieee754_laws.proofs.Degrees.{same, !_, _⊗_, _⊘_, pure, if_then_else_, _>>=_, both-map, max-at, le-same, finite-same}
 use Rattle.p3p_common.specs.Types.{Vector3, Matrix3}
 use Rattle.linalg.specs.VectorScaling.{AtVector, AtRows}
 use Rattle.linalg.proofs.VectorDegrees.{vecMul-scales, normSquared-scales, cross-scales}

@@ -2,7 +2,7 @@
 -- Assumes nothing.
 use lib.Dec.{T}
 use Rattle.ieee754.specs.Traced.{Traced}
-use Rattle.ieee754.proofs.Order.{either-way}
+use Rattle.ieee754.proofs.Tests.{either-way}
 use Rattle.linalg.specs.Vectors.{allFinite, vecSub}
 use Rattle.linalg.specs.Matrices.{matVec, matFinite}
 use Rattle.linalg.proofs.Finite.{rotation-finite}

@@ -2,7 +2,7 @@
 use mathlib.Core.Path.{refl, subst}
 use lib.IntN.{ℤ, pos}
 use Rattle.ieee754.specs.Scaling.{Both}
-use Rattle.ieee754.proofs.Degrees.{pure, if_then_else_, _>>=_, choose, alike}
+use Rattle.ieee754_laws.proofs.Degrees.{pure, if_then_else_, _>>=_, choose, alike}
 use Rattle.linalg.specs.VectorScaling.{AtVector}
 use Rattle.linalg.proofs.VectorDegrees.{vecSub-scales, allFinite-same}
 use Rattle.linalg.proofs.MatrixDegrees.{same-matrix, columns-at, matVec-scales}

@@ -3,7 +3,7 @@ use mathlib.Core.Path.{_≡_, refl, ap₂}
 use mathlib.Core.Bool.{Bool, false, _&&_}
 use lib.IntN.{ℤ, pos}
 use Rattle.ieee754.specs.Scaling.{Both}
-use Rattle.ieee754.proofs.Degrees.{same, null, !_, _⊗_, pure, if_then_else_, _>>=_, lt-same, le-same, finite-same}
+use Rattle.ieee754_laws.proofs.Degrees.{same, null, !_, _⊗_, pure, if_then_else_, _>>=_, lt-same, le-same, finite-same}
 use Rattle.linalg.specs.VectorScaling.{AtVector}
 use Rattle.linalg.proofs.VectorDegrees.{same-vector, dot-scales, normSquared-scales, cross-scales}
 use Rattle.frames.specs.FrameScaling.{AtPose}

@@ -7,7 +7,7 @@ use lib.Ieee.{Float}
 use Rattle.ieee754.specs.Literal.{half, two}
 use Rattle.ieee754.specs.Traced.{Traced}
 use Rattle.ieee754.specs.Scaling.{Both, At}
-use Rattle.ieee754.proofs.Degrees.{same, null, !_, ⊝_, _⊗_, _⊘_, _⊕_, _⊖_, pure, if_then_else_, _>>=_, choose, max-at, lt-same, eq-same, finite-same}
+use Rattle.ieee754_laws.proofs.Degrees.{same, null, !_, ⊝_, _⊗_, _⊘_, _⊕_, _⊖_, pure, if_then_else_, _>>=_, choose, max-at, lt-same, eq-same, finite-same}
 use Rattle.linalg.specs.VectorScaling.{AtVector}
 use Rattle.linalg.proofs.VectorDegrees.{absSum-scales, allFinite-same}
 use Rattle.p3p_common.specs.Types.{Vector3, SquaredEdges, Cosines, Refined, Step, Next, Stop}

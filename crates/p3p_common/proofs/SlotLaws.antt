@@ -10,8 +10,8 @@ use lib.Dec.{T, ltb, ltb→lt}
 use lib.ListN.{getD, set, length-set}
 use lib.Seq.{getD-set-same, getD-set-other}
 use lib.Ieee.{Float}
-use Rattle.ieee754.proofs.Order.{either-way}
-use Rattle.ieee754.proofs.Entries.{replicate-entry}
+use Rattle.ieee754.proofs.Tests.{either-way}
+use Rattle.ieee754_laws.proofs.Entries.{replicate-entry}
 use Rattle.linalg.specs.Vectors.{allFinite}
 use Rattle.linalg.specs.Matrices.{matFinite}
 use Rattle.frames.specs.Poses.{zeroPose}

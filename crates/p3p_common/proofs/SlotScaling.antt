@@ -5,8 +5,8 @@ use lib.IntN.{ℤ, pos}
 use lib.Dec.{ltb}
 use lib.ListN.{set}
 use Rattle.ieee754.specs.Scaling.{Both}
-use Rattle.ieee754.proofs.Degrees.{pure, _>>=_, choose}
-use Rattle.ieee754.proofs.Entries.{set-entries, four-entries}
+use Rattle.ieee754_laws.proofs.Degrees.{pure, _>>=_, choose}
+use Rattle.ieee754_laws.proofs.Entries.{set-entries, four-entries}
 use Rattle.frames.specs.Poses.{zeroPose}
 use Rattle.linalg.specs.VectorScaling.{AtVector}
 use Rattle.linalg.proofs.VectorDegrees.{null-vector}

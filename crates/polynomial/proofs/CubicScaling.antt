@@ -2,7 +2,7 @@
 use lib.IntN.{ℤ, pos}
 use lib.Ieee.{Float}
 use Rattle.ieee754.specs.Scaling.{Both, At}
-use Rattle.ieee754.proofs.Degrees.{same, at-zero}
+use Rattle.ieee754_laws.proofs.Degrees.{same, at-zero}
 use Rattle.polynomial.specs.PolishedRoot.{polishedCubicRoot}
 use Rattle.polynomial.specs.RootScaling.{AtRoots, two-at, one-at, refused-at}
 use Rattle.polynomial.specs.Types.{Roots, Two, One, Refused}

@@ -6,8 +6,8 @@ use lib.IntN.{ℤ, _+ℤ_, +ℤ-idl, +ℤ-negℤ-cancel}
 use lib.Ieee.{Float}
 use Rattle.ieee754.specs.Literal.{half, epsilon}
 use Rattle.ieee754.specs.Scaling.{Both, At}
-use Rattle.ieee754.proofs.Degrees.{same, null, !_, ⊝_, √_, _⊗_, _⊘_, _⊕_, mulAdd, degree, neg-at, abs-at, copysign-at, max-at, lt-same, eq-same, finite-same, pure, _>>=_, if_then_else_}
-use Rattle.ieee754.proofs.MinPositive.{floored, epsilon32-small}
+use Rattle.ieee754_laws.proofs.Degrees.{same, null, !_, ⊝_, √_, _⊗_, _⊘_, _⊕_, mulAdd, degree, neg-at, abs-at, copysign-at, max-at, lt-same, eq-same, finite-same, pure, _>>=_, if_then_else_}
+use Rattle.ieee754_laws.proofs.MinPositive.{floored, epsilon32-small}
 use Rattle.polynomial.specs.Literal.{four, thirtyTwo}
 use Rattle.polynomial.specs.Quadratic.{quadraticPair, quadraticRealMonicComputed, quadraticRealMonic}
 use Rattle.polynomial.specs.RootScaling.{AtRoots, two-at, refused-at}

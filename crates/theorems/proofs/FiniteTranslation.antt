@@ -6,7 +6,7 @@ use Prim.Native.Nat.{ℕ}
 use lib.Dec.{T}
 use lib.ListN.{getD}
 use lib.Ieee.{ofBits}
-use Rattle.ieee754.proofs.Order.{lt-or-ge}
+use Rattle.ieee754_parts.proofs.Tests.{lt-or-ge}
 use Rattle.linalg.specs.Vectors.{allFinite}
 use Rattle.frames.specs.Poses.{zeroPose}
 use Rattle.p3p_common.specs.PoseSlots as slots

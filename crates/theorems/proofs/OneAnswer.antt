@@ -8,7 +8,7 @@ use lib.Ieee.{Float, binary64, mul, le}
 use lib.Ieee.Fits.{and-i, eq→eqb}
 use Rattle.ieee754.specs.Literal.{sixtyFour, epsilon}
 use Rattle.ieee754.specs.Traced.{Traced, pure}
-use Rattle.ieee754.proofs.Order.{or-left, or-right, neither, not-both-left, not-both-right, either-way}
+use Rattle.ieee754.proofs.Tests.{or-left, or-right, neither, not-both-left, not-both-right, either-way}
 use Rattle.polynomial.specs.declared.Roots.the-variants as roots
 use Rattle.p3p_common.specs.Input.{inputFinite}
 use Rattle.p3p_common.specs.Slots.{empty}

@@ -3,7 +3,7 @@ use mathlib.Core.Path.{_≡_, refl, sym, ap, _∙_}
 use lib.Ieee.{nan, binary64}
 use denote.Floats.{passes}
 use Rattle.ieee754.specs.Magnitude.{abs}
-use Rattle.ieee754.proofs.Reading.{nan-of, not-nan, in-range, no-nan}
+use Rattle.ieee754_parts.proofs.Reading.{nan-of, not-nan, in-range, no-nan}
 use Rattle.ieee754.proofs.Sign.{abs-bits}
 use Rattle.ieee754.proofs.abs.abs.Statement.{statement}
 use Rattle.ieee754.proofs.abs.abs.Tie as tie

@@ -1,11 +1,12 @@
--- `ieee754::bits::from_bits` meets its contract: a pattern above the infinity's, the sign taken off, is a NaN's. Assumes nothing.
+-- `ieee754::bits::from_bits` meets its contract: a pattern above the infinity's, the sign taken
+-- off, is a NaN's. Assumes nothing.
 use mathlib.Core.Path.{sym, _∙_}
 use lib.Arith.{le→nltb}
 use lib.Ieee.{binary64}
 use lib.Ieee.Bits.{nanBits-is, nanBits-above}
 use borrow.Author.Tests.{lt-ltb}
 use borrow.Author.Needs.{needs}
-use Rattle.ieee754.proofs.Reading.{ne-self, nan-of, zero-over-zero}
+use Rattle.ieee754_parts.proofs.Reading.{ne-self, nan-of, zero-over-zero}
 use Rattle.ieee754.proofs.bits.from_bits.Statement.{statement}
 use Rattle.ieee754.proofs.bits.from_bits.Tie as tie
 

@@ -2,7 +2,7 @@
 use mathlib.Core.Path.{_≡_, refl, sym, ap, _∙_}
 use lib.Ieee.{nan, binary64, toBits}
 use borrow.Author.Needs.{needs}
-use Rattle.ieee754.proofs.Reading.{nan-of, not-nan}
+use Rattle.ieee754_parts.proofs.Reading.{nan-of, not-nan}
 use Rattle.ieee754.proofs.bits.to_bits.Statement.{statement}
 use Rattle.ieee754.proofs.bits.to_bits.Tie as tie
 

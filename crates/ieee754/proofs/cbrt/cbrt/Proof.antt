@@ -1,4 +1,5 @@
--- `cbrt` meets its contract: what is left beside `cbrt_finite` are the definition's clauses for infinities and the NaN. Assumes nothing.
+-- `cbrt` meets its contract: what is left beside `cbrt_finite` are the definition's clauses for
+-- infinities and the NaN. Assumes nothing.
 use mathlib.Core.Path.{_≡_, refl}
 use mathlib.Core.Bool.{not}
 use borrow.Author.Needs.{needs}
@@ -6,7 +7,7 @@ use lib.Dec.{T}
 use lib.Ieee.{Float, nan, inf, fin}
 use lib.Ieee.Scale.{finite}
 use Rattle.ieee754.specs.Root.{cbrt}
-use Rattle.ieee754.proofs.Order.{answered, denied}
+use Rattle.ieee754_parts.proofs.Tests.{answered, denied}
 use Rattle.ieee754.proofs.cbrt.cbrt.Statement.{statement}
 use Rattle.ieee754.proofs.cbrt.cbrt.Tie as tie
 

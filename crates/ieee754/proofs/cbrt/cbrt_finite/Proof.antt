@@ -20,8 +20,10 @@ normalise-requires c κs = (c .before .before .unpack .ensures .digits, pos-of-n
 
 returns-2 : tie.Need-returns-2
 returns-2 c =
-    let n = c .before .normalise in
-    let u = c .before .before .before .before in
+    let after-normalise = c .before in
+    let after-struct-known = after-normalise .before .before in
+    let u = after-struct-known .before in
+    let n = after-normalise .normalise in
     let x = u .before .args .x in
     let a = u .unpack .result in
     let is = u .unpack .ensures .is in

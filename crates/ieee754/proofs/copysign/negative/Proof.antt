@@ -1,9 +1,10 @@
--- `ieee754::copysign::negative` meets its contract: the sign's bit is the pattern's highest. Assumes nothing.
+-- `ieee754::copysign::negative` meets its contract: the sign's bit is the pattern's highest.
+-- Assumes nothing.
 use mathlib.Core.Path.{sym, ap}
 use lib.Ieee.{binary64}
 use denote.Floats.{passes}
 use Rattle.ieee754.specs.CopySign.{negative}
-use Rattle.ieee754.proofs.Reading.{nan-of, not-nan}
+use Rattle.ieee754_parts.proofs.Reading.{nan-of, not-nan}
 use Rattle.ieee754.proofs.Sign.{negative-bits}
 use Rattle.ieee754.proofs.copysign.negative.Statement.{statement}
 use Rattle.ieee754.proofs.copysign.negative.Tie as tie

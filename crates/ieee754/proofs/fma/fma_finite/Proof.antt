@@ -1,9 +1,11 @@
--- `fma_finite` meets its contract: over the one denominator 2 ^ 2166 the product and the addend are those of the definition. Assumes nothing.
+-- `fma_finite` meets its contract: over the one denominator 2 ^ 2166 the product and the addend are
+-- those of the definition. Assumes nothing.
 use borrow.Author.Needs.{needs}
 use mathlib.Core.Path.{_≡_, refl, sym, ap, ap₂, _∙_, subst}
 use mathlib.Core.Logic.{⊎-elim}
 use Prim.Native.Nat.{ℕ, _+_, _*_, _%_, _^_, _≤_, _<_}
-use native.Mathlib.Nat.{le-trans, mul-le-mul, mul-assoc, mul-comm, mul-left-comm, mul-mod-left, mul-pos, mul-zero, zero-mul, mul-le-mul-right, not-le-of-lt}
+use native.Mathlib.Nat.{le-trans, mul-le-mul, mul-assoc, mul-comm, mul-left-comm, mul-mod-left}
+use native.Mathlib.Nat.{mul-pos, mul-zero, zero-mul, mul-le-mul-right, not-le-of-lt}
 use native.Mathlib.Omega.{arith}
 use mathlib.Core.Bool.{Bool}
 use lib.Arith.{lt-one}
@@ -13,28 +15,38 @@ use lib.Ieee.Exact.{HasValue}
 use lib.Ieee.Fits.{down-pos}
 use lib.Pow.{pow-add, pow-pos}
 use Rattle.ieee754.specs.Fma.{fma}
-use Rattle.ieee754.specs.inner.Rounded.{summed}
-use Rattle.ieee754.specs.inner.Value.{value}
-use Rattle.ieee754.proofs.Carry.{product-lt}
-use Rattle.ieee754.proofs.Order.{lt-or-ge}
-use Rattle.ieee754.proofs.Sums.{sum-same}
+use Rattle.ieee754_parts.specs.Rounded.{summed}
+use Rattle.ieee754_parts.specs.Value.{value}
+use Rattle.ieee754_parts.proofs.Carry.{product-lt}
+use Rattle.ieee754_parts.proofs.Tests.{lt-or-ge}
+use Rattle.ieee754_parts.proofs.Sums.{sum-same}
 use Rattle.ieee754.proofs.fma.fma_finite.Statement.{statement}
 use Rattle.ieee754.proofs.fma.fma_finite.Tie as tie
 
--- ---- from the definition's denominators to the one denominator: X / Dx is a / L, and so on, for L the units of the smallest value
-cross-product : (X Y a b Dx Dy Dz L W : ℕ) → X * L ≡ a * Dx → Y * L ≡ b * Dy → X * Y * Dz * (L * L * W) ≡ a * b * W * (Dx * Dy * Dz)
+-- ---- from the definition's denominators to the one denominator: X / Dx is a / L, and so on, for L
+-- the units of the smallest value
+cross-product : (X Y a b Dx Dy Dz L W : ℕ)
+    → X * L ≡ a * Dx
+    → Y * L ≡ b * Dy
+    → X * Y * Dz * (L * L * W) ≡ a * b * W * (Dx * Dy * Dz)
 cross-product X Y a b Dx Dy Dz L W x y =
     let before : X * Y * Dz * (L * L * W) ≡ X * L * (Y * L) * (Dz * W) = simp (mul-assoc, mul-left-comm) in
     let after : a * Dx * (b * Dy) * (Dz * W) ≡ a * b * W * (Dx * Dy * Dz) = simp (mul-assoc, mul-comm, mul-left-comm) in
     before ∙ ap₂ (λ (u v : ℕ). u * v * (Dz * W)) x y ∙ after
 
-cross-addend : (Z c Dx Dy Dz L W : ℕ) → Z * L ≡ c * Dz → Z * (Dx * Dy) * (L * W) ≡ c * W * (Dx * Dy * Dz)
+cross-addend : (Z c Dx Dy Dz L W : ℕ)
+    → Z * L ≡ c * Dz
+    → Z * (Dx * Dy) * (L * W) ≡ c * W * (Dx * Dy * Dz)
 cross-addend Z c Dx Dy Dz L W z =
     let before : Z * (Dx * Dy) * (L * W) ≡ Z * L * (Dx * Dy * W) = simp (mul-assoc, mul-left-comm) in
     let after : c * Dz * (Dx * Dy * W) ≡ c * W * (Dx * Dy * Dz) = simp (mul-assoc, mul-comm, mul-left-comm) in
     before ∙ ap (λ (u : ℕ). u * (Dx * Dy * W)) z ∙ after
 
-same : (x y z : Float) (s t u : Bool) (a b c : ℕ) → HasValue x s a (2 ^ 1074) → HasValue y t b (2 ^ 1074) → HasValue z u c (2 ^ 1074) → summed (unlike s t) (a * b * 2 ^ 18) u (c * 2 ^ 1092) ≡ fma x y z
+same : (x y z : Float) (s t u : Bool) (a b c : ℕ)
+    → HasValue x s a (2 ^ 1074)
+    → HasValue y t b (2 ^ 1074)
+    → HasValue z u c (2 ^ 1074)
+    → summed (unlike s t) (a * b * 2 ^ 18) u (c * 2 ^ 1092) ≡ fma x y z
 unfolding fma summed
 same nan y z s t u a b c p q r = absurd p
 same (inf _) y z s t u a b c p q r = absurd p
@@ -72,7 +84,11 @@ one-full m n h l =
     ⊎-elim (λ (z : n < 1). ap (moved m) (lt-one z) ∙ mul-zero (m * 512))
     (λ (g : 1 ≤ n). absurd (not-le-of-lt l (le-trans (lit≤ {m = 2 ^ 64} {n = 2 ^ 70} tt) (mul-le-mul (mul-le-mul-right 512 h) (mul-le-mul-right 512 g))))) (lt-or-ge n 1)
 
-small : (m n x y : ℕ) → (0 < x → 2 ^ 52 ≤ m) → (0 < y → 2 ^ 52 ≤ n) → moved m n < 2 ^ 64 → moved m n * 2 ^ 0 ≡ moved m n * 2 ^ (x + y)
+small : (m n x y : ℕ)
+    → (0 < x → 2 ^ 52 ≤ m)
+    → (0 < y → 2 ^ 52 ≤ n)
+    → moved m n < 2 ^ 64
+    → moved m n * 2 ^ 0 ≡ moved m n * 2 ^ (x + y)
 small m n x y f g l =
     let none : moved m n ≡ 0 → moved m n * 2 ^ 0 ≡ moved m n * 2 ^ (x + y) = λ z. rw z (sym (zero-mul (2 ^ (x + y)))) in
     ⊎-elim (λ (a : x < 1).
@@ -81,7 +97,13 @@ small m n x y f g l =
     (λ (a : 0 < x). none (one-full m n (f a) l)) (lt-or-ge x 1)
 
 -- so whatever exponent e `product_exp` gives, the value is the same
-product-is : (m n x y p e : ℕ) → (0 < x → 2 ^ 52 ≤ m) → (0 < y → 2 ^ 52 ≤ n) → p ≡ moved m n → (p < 2 ^ 64 → e ≡ 0) → (2 ^ 64 ≤ p → e ≡ x + y) → p * 2 ^ e ≡ m * 2 ^ x * (n * 2 ^ y) * 2 ^ 18
+product-is : (m n x y p e : ℕ)
+    → (0 < x → 2 ^ 52 ≤ m)
+    → (0 < y → 2 ^ 52 ≤ n)
+    → p ≡ moved m n
+    → (p < 2 ^ 64 → e ≡ 0)
+    → (2 ^ 64 ≤ p → e ≡ x + y)
+    → p * 2 ^ e ≡ m * 2 ^ x * (n * 2 ^ y) * 2 ^ 18
 product-is m n x y p e f g h a b =
     ⊎-elim (λ (l : p < 2 ^ 64). ap₂ (λ (u v : ℕ). u * 2 ^ v) h (a l) ∙ small m n x y f g (subst (λ (u : ℕ). u < 2 ^ 64) h l) ∙ at-exponent m n x y)
     (λ (l : 2 ^ 64 ≤ p). ap₂ (λ (u v : ℕ). u * 2 ^ v) h (b l) ∙ at-exponent m n x y) (lt-or-ge p (2 ^ 64))
@@ -102,9 +124,12 @@ module _ (m n x y p e : ℕ) (h : p ≡ moved m n) (a : p < 2 ^ 64 → e ≡ 0) 
 
 add-leading-requires : tie.Need-add-leading-requires
 add-leading-requires c κs =
-    let k = c .before .before .before in
-    let g = k .before .before .before in
-    let w = g .before .before .before in
+    let after-struct-known5 = c .before .before in
+    let k = after-struct-known5 .before in
+    let after-struct-known3 = k .before .before in
+    let g = after-struct-known3 .before in
+    let after-struct-known = g .before .before in
+    let w = after-struct-known .before in
     let a = w .before .unpack in
     let b = w .unpack2 in
     let p = value (g .product .result) in
@@ -124,17 +149,27 @@ add-leading-requires c κs =
     )
 
 -- r is what `add_leading` gives for the product q
-whole : (r : Float) (x y z : Float) (s t u : Bool) (q a b c : ℕ) → HasValue x s a (2 ^ 1074) → HasValue y t b (2 ^ 1074) → HasValue z u c (2 ^ 1074) → q ≡ a * b * 2 ^ 18 → r ≡ summed (unlike s t) q u (c * 2 ^ 1092) → r ≡ fma x y z
+whole : (r : Float) (x y z : Float) (s t u : Bool) (q a b c : ℕ)
+    → HasValue x s a (2 ^ 1074)
+    → HasValue y t b (2 ^ 1074)
+    → HasValue z u c (2 ^ 1074)
+    → q ≡ a * b * 2 ^ 18
+    → r ≡ summed (unlike s t) q u (c * 2 ^ 1092)
+    → r ≡ fma x y z
 whole r x y z s t u q a b c i j k h is = is ∙ ap (λ (n : ℕ). summed (unlike s t) n u (c * 2 ^ 1092)) h ∙ same x y z s t u a b c i j k
 
 returns : tie.Need-returns
 returns c =
-    let k = c .before .before .before .before in
-    let g = k .before .before .before in
-    let w = g .before .before .before in
+    let after-unpack3 = c .before in
+    let after-struct-known5 = after-unpack3 .before .before in
+    let k = after-struct-known5 .before in
+    let after-struct-known3 = k .before .before in
+    let g = after-struct-known3 .before in
+    let after-struct-known = g .before .before in
+    let w = after-struct-known .before in
     let a = w .before .unpack in
     let b = w .unpack2 in
-    let d = c .before .unpack3 in
+    let d = after-unpack3 .unpack3 in
     let s = w .before .before .args in
     let e = k .product-exp in
     let p = value (g .product .result) in

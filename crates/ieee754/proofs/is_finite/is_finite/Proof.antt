@@ -1,4 +1,5 @@
--- `ieee754::is_finite::is_finite` meets its contract: 1.0 / 0.0 is the infinity, and of all values only it, its negation and the NaN are not between the two. Assumes nothing.
+-- `ieee754::is_finite::is_finite` meets its contract: 1.0 / 0.0 is the infinity, and of all values
+-- only it, its negation and the NaN are not between the two. Assumes nothing.
 use mathlib.Core.Path.{_≡_, refl, sym, subst}
 use mathlib.Core.Bool.{true, false}
 use lib.Ieee.{Float, nan, inf, fin, binary64, ofBits, div, neg, lt}

@@ -1,4 +1,5 @@
--- `sqrt` meets its contract: what is left beside `sqrt_finite` are the definition's clauses for infinities and the NaN. Assumes nothing.
+-- `sqrt` meets its contract: what is left beside `sqrt_finite` are the definition's clauses for
+-- infinities and the NaN. Assumes nothing.
 use mathlib.Core.Path.{_≡_, refl}
 use mathlib.Core.Bool.{true, false, not, true≢false, false≢true}
 use borrow.Author.Needs.{needs}
@@ -6,12 +7,15 @@ use lib.Dec.{T}
 use lib.Ieee.{Float, nan, inf, fin, binary64, div, lt, ofBits}
 use lib.Ieee.Scale.{finite}
 use Rattle.ieee754.specs.Root.{sqrt}
-use Rattle.ieee754.proofs.Order.{answered, denied}
+use Rattle.ieee754_parts.proofs.Tests.{answered, denied}
 use Rattle.ieee754.proofs.sqrt.sqrt.Statement.{statement}
 use Rattle.ieee754.proofs.sqrt.sqrt.Tie as tie
 
 -- minus infinity
-below-zero : (x : Float) → T (not (finite x)) → lt x (ofBits binary64 0) ≡ true → div binary64 (ofBits binary64 0) (ofBits binary64 0) ≡ sqrt x
+below-zero : (x : Float)
+    → T (not (finite x))
+    → lt x (ofBits binary64 0) ≡ true
+    → div binary64 (ofBits binary64 0) (ofBits binary64 0) ≡ sqrt x
 unfolding lt div ofBits sqrt
 below-zero nan h l = absurd (false≢true l)
 below-zero (inf true) h l = refl

@@ -1,4 +1,5 @@
--- `sqrt_finite` meets its contract: what the pattern of a positive normal number stands for (Reading.antt). Assumes nothing.
+-- `sqrt_finite` meets its contract: what the pattern of a positive normal number stands for
+-- (Reading of `ieee754_parts`). Assumes nothing.
 use Prim.Native.Nat.{ℕ, _+_, _-_, _*_, _/_, _%_, _^_, _≤_, _<_}
 use mathlib.Core.Path.{_≡_, refl, sym, ap, _∙_, subst}
 use mathlib.Core.Bool.{Bool, false}
@@ -13,9 +14,9 @@ use lib.Ieee.Exact.{HasValue}
 use lib.Ieee.Scale.{finite}
 use denote.Floats.{passes}
 use Rattle.ieee754.specs.Root.{sqrt, roundRoot}
-use Rattle.ieee754.proofs.Reading.{field-range, read-higher, times, finite-not-nan}
+use Rattle.ieee754_parts.proofs.Reading.{field-range, read-higher, times, finite-not-nan}
 use Rattle.ieee754.proofs.RootValues.{sqrt-of}
-use Rattle.ieee754.proofs.Sizes.{shl-shl}
+use Rattle.ieee754_parts.proofs.Sizes.{shl-shl}
 use Rattle.ieee754.proofs.sqrt.sqrt_finite.Statement.{statement}
 use Rattle.ieee754.proofs.sqrt.sqrt_finite.Tie as tie
 

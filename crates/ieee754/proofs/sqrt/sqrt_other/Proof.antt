@@ -7,14 +7,16 @@ use borrow.Author.Needs.{needs}
 use lib.Dec.{lit<}
 use lib.Pow.{pow-pos}
 use lib.Ieee.Exact.{HasValue}
-use Rattle.ieee754.proofs.Reading.{zero-over-zero}
+use Rattle.ieee754_parts.proofs.Reading.{zero-over-zero}
 use Rattle.ieee754.proofs.RootValues.{sqrt-zero, sqrt-of, sqrt-negative}
 use Rattle.ieee754.proofs.Exponent.{normal-value, normal-pos}
 use Rattle.ieee754.proofs.sqrt.sqrt_other.Statement.{statement}
 use Rattle.ieee754.proofs.sqrt.sqrt_other.Tie as tie
 
 -- the value of the argument, with the sign that a test found
-signed : (c : tie.After-unpack) {s : Bool} → let a = c .unpack .result in a .negative ≡ s → HasValue (c .before .args .x) s (a .sig * 2 ^ a .exp) (2 ^ 1074)
+signed : (c : tie.After-unpack) {s : Bool}
+    → let a = c .unpack .result in a .negative ≡ s
+    → HasValue (c .before .args .x) s (a .sig * 2 ^ a .exp) (2 ^ 1074)
 signed c e = let a = c .unpack .result in subst (λ (s : Bool). HasValue (c .before .args .x) s (a .sig * 2 ^ a .exp) (2 ^ 1074)) e (c .unpack .ensures .is)
 
 returns : tie.Need-returns
@@ -25,18 +27,23 @@ returns c =
 
 returns-2 : tie.Need-returns-2
 returns-2 c =
-    let u = c .before .before .before in
+    let else1 = c .before in
+    let u = else1 .before .before in
     let a = u .unpack .result in
-    zero-over-zero ∙ sym (sqrt-negative (u .before .args .x) (a .sig * 2 ^ a .exp) (2 ^ 1074) (mul-pos (pos-of-ne-zero (c .before .if1 .left)) (pow-pos (a .exp))) (signed u (c .if2 .taken)))
+    zero-over-zero ∙ sym (sqrt-negative (u .before .args .x) (a .sig * 2 ^ a .exp) (2 ^ 1074) (mul-pos (pos-of-ne-zero (else1 .if1 .left)) (pow-pos (a .exp))) (signed u (c .if2 .taken)))
 
 normalise-requires : tie.Need-normalise-requires
-normalise-requires c κs = (c .before .before .before .unpack .ensures .digits, pos-of-ne-zero (c .before .if1 .left))
+normalise-requires c κs =
+    let else1 = c .before in
+    let after-unpack = else1 .before .before in
+    (after-unpack .unpack .ensures .digits, pos-of-ne-zero (else1 .if1 .left))
 
 returns-3 : tie.Need-returns-3
 returns-3 c =
-    let n = c .before .normalise in
     let e = c .before .before in
-    let u = e .before .before .before in
+    let after-struct-known = e .before .before in
+    let u = after-struct-known .before in
+    let n = c .before .normalise in
     let x = u .before .args .x in
     let a = u .unpack .result in
     let is = signed u (e .if2 .left) in

@@ -7,11 +7,23 @@ use Rattle.ieee754.proofs.total_cmp.total_cmp.Tie as tie
 
 returns : tie.Need-returns
 unfolding totalCmp
-returns c = rw (sym (c .before .before .before .total-order .ensures) ∙ c .before .before .if1 .taken, sym (c .before .total-order2 .ensures) ∙ c .if2 .taken)
+returns c =
+    let then1 = c .before .before in
+    let after-total-order = then1 .before in
+    rw (
+      sym (after-total-order .total-order .ensures) ∙ then1 .if1 .taken,
+      sym (c .before .total-order2 .ensures) ∙ c .if2 .taken,
+    )
 
 returns-2 : tie.Need-returns-2
 unfolding totalCmp
-returns-2 c = rw (sym (c .before .before .before .total-order .ensures) ∙ c .before .before .if1 .taken, sym (c .before .total-order2 .ensures) ∙ c .if2 .left)
+returns-2 c =
+    let then1 = c .before .before in
+    let after-total-order = then1 .before in
+    rw (
+      sym (after-total-order .total-order .ensures) ∙ then1 .if1 .taken,
+      sym (c .before .total-order2 .ensures) ∙ c .if2 .left,
+    )
 
 returns-3 : tie.Need-returns-3
 unfolding totalCmp

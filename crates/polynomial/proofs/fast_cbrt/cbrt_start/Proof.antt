@@ -6,7 +6,7 @@ use mathlib.Core.Path.{refl}
 use denote.Floats.{passes}
 use lib.Ieee.{binary64, toBits}
 use lib.Ieee.Bits.{toBits-lt}
-use Rattle.ieee754.proofs.Reading.{in-range, no-nan}
+use Rattle.ieee754_parts.proofs.Reading.{in-range, no-nan}
 use Rattle.polynomial.specs.FastCbrt.{cbrtStart}
 use Rattle.polynomial.proofs.fast_cbrt.cbrt_start.Statement.{statement}
 use Rattle.polynomial.proofs.fast_cbrt.cbrt_start.Tie as tie

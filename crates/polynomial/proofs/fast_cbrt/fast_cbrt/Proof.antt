@@ -2,8 +2,8 @@
 use borrow.Author.Needs.{needs}
 use mathlib.Core.Path.{_≡_, refl}
 use mathlib.Core.Bool.{Bool, true, false, not, _||_, true≢false}
-use Rattle.ieee754.proofs.Reading.{finite-not-nan}
-use Rattle.ieee754.proofs.Order.{answered}
+use Rattle.ieee754_parts.proofs.Reading.{finite-not-nan}
+use Rattle.ieee754_parts.proofs.Tests.{answered}
 use Rattle.polynomial.specs.FastCbrt.{fastCbrt}
 use Rattle.polynomial.proofs.fast_cbrt.fast_cbrt.Statement.{statement}
 use Rattle.polynomial.proofs.fast_cbrt.fast_cbrt.Tie as tie

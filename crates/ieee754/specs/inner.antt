@@ -1,8 +1,0 @@
--- What the private functions return, on whole numbers and parts of doubles, from which the operations are made.
-pub mod Value
-pub mod Unpacked
-pub mod Nearest
-pub mod Jam
-pub mod Rounded
-pub mod Normal
-pub mod Leading

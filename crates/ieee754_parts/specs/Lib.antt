@@ -1,0 +1,8 @@
+-- What the functions of this crate return, on whole numbers and parts of doubles, from which the
+-- operations are made.
+pub mod Value
+pub mod Unpacked
+pub mod Jam
+pub mod Rounded
+pub mod Normal
+pub mod Leading

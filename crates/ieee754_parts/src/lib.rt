@@ -1,0 +1,11 @@
+// The whole-number parts of the operations on doubles: a double taken apart, numbers of two words,
+// rounding, a double put together, and the rounded sum of a product and an addend. What they return
+// is said by the definitions of specs/.
+pub mod format;
+pub mod leading;
+pub mod normal;
+pub mod pack;
+mod round;
+mod sum;
+pub mod unpack;
+pub mod wide;
