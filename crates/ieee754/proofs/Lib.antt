@@ -6,4 +6,5 @@ pub mod Sign
 pub mod RootLaws
 pub mod RootValues
 pub mod Exponent
+pub mod Evaluated
 mod Examples
