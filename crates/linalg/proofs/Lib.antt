@@ -1,5 +1,7 @@
--- The laws that crates above use: how the operations on vectors and matrices scale, that a regular squared length is zero or normal, and what is finite with a vector.
+-- The laws that crates above use: how the operations on vectors and matrices scale, that a regular
+-- squared length is zero or normal, what is finite with a vector, and what opens every definition.
 pub mod VectorDegrees
 pub mod MatrixDegrees
 pub mod SquaredLength
 pub mod Finite
+pub mod Evaluated

@@ -1,30 +1,49 @@
--- The inverse basis scales, with its rows at degrees -1, -1 and -2, and so the rotation that edges at degree 1 give with it is equal in the two runs. Assumes nothing.
-use mathlib.Core.Path.{_≡_, refl}
-use mathlib.Core.Bool.{Bool}
+-- The inverse basis scales, with its rows at degrees -1, -1 and -2, and so the rotation that edges
+-- at degree 1 give with it is equal in the two runs. Assumes nothing.
+use mathlib.Core.Path.{_≡_, refl, ap}
+use mathlib.Core.Bool.{Bool, not}
 use lib.IntN.{ℤ, pos, negsuc}
 use lib.Ieee.{Float}
 use Rattle.ieee754.specs.Literal.{one, sixtyFour, epsilon}
+use Rattle.ieee754.specs.Traced.{Traced}
 use Rattle.ieee754.specs.Scaling.{Both, At}
-use Rattle.ieee754_laws.proofs.Degrees.{same, !_, _⊗_, _⊘_, pure, if_then_else_, _>>=_, both-map, max-at, le-same, finite-same}
-use Rattle.p3p_common.specs.Types.{Vector3, Matrix3}
+use Rattle.ieee754_laws.proofs.Degrees.{same, !_, _⊗_, _⊘_, pure, if_then_else_, _>>=_, both-map, max-at}
+use Rattle.ieee754_laws.proofs.Degrees.{le-same, finite-same}
+use Rattle.p3p_common.specs.Types.{Vector3, Matrix3, Basis}
 use Rattle.linalg.specs.VectorScaling.{AtVector, AtRows}
 use Rattle.linalg.proofs.VectorDegrees.{vecMul-scales, normSquared-scales, cross-scales}
 use Rattle.linalg.proofs.MatrixDegrees.{matrix-at-zero, fromColumns-at, fromRows-at, matMul-scales}
-use Rattle.p3p_common.specs.WorldBasisInverse.{dualBasis, isSingular, worldBasisInverse}
+use Rattle.p3p_common.specs.WorldBasisInverse.{withInverse, dualBasis, isSingular}
+use Rattle.p3p_common.specs.WorldBasisInverse.{worldBasisInverse}
 use Rattle.p3p_common.specs.RotationFromEdges.{rotationFromEdges}
 use Rattle.p3p_common.specs.PoseScaling.{AtBasis, inverse-at, singular-at}
 
+-- what follows a basis, from bases at their degrees, in any relation of the two runs
+module _ {A : Type 0} {R : A → A → Type 0} {k : ℤ} {none none' : Traced A} {f f' : Matrix3 → Traced A} where
+  pub withInverse-scales : {b b' : Basis}
+      → AtBasis k b b'
+      → Both R none none'
+      → ((m m' : Matrix3) → AtRows k (negsuc 0) (negsuc 0) (negsuc 1) m m' → Both R (f m) (f' m'))
+      → Both R (withInverse b none f) (withInverse b' none' f')
+  withInverse-scales (inverse-at {m} {m'} h) none next = next m m' h
+  withInverse-scales singular-at none next = none
+
 module _ {k : ℤ} where
-  isSingular-same : {determinant determinant' scale scale' : Float} → At k (pos 4) determinant determinant' → At k (pos 2) scale scale' → Both {A = Bool} _≡_ (isSingular determinant scale) (isSingular determinant' scale')
+  isSingular-same : {determinant determinant' scale scale' : Float}
+      → At k (pos 4) determinant determinant'
+      → At k (pos 2) scale scale'
+      → Both {A = Bool} _≡_ (isSingular determinant scale) (isSingular determinant' scale')
   unfolding isSingular
   isSingular-same determinant scale =
-      if finite-same determinant then (
+      if ap not (finite-same determinant) then pure refl
+      else (
       ! same sixtyFour ⊗ ! same epsilon ⊗ ! scale ⊗ ! scale >>= λ _ _ limit.
       pure (le-same determinant limit))
-      else pure refl
 
   module _ {first first' second second' : Vector3} (first-at : AtVector k (pos 1) first first') (second-at : AtVector k (pos 1) second second') where
-    dualBasis-scales : {normal normal' : Vector3} {determinant determinant' : Float} → AtVector k (pos 2) normal normal' → At k (pos 4) determinant determinant'
+    dualBasis-scales : {normal normal' : Vector3} {determinant determinant' : Float}
+        → AtVector k (pos 2) normal normal'
+        → At k (pos 4) determinant determinant'
         → Both (AtRows k (negsuc 0) (negsuc 0) (negsuc 1)) (dualBasis first second normal determinant) (dualBasis first' second' normal' determinant')
     unfolding dualBasis
     dualBasis-scales normal determinant =
@@ -49,7 +68,9 @@ module _ {k : ℤ} where
         dualBasis-scales normal determinant >>= λ _ _ inverse.
         pure (inverse-at inverse))
 
-    pub rotationFromEdges-same : {m m' : Matrix3} → AtRows k (negsuc 0) (negsuc 0) (negsuc 1) m m' → Both {A = Matrix3} _≡_ (rotationFromEdges first second m) (rotationFromEdges first' second' m')
+    pub rotationFromEdges-same : {m m' : Matrix3}
+        → AtRows k (negsuc 0) (negsuc 0) (negsuc 1) m m'
+        → Both {A = Matrix3} _≡_ (rotationFromEdges first second m) (rotationFromEdges first' second' m')
     unfolding rotationFromEdges
     rotationFromEdges-same inverse =
         cross-scales first-at second-at >>= λ _ _ normal.

@@ -1,9 +1,11 @@
--- The tests of the rays come out the same in the two runs: the camera points are at degree 1, the bearings and the rotation equal. Assumes nothing.
+-- The tests of the rays come out the same in the two runs: the camera points are at degree 1, the
+-- bearings and the rotation equal. Assumes nothing.
 use mathlib.Core.Path.{_≡_, refl, ap₂}
 use mathlib.Core.Bool.{Bool, false, _&&_}
 use lib.IntN.{ℤ, pos}
 use Rattle.ieee754.specs.Scaling.{Both}
-use Rattle.ieee754_laws.proofs.Degrees.{same, null, !_, _⊗_, pure, if_then_else_, _>>=_, lt-same, le-same, finite-same}
+use Rattle.ieee754_laws.proofs.Degrees.{same, null, !_, _⊗_, pure, if_then_else_, _>>=_, lt-same}
+use Rattle.ieee754_laws.proofs.Degrees.{le-same, finite-same}
 use Rattle.linalg.specs.VectorScaling.{AtVector}
 use Rattle.linalg.proofs.VectorDegrees.{same-vector, dot-scales, normSquared-scales, cross-scales}
 use Rattle.frames.specs.FrameScaling.{AtPose}
@@ -19,7 +21,9 @@ no : false ≡ false
 no = refl
 
 module _ {k : ℤ} where
-  pub rayFits-same : {camera camera' : Vector3} (bearing : Vector3) → AtVector k (pos 1) camera camera' → Both {A = Bool} _≡_ (rayFits camera bearing) (rayFits camera' bearing)
+  pub rayFits-same : {camera camera' : Vector3} (bearing : Vector3)
+      → AtVector k (pos 1) camera camera'
+      → Both {A = Bool} _≡_ (rayFits camera bearing) (rayFits camera' bearing)
   unfolding rayFits
   rayFits-same bearing camera =
       dot-scales camera (same-vector bearing) >>= λ _ _ rayDepth.
@@ -39,7 +43,8 @@ module _ {k : ℤ} where
         cameraPoint-scales pose-at world >>= λ _ _ camera.
         rayFits-same bearing camera
 
-    pub projectedPose-same : {input input' : P3pInput} → AtInput k input input'
+    pub projectedPose-same : {input input' : P3pInput}
+        → AtInput k input input'
         → Both {A = Bool} _≡_ (projectedPoseFitsMinimalSample input pose) (projectedPoseFitsMinimalSample input' pose')
     unfolding projectedPoseFitsMinimalSample
     projectedPose-same {input} {input'} h =

@@ -1,28 +1,43 @@
--- The refinement scales: depths at degree 1 from squared edges at 2, with the same number of updates. The residuals have degree 2, the denominator 3 and its inverse -3. Assumes nothing.
-use mathlib.Core.Path.{refl, ap₂}
-use mathlib.Core.Bool.{Bool, not, _||_}
+-- The refinement scales: depths at degree 1 from squared edges at 2, with the same number of
+-- updates. The residuals have degree 2, the denominator 3 and its inverse -3. Assumes nothing.
+use mathlib.Core.Path.{refl, ap, ap₂}
+use mathlib.Core.Bool.{not, _||_}
 use Prim.Native.Nat.{ℕ, zero, suc, _+_}
 use lib.IntN.{ℤ, pos}
 use lib.Ieee.{Float}
 use Rattle.ieee754.specs.Literal.{half, two}
 use Rattle.ieee754.specs.Traced.{Traced}
 use Rattle.ieee754.specs.Scaling.{Both, At}
-use Rattle.ieee754_laws.proofs.Degrees.{same, null, !_, ⊝_, _⊗_, _⊘_, _⊕_, _⊖_, pure, if_then_else_, _>>=_, choose, max-at, lt-same, eq-same, finite-same}
+use Rattle.ieee754_laws.proofs.Degrees.{same, null, !_, ⊝_, _⊗_, _⊘_, _⊕_, _⊖_, pure, if_then_else_}
+use Rattle.ieee754_laws.proofs.Degrees.{_>>=_, choose, max-at, lt-same, eq-same, finite-same}
 use Rattle.linalg.specs.VectorScaling.{AtVector}
 use Rattle.linalg.proofs.VectorDegrees.{absSum-scales, allFinite-same}
-use Rattle.p3p_common.specs.Types.{Vector3, SquaredEdges, Cosines, Refined, Step, Next, Stop}
+use Rattle.p3p_common.specs.Types.{Vector3, SquaredEdges, Cosines, Step, Next, Stop}
 use Rattle.p3p_common.specs.Literal.{ten⁻¹⁰}
-use Rattle.p3p_common.specs.RefineDepths.{depthResidual, ifFinite, depthUpdate, depthStep, afterStep, refineTurns, refineDepths}
+use Rattle.p3p_common.specs.RefineDepths.{depthResidual, ifFinite, depthUpdate, depthStep}
+use Rattle.p3p_common.specs.RefineDepths.{afterStep, refineTurns, refineDepths}
 use Rattle.frames.specs.FrameScaling.{AtEdges}
 use Rattle.p3p_common.specs.PoseScaling.{AtRefined}
 
 -- both stop, or both go on
-data AtStep (k : ℤ) : Step → Step → Type 0 where
+pub data AtStep (k : ℤ) : Step → Step → Type 0 where
   next-at : {v v' : Vector3} → AtVector k (pos 1) v v' → AtStep k (Next v) (Next v')
   stop-at : AtStep k Stop Stop
 
+-- what follows a turn, in any relation of the two runs
+module _ {A : Type 0} {R : A → A → Type 0} {k : ℤ} {none none' : Traced A} {f f' : Vector3 → Traced A} where
+  pub afterStep-scales : {s s' : Step}
+      → AtStep k s s'
+      → Both R none none'
+      → ((v v' : Vector3) → AtVector k (pos 1) v v' → Both R (f v) (f' v'))
+      → Both R (afterStep s none f) (afterStep s' none' f')
+  afterStep-scales (next-at {v} {v'} h) none next = next v v' h
+  afterStep-scales stop-at none next = none
+
 module _ {k : ℤ} (cosines : Cosines) where
-  depthResidual-scales : {depths depths' : Vector3} {edges edges' : SquaredEdges} → AtVector k (pos 1) depths depths' → AtEdges k edges edges'
+  depthResidual-scales : {depths depths' : Vector3} {edges edges' : SquaredEdges}
+      → AtVector k (pos 1) depths depths'
+      → AtEdges k edges edges'
       → Both (AtVector k (pos 2)) (depthResidual depths edges cosines) (depthResidual depths' edges' cosines)
   unfolding depthResidual
   depthResidual-scales depths edges =
@@ -39,9 +54,11 @@ module _ {k : ℤ} (cosines : Cosines) where
 
   ifFinite-scales : {v v' : Vector3} → AtVector k (pos 1) v v' → AtStep k (ifFinite v) (ifFinite v')
   unfolding ifFinite
-  ifFinite-scales v = choose (AtStep k) (allFinite-same v) (next-at v) stop-at
+  ifFinite-scales v = choose (AtStep k) (ap not (allFinite-same v)) stop-at (next-at v)
 
-  depthUpdate-scales : {depths depths' residual residual' : Vector3} → AtVector k (pos 1) depths depths' → AtVector k (pos 2) residual residual'
+  depthUpdate-scales : {depths depths' residual residual' : Vector3}
+      → AtVector k (pos 1) depths depths'
+      → AtVector k (pos 2) residual residual'
       → Both (AtStep k) (depthUpdate depths cosines residual) (depthUpdate depths' cosines residual')
   unfolding depthUpdate
   depthUpdate-scales depths residual =
@@ -61,7 +78,7 @@ module _ {k : ℤ} (cosines : Cosines) where
       ! d1 ⊖ ! d2 ⊗ ! m12 >>= λ _ _ x32.
       ! d2 ⊖ ! d1 ⊗ ! m12 >>= λ _ _ x33.
       ! x11 ⊗ ! x23 ⊗ ! x32 ⊕ ! x12 ⊗ ! x21 ⊗ ! x33 >>= λ _ _ denominator.
-      if ap₂ (λ (a b : Bool). not a || b) (finite-same denominator) (eq-same denominator null) then pure stop-at
+      if ap₂ _||_ (ap not (finite-same denominator)) (eq-same denominator null) then pure stop-at
       else (
       ! same half ⊘ ! denominator >>= λ _ _ inverse.
       ! d0 ⊕ (⊝ ! x23 ⊗ ! x32 ⊗ ! r0 ⊖ ! x12 ⊗ ! x33 ⊗ ! r1 ⊕ ! x12 ⊗ ! x23 ⊗ ! r2) ⊗ ! inverse >>= λ _ _ c0.
@@ -71,29 +88,29 @@ module _ {k : ℤ} (cosines : Cosines) where
 
   -- ---- the loop
   module _ {edges edges' : SquaredEdges} {tolerance tolerance' : Float} (edges-at : AtEdges k edges edges') (tolerance-at : At k (pos 2) tolerance tolerance') where
-    depthStep-scales : {depths depths' : Vector3} → AtVector k (pos 1) depths depths' → Both (AtStep k) (depthStep depths edges cosines tolerance) (depthStep depths' edges' cosines tolerance')
+    depthStep-scales : {depths depths' : Vector3}
+        → AtVector k (pos 1) depths depths'
+        → Both (AtStep k) (depthStep depths edges cosines tolerance) (depthStep depths' edges' cosines tolerance')
     unfolding depthStep
     depthStep-scales depths =
         depthResidual-scales depths edges-at >>= λ _ _ residual.
         absSum-scales residual >>= λ _ _ residualNorm.
         if lt-same residualNorm tolerance-at then pure stop-at else depthUpdate-scales depths residual
 
-    afterStep-scales : {s s' : Step} {r r' : Refined} {f f' : Vector3 → Traced Refined} → AtStep k s s' → AtRefined k r r' → ((v v' : Vector3) → AtVector k (pos 1) v v' → Both (AtRefined k) (f v) (f' v'))
-        → Both (AtRefined k) (afterStep s r f) (afterStep s' r' f')
-    unfolding afterStep
-    afterStep-scales (next-at {v} {v'} h) r f = f v v' h
-    afterStep-scales stop-at r f = pure r
-
-    refineTurns-scales : (n u : ℕ) {depths depths' : Vector3} → AtVector k (pos 1) depths depths'
+    refineTurns-scales : (n u : ℕ) {depths depths' : Vector3}
+        → AtVector k (pos 1) depths depths'
         → Both (AtRefined k) (refineTurns n depths edges cosines tolerance u) (refineTurns n depths' edges' cosines tolerance' u)
     unfolding refineTurns
     refineTurns-scales zero u depths = pure (record { depths = depths; updates = refl })
     refineTurns-scales (suc n) u {depths} {depths'} h =
-        let now : AtRefined k (record { depths = depths; updates = u }) (record { depths = depths'; updates = u }) = record { depths = h; updates = refl } in
+        let now : AtRefined k (record { depths = depths; updates = u }) (record { depths = depths'; updates = u }) =
+        record { depths = h; updates = refl } in
         depthStep-scales h >>= λ _ _ step.
-        afterStep-scales step now (λ _ _ next. refineTurns-scales n (u + 1) next)
+        afterStep-scales step (pure now) (λ _ _ next. refineTurns-scales n (u + 1) next)
 
-  pub refineDepths-scales : {depths depths' : Vector3} {edges edges' : SquaredEdges} (iterations : ℕ) → AtVector k (pos 1) depths depths' → AtEdges k edges edges'
+  pub refineDepths-scales : {depths depths' : Vector3} {edges edges' : SquaredEdges} (iterations : ℕ)
+      → AtVector k (pos 1) depths depths'
+      → AtEdges k edges edges'
       → Both (AtRefined k) (refineDepths depths edges cosines iterations) (refineDepths depths' edges' cosines iterations)
   unfolding refineDepths
   refineDepths-scales iterations depths edges =

@@ -1,4 +1,5 @@
--- The slots of a solve hold what specs/PoseSlots.antt says: at the start, and after a pose is pushed that took at most five updates. The refinement with five turns makes at most five. Assumes
+-- The slots of a solve hold what specs/PoseSlots.antt says: at the start, and after a pose is
+-- pushed that took at most five updates. The refinement with five turns makes at most five. Assumes
 -- nothing.
 use mathlib.Core.Path.{_≡_, refl, _∙_, subst⁻¹}
 use mathlib.Core.Logic.{_⊎_, inl, inr}
@@ -10,12 +11,15 @@ use lib.Dec.{T, ltb, ltb→lt}
 use lib.ListN.{getD, set, length-set}
 use lib.Seq.{getD-set-same, getD-set-other}
 use lib.Ieee.{Float}
+use Rattle.ieee754.specs.Traced.{pure}
 use Rattle.ieee754.proofs.Tests.{either-way}
 use Rattle.ieee754_laws.proofs.Entries.{replicate-entry}
 use Rattle.linalg.specs.Vectors.{allFinite}
 use Rattle.linalg.specs.Matrices.{matFinite}
 use Rattle.frames.specs.Poses.{zeroPose}
-use Rattle.p3p_common.specs.Types.{Vector3, Matrix3, Pose, SquaredEdges, Cosines, P3pInput, Gated, Passed, Projected, Dropped, Solutions, Step, Next, Stop}
+use Rattle.p3p_common.specs.Types.{Vector3, Matrix3, Pose, SquaredEdges, Cosines, P3pInput}
+use Rattle.p3p_common.specs.Types.{Gated, Passed, Projected, Dropped, Solutions, Step, Next}
+use Rattle.p3p_common.specs.Types.{Stop}
 use Rattle.p3p_common.specs.RefineDepths.{depthStep, afterStep, refineTurns, refineDepths}
 use Rattle.p3p_common.specs.Gate.{gate}
 use Rattle.p3p_common.specs.Slots.{empty, push}
@@ -60,25 +64,35 @@ push-kept s p u f h k =
     })
     (λ _. k)
 
-pushGated-kept : (s : Solutions) (g : Gated) (u : ℕ) → FiniteGated g → u ≤ 5 → Kept s → Kept (pushGated s g u)
+pushGated-kept : (s : Solutions) (g : Gated) (u : ℕ)
+    → FiniteGated g
+    → u ≤ 5
+    → Kept s
+    → Kept (pushGated s g u)
 unfolding pushGated
 pushGated-kept s (Passed p) u f h k = push-kept s p u f h k
 pushGated-kept s (Projected p) u f h k = push-kept s p u f h k
 pushGated-kept s Dropped u f h k = k
 
-pub pushPose-kept : (input : P3pInput) (s : Solutions) (r : Matrix3) (t : Vector3) (u : ℕ) → (T (allFinite t) → T (matFinite r)) → u ≤ 5 → Kept s → Kept (pushPose input s r t u .value)
+pub pushPose-kept : (input : P3pInput) (s : Solutions) (r : Matrix3) (t : Vector3) (u : ℕ)
+    → (T (allFinite t) → T (matFinite r))
+    → u ≤ 5
+    → Kept s
+    → Kept (pushPose input s r t u .value)
 unfolding pushPose
 pushPose-kept input s r t u whole h k = pushGated-kept s (gate input r t .value) u (gate-finite input r t whole) h k
 
 -- ---- the updates of a refinement
 module _ (edges : SquaredEdges) (cosines : Cosines) where
-  turns-few : (n : ℕ) (d : Vector3) (tolerance : Float) (u : ℕ) → refineTurns n d edges cosines tolerance u .value .updates ≤ u + n
-  unfolding refineTurns afterStep
+  turns-few : (n : ℕ) (d : Vector3) (tolerance : Float) (u : ℕ)
+      → refineTurns n d edges cosines tolerance u .value .updates ≤ u + n
+  unfolding refineTurns
   turns-few zero d tolerance u = omega arith
   turns-few (suc n) d tolerance u = go (depthStep d edges cosines tolerance .value) (λ v. turns-few n v tolerance (u + 1))
     where
-      go : (step : Step) → ((v : Vector3) → refineTurns n v edges cosines tolerance (u + 1) .value .updates ≤ u + 1 + n)
-          → afterStep step (record { depths = d; updates = u }) (λ v. refineTurns n v edges cosines tolerance (u + 1)) .value .updates ≤ u + suc n
+      go : (step : Step)
+          → ((v : Vector3) → refineTurns n v edges cosines tolerance (u + 1) .value .updates ≤ u + 1 + n)
+          → afterStep step (pure (record { depths = d; updates = u })) (λ v. refineTurns n v edges cosines tolerance (u + 1)) .value .updates ≤ u + suc n
       go Stop rest = omega arith
       go (Next v) rest = let r = rest v in omega arith
 

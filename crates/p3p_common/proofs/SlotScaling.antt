@@ -1,4 +1,5 @@
--- Solutions of two runs stay alike as a pose is pushed: the same count and updates, the poses at their degrees. Assumes nothing.
+-- Solutions of two runs stay alike as a pose is pushed: the same count and updates, the poses at
+-- their degrees. Assumes nothing.
 use mathlib.Core.Path.{refl, ap}
 use Prim.Native.Nat.{ℕ, _+_}
 use lib.IntN.{ℤ, pos}
@@ -14,7 +15,8 @@ use Rattle.p3p_common.specs.Types.{Vector3, Matrix3, Pose, P3pInput, Gat
 use Rattle.p3p_common.specs.Slots.{empty, push}
 use Rattle.p3p_common.specs.PushPose.{pushGated, pushPose}
 use Rattle.frames.specs.FrameScaling.{AtPose}
-use Rattle.p3p_common.specs.PoseScaling.{AtInput, AtGated, passed-at, projected-at, dropped-at, AtSolutions}
+use Rattle.p3p_common.specs.PoseScaling.{AtInput, AtGated, passed-at, projected-at}
+use Rattle.p3p_common.specs.PoseScaling.{dropped-at, AtSolutions}
 use Rattle.p3p_common.proofs.GateScaling.{gate-scales}
 
 module _ {k : ℤ} where
@@ -29,7 +31,10 @@ module _ {k : ℤ} where
     updates = refl;
   }
 
-  pub push-scales : {s s' : Solutions} {p p' : Pose} (u : ℕ) → AtSolutions k s s' → AtPose k p p' → AtSolutions k (push s p u) (push s' p' u)
+  pub push-scales : {s s' : Solutions} {p p' : Pose} (u : ℕ)
+      → AtSolutions k s s'
+      → AtPose k p p'
+      → AtSolutions k (push s p u) (push s' p' u)
   unfolding push
   push-scales u h q =
       choose (AtSolutions k) (ap (λ (n : ℕ). ltb n 4) (h .count))
@@ -40,13 +45,19 @@ module _ {k : ℤ} where
       })
       h
 
-  pushGated-scales : {s s' : Solutions} {g g' : Gated} (u : ℕ) → AtSolutions k s s' → AtGated k g g' → AtSolutions k (pushGated s g u) (pushGated s' g' u)
+  pushGated-scales : {s s' : Solutions} {g g' : Gated} (u : ℕ)
+      → AtSolutions k s s'
+      → AtGated k g g'
+      → AtSolutions k (pushGated s g u) (pushGated s' g' u)
   unfolding pushGated
   pushGated-scales u s (passed-at p) = push-scales u s p
   pushGated-scales u s (projected-at p) = push-scales u s p
   pushGated-scales u s dropped-at = s
 
-  pub pushPose-scales : {input input' : P3pInput} {s s' : Solutions} (raw : Matrix3) {t t' : Vector3} (u : ℕ) → AtInput k input input' → AtSolutions k s s' → AtVector k (pos 1) t t'
+  pub pushPose-scales : {input input' : P3pInput} {s s' : Solutions} (raw : Matrix3) {t t' : Vector3} (u : ℕ)
+      → AtInput k input input'
+      → AtSolutions k s s'
+      → AtVector k (pos 1) t t'
       → Both (AtSolutions k) (pushPose input s raw t u) (pushPose input' s' raw t' u)
   unfolding pushPose
   pushPose-scales raw u input s t =

@@ -1,4 +1,6 @@
--- The cases of document 01, "Checked by hand", that are marked P and speak of the refinement and of the rays, as rows of a table: numbers by their bit patterns. That they hold is `marked-cases` of the crate theorems.
+-- The cases of document 01, "Checked by hand", that are marked P and speak of the refinement and of
+-- the rays, as rows of a table: numbers by their bit patterns. That they hold is `marked-cases` of
+-- the crate theorems.
 use Prim.Native.Nat.{ℕ}
 use mathlib.Core.Bool.{Bool, true, false, _&&_, Bool·beq}
 use mathlib.Core.List.{List, [], _∷_}
@@ -10,7 +12,9 @@ use Rattle.p3p_common.specs.Types.{Vector3, Refined}
 use Rattle.p3p_common.specs.RefineDepths.{refineDepths}
 use Rattle.p3p_common.specs.RayFits.{rayFits}
 
--- a row: of the refinement, the three depths alike, the three squared edges, the three cosines, the updates allowed, and the depths and the updates that come out; of a ray, the camera point, the bearing, and whether it fits
+-- a row: of the refinement, the three depths alike, the three squared edges, the three cosines, the
+-- updates allowed, and the depths and the updates that come out; of a ray, the camera point, the
+-- bearing, and whether it fits
 pub data PoseCase : Type 0 where
   refinement : (depth edge cosine iterations after updates : ℕ) → PoseCase
   ray : (x y z f g h : ℕ) → Bool → PoseCase

@@ -1,21 +1,24 @@
--- What becomes of a pose recovered from edges and positive depths: push_pose_with_cheirality of pose/p3p/common.rs where `edge_basis_with_positive_depths` holds, with the test of push_valid_rotation.
+-- What becomes of a pose recovered from edges and positive depths: push_pose_with_cheirality of
+-- pose/p3p/common.rs where `edge_basis_with_positive_depths` holds, with the test of
+-- push_valid_rotation.
+use mathlib.Core.Bool.{not}
 use Rattle.ieee754.specs.Traced.{Traced, pure, _>>=_, if_then_else_}
 use Rattle.linalg.specs.Vectors.{allFinite, vecSub}
 use Rattle.linalg.specs.Matrices.{matVec}
 use Rattle.frames.specs.Poses.{cameraPoint}
-use Rattle.p3p_common.specs.Types.{Vector3, Matrix3, Pose, P3pInput, Projection, Rotation, Refused, Gated, Passed, Projected, Dropped}
+use Rattle.p3p_common.specs.Types.{Vector3, Matrix3, Pose, P3pInput, Gated, Passed, Projected}
+use Rattle.p3p_common.specs.Types.{Dropped}
 use Rattle.p3p_common.specs.NearOrthonormal.{hasNearOrthonormalColumns}
-use Rattle.p3p_common.specs.ProjectToRotation.{projectToRotation}
+use Rattle.p3p_common.specs.ProjectToRotation.{withRotation, projectToRotation}
 use Rattle.p3p_common.specs.ProjectedPose.{projectedPoseFitsMinimalSample}
 
 -- push_valid_rotation: a translation that is not finite drops the pose
 unfoldable pub ifValid : (Pose → Gated) → Pose → Gated
-ifValid gated pose = if allFinite (pose .translation) then gated pose else Dropped
+ifValid gated pose = if not (allFinite (pose .translation)) then Dropped else gated pose
 
 -- the pose with its projected rotation: camera point 0 is kept, and all three rays must fit
-unfoldable pub keepPoint0 : P3pInput → Matrix3 → Vector3 → Projection → Traced Gated
-keepPoint0 input rawRotation translation Refused = pure Dropped
-keepPoint0 input rawRotation translation (Rotation rotation) = do
+unfoldable pub keepPoint0 : P3pInput → Matrix3 → Vector3 → Matrix3 → Traced Gated
+keepPoint0 input rawRotation translation rotation = do
   -- let camera0 = raw_rotation * self.world[0] + translation;
   camera0 ← cameraPoint (record { rotation = rawRotation; translation = translation }) (input .world .p0)
   -- let translation = camera0 - rotation * self.world[0];
@@ -23,14 +26,15 @@ keepPoint0 input rawRotation translation (Rotation rotation) = do
   kept ← vecSub camera0 turned
   let pose : Pose = record { rotation = rotation; translation = kept }
   fits ← projectedPoseFitsMinimalSample input pose
-  pure (if fits then ifValid Projected pose else Dropped)
+  pure (if not fits then Dropped else ifValid Projected pose)
 
 unfoldable pub projectedGate : P3pInput → Matrix3 → Vector3 → Traced Gated
 projectedGate input rawRotation translation = do
   projection ← projectToRotation rawRotation
-  keepPoint0 input rawRotation translation projection
+  withRotation projection (pure Dropped) (keepPoint0 input rawRotation translation)
 
 unfoldable pub gate : P3pInput → Matrix3 → Vector3 → Traced Gated
 gate input rawRotation translation = do
   isNearRotation ← hasNearOrthonormalColumns rawRotation
-  if isNearRotation then pure (ifValid Passed (record { rotation = rawRotation; translation = translation })) else projectedGate input rawRotation translation
+  let pose : Pose = record { rotation = rawRotation; translation = translation }
+  if isNearRotation then pure (ifValid Passed pose) else projectedGate input rawRotation translation

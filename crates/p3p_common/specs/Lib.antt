@@ -1,4 +1,5 @@
--- The definitions that the contracts of this crate cite, in the order of a solve; what the slots hold; and the relations of the scaling rule between two runs.
+-- The definitions that the contracts of this crate cite, in the order of a solve; what the slots
+-- hold; and the relations of the scaling rule between two runs.
 pub mod Types
 pub mod Literal
 pub mod Input

@@ -9,8 +9,12 @@ use Rattle.linalg.specs.Matrices.{column0, column1, column2}
 use Rattle.p3p_common.specs.Types.{Matrix3}
 use Rattle.p3p_common.specs.Literal.{nearRotationTolerance}
 
--- (first.norm_squared() - 1.0).abs() + (second.norm_squared() - 1.0).abs() + (third.norm_squared() - 1.0).abs()
---     + first.dot(&second).abs() + first.dot(&third).abs() + second.dot(&third).abs() <= NEAR_ROTATION_TOLERANCE
+-- (first.norm_squared() - 1.0).abs()
+--     + (second.norm_squared() - 1.0).abs()
+--     + (third.norm_squared() - 1.0).abs()
+--     + first.dot(&second).abs()
+--     + first.dot(&third).abs()
+--     + second.dot(&third).abs() <= NEAR_ROTATION_TOLERANCE
 unfoldable pub hasNearOrthonormalColumns : Matrix3 → Traced Bool
 hasNearOrthonormalColumns matrix =
     let first = column0 matrix in

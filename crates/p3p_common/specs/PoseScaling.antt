@@ -1,10 +1,12 @@
--- What the scaling rule says of two runs' inputs, depths, bases, gates and solutions: depths at degree 1, bearings and counts equal.
+-- What the scaling rule says of two runs' inputs, depths, bases, gates and solutions: depths at
+-- degree 1, bearings and counts equal.
 use mathlib.Core.Path.{_≡_}
 use mathlib.Core.List.{Forall₂}
 use lib.IntN.{ℤ, pos, negsuc}
 use Rattle.linalg.specs.VectorScaling.{AtVector, AtRows}
 use Rattle.frames.specs.FrameScaling.{AtWorld, AtPose}
-use Rattle.p3p_common.specs.Types.{Matrix3, Pose, P3pInput, Refined, Basis, Inverse, Singular, Gated, Passed, Projected, Dropped, Solutions}
+use Rattle.p3p_common.specs.Types.{Matrix3, Pose, P3pInput, Refined, Basis, Inverse, Singular}
+use Rattle.p3p_common.specs.Types.{Gated, Passed, Projected, Dropped, Solutions}
 
 pub record AtInput (k : ℤ) (input input' : P3pInput) : Type 0 where
   pub world : AtWorld k (input .world) (input' .world)
@@ -16,7 +18,9 @@ pub record AtRefined (k : ℤ) (r r' : Refined) : Type 0 where
 
 -- the inverse's rows at -1, -1 and -2, or neither run has one
 pub data AtBasis (k : ℤ) : Basis → Basis → Type 0 where
-  inverse-at : {m m' : Matrix3} → AtRows k (negsuc 0) (negsuc 0) (negsuc 1) m m' → AtBasis k (Inverse m) (Inverse m')
+  inverse-at : {m m' : Matrix3}
+      → AtRows k (negsuc 0) (negsuc 0) (negsuc 1) m m'
+      → AtBasis k (Inverse m) (Inverse m')
   singular-at : AtBasis k Singular Singular
 
 -- both passed, both projected, or both dropped
@@ -25,7 +29,8 @@ pub data AtGated (k : ℤ) : Gated → Gated → Type 0 where
   projected-at : {p p' : Pose} → AtPose k p p' → AtGated k (Projected p) (Projected p')
   dropped-at : AtGated k Dropped Dropped
 
--- the library's `Forall₂ R` says of two lists that they are of one length and that R holds of their entries in each place
+-- the library's `Forall₂ R` says of two lists that they are of one length and that R holds of their
+-- entries in each place
 pub record AtSolutions (k : ℤ) (s s' : Solutions) : Type 0 where
   pub count : s .count ≡ s' .count
   pub poses : Forall₂ (AtPose k) (s .poses) (s' .poses)

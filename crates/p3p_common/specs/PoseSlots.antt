@@ -1,5 +1,7 @@
--- What the four slots of a solve hold, at its start and after each push: at most four poses, each of twelve finite numbers and after at most five depth updates, and in the slots beyond the count plus
--- zeros and 0. Demand 1 of the mission is stated with it (document 01: "A pose is nine rotation entries and three translation entries, all finite").
+-- What the four slots of a solve hold, at its start and after each push: at most four poses, each
+-- of twelve finite numbers and after at most five depth updates, and in the slots beyond the count
+-- plus zeros and 0. Demand 1 of the mission is stated with it (document 01: "A pose is nine
+-- rotation entries and three translation entries, all finite").
 use mathlib.Core.Path.{_≡_}
 use mathlib.Core.List.{List}
 use Prim.Native.Nat.{ℕ, _≤_, _<_}
@@ -10,7 +12,8 @@ use Rattle.linalg.specs.Matrices.{matFinite}
 use Rattle.frames.specs.Poses.{zeroPose}
 use Rattle.p3p_common.specs.Types.{Pose}
 
--- four slots, numbered from 0 (`getD slots i unused` is slot i): of those below the count `Holds` is true, and the rest hold `unused`
+-- four slots, numbered from 0 (`getD slots i unused` is slot i): of those below the count `Holds`
+-- is true, and the rest hold `unused`
 pub record Filled {A : Type 0} (Holds : A → Type 0) (unused : A) (count : ℕ) (slots : List A) : Type 0 where
   pub four : length slots ≡ 4
   pub held : (i : ℕ) → i < count → Holds (getD slots i unused)

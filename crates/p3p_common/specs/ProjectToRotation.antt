@@ -1,5 +1,7 @@
--- project_to_rotation of pose/p3p/common.rs: modified Gram-Schmidt on the first two columns, their cross product for the third. The Rust writes `f64::EPSILON.sqrt()` in both tests; here it is
+-- project_to_rotation of pose/p3p/common.rs: modified Gram-Schmidt on the first two columns, their
+-- cross product for the third. The Rust writes `f64::EPSILON.sqrt()` in both tests; here it is
 -- computed once.
+use mathlib.Core.Bool.{not}
 use lib.Ieee.{le}
 use Rattle.ieee754.specs.Literal.{epsilon}
 use Rattle.ieee754.specs.Traced.{Traced, pure, _>>=_, if_then_else_, !_, √_}
@@ -7,9 +9,15 @@ use Rattle.linalg.specs.Vectors.{dot, norm, cross, vecSub, vecMul, vecDiv}
 use Rattle.linalg.specs.Matrices.{column0, column1, fromColumns, matFinite}
 use Rattle.p3p_common.specs.Types.{Matrix3, Projection, Rotation, Refused}
 
+-- ---- what follows a projection: what `k` makes of the rotation, and `none` where there is none
+abbrev pub withRotation : {A : Type 0} → Projection → Traced A → (Matrix3 → Traced A) → Traced A
+withRotation (Rotation rotation) none k = k rotation
+withRotation Refused none k = none
+
 unfoldable pub projectToRotation : Matrix3 → Traced Projection
 projectToRotation matrix =
-    if matFinite matrix then (do
+    if not (matFinite matrix) then pure Refused
+    else do
       firstNorm ← norm (column0 matrix)
       rootEpsilon ← √ ! epsilon
       if le firstNorm rootEpsilon then pure Refused
@@ -24,5 +32,4 @@ projectToRotation matrix =
                 else do
                   unit ← vecDiv second secondNorm
                   third ← cross first unit
-                  pure (Rotation (fromColumns first unit third)))
-    else pure Refused
+                  pure (Rotation (fromColumns first unit third))

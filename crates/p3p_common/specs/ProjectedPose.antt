@@ -1,4 +1,5 @@
--- projected_pose_fits_minimal_sample of pose/p3p/common.rs: `all` ends at the first observation that does not fit, and the rest are not reached.
+-- projected_pose_fits_minimal_sample of pose/p3p/common.rs: `all` ends at the first observation
+-- that does not fit, and the rest are not reached.
 use mathlib.Core.Bool.{Bool, false}
 use Rattle.ieee754.specs.Traced.{Traced, pure, _>>=_, if_then_else_}
 use Rattle.frames.specs.Poses.{cameraPoint}

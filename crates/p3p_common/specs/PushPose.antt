@@ -1,7 +1,9 @@
--- push_edge_basis_pose_from_positive_depths of pose/p3p/common.rs: a pose is appended to the solutions where the gate lets it by.
+-- push_edge_basis_pose_from_positive_depths of pose/p3p/common.rs: a pose is appended to the
+-- solutions where the gate lets it by.
 use Prim.Native.Nat.{ℕ}
 use Rattle.ieee754.specs.Traced.{Traced, pure, _>>=_}
-use Rattle.p3p_common.specs.Types.{Vector3, Matrix3, P3pInput, Gated, Passed, Projected, Dropped, Solutions}
+use Rattle.p3p_common.specs.Types.{Vector3, Matrix3, P3pInput, Gated, Passed, Projected}
+use Rattle.p3p_common.specs.Types.{Dropped, Solutions}
 use Rattle.p3p_common.specs.Gate.{gate}
 use Rattle.p3p_common.specs.Slots.{push}
 

@@ -1,4 +1,5 @@
--- refine_depths of pose/p3p/common.rs; document 01, module 4. The test of the residual comes before each update, and none follows the last. The updates are counted.
+-- refine_depths of pose/p3p/common.rs; document 01, module 4. The test of the residual comes before
+-- each update, and none follows the last. The updates are counted.
 use Prim.Native.Nat.{ℕ, zero, suc, _+_}
 use mathlib.Core.Bool.{not, _||_}
 use lib.Ieee.{Float, lt, eq}
@@ -9,6 +10,11 @@ use Rattle.ieee754.specs.Traced.{Traced, pure, _>>=_, if_then_else_, _⊗_, _�
 use Rattle.linalg.specs.Vectors.{vector, absSum, allFinite}
 use Rattle.p3p_common.specs.Types.{Vector3, SquaredEdges, Cosines, Refined, Step, Next, Stop}
 use Rattle.p3p_common.specs.Literal.{ten⁻¹⁰}
+
+-- ---- what follows a turn: `none` where it stops, and else what `k` makes of the new depths
+abbrev pub afterStep : {A : Type 0} → Step → Traced A → (Vector3 → Traced A) → Traced A
+afterStep Stop none k = none
+afterStep (Next depths) none k = k depths
 
 -- d0 * d0 - 2.0 * d0 * d1 * m01 + d1 * d1 - a01,
 -- d0 * d0 - 2.0 * d0 * d2 * m02 + d2 * d2 - a02,
@@ -26,7 +32,7 @@ depthResidual depths squaredEdges bearingCosines =
 
 -- if candidate.iter().any(|value| !value.is_finite()) { break; } *depths = candidate;
 unfoldable pub ifFinite : Vector3 → Step
-ifFinite candidate = if allFinite candidate then Next candidate else Stop
+ifFinite candidate = if not (allFinite candidate) then Stop else Next candidate
 
 -- from `let x11 = d0 - d1 * m01;` to the new depths
 unfoldable pub depthUpdate : Vector3 → Cosines → Vector3 → Traced Step
@@ -57,20 +63,18 @@ depthStep depths squaredEdges bearingCosines residualTolerance = do
   residualNorm ← absSum residual
   if lt residualNorm residualTolerance then pure Stop else depthUpdate depths bearingCosines residual
 
--- what follows a turn: the end with what there was before it, or the rest of the loop from the new depths
-unfoldable pub afterStep : Step → Refined → (Vector3 → Traced Refined) → Traced Refined
-afterStep Stop refined rest = pure refined
-afterStep (Next candidate) refined rest = rest candidate
-
 -- the loop: at most n turns more, after `updates`
 unfoldable pub refineTurns : ℕ → Vector3 → SquaredEdges → Cosines → Float → ℕ → Traced Refined
-refineTurns zero depths squaredEdges bearingCosines residualTolerance updates = pure (record { depths = depths; updates = updates })
+refineTurns zero depths squaredEdges bearingCosines residualTolerance updates =
+    pure (record { depths = depths; updates = updates })
 refineTurns (suc n) depths squaredEdges bearingCosines residualTolerance updates = do
   step ← depthStep depths squaredEdges bearingCosines residualTolerance
-  afterStep step (record { depths = depths; updates = updates }) (λ candidate. refineTurns n candidate squaredEdges bearingCosines residualTolerance (updates + 1))
+  afterStep step (pure (record { depths = depths; updates = updates })) (λ candidate.
+      refineTurns n candidate squaredEdges bearingCosines residualTolerance (updates + 1))
 
 unfoldable pub refineDepths : Vector3 → SquaredEdges → Cosines → ℕ → Traced Refined
 refineDepths depths squaredEdges bearingCosines iterations = do
   -- let residual_tolerance = 1e-10 * a01.max(a02).max(a12);
-  residualTolerance ← ! ten⁻¹⁰ ⊗ ! max (max (squaredEdges .a01) (squaredEdges .a02)) (squaredEdges .a12)
+  let record { a01 = a01; a02 = a02; a12 = a12 } = squaredEdges
+  residualTolerance ← ! ten⁻¹⁰ ⊗ ! max (max a01 a02) a12
   refineTurns iterations depths squaredEdges bearingCosines residualTolerance 0

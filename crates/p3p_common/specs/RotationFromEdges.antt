@@ -1,4 +1,5 @@
--- rotation_from_edges of pose/p3p/common.rs: the matrix of two camera edges and their cross product, times the inverse of the world's.
+-- rotation_from_edges of pose/p3p/common.rs: the matrix of two camera edges and their cross
+-- product, times the inverse of the world's.
 use Rattle.ieee754.specs.Traced.{Traced, _>>=_}
 use Rattle.linalg.specs.Vectors.{cross}
 use Rattle.linalg.specs.Matrices.{fromColumns, matMul}

@@ -1,4 +1,6 @@
--- SolverP3pSolutions of pose/p3p/common.rs, an ArrayVec of at most four poses: four slots and a count, and the updates that each pose's depths took. Slots beyond the count hold plus zeros and 0.
+-- SolverP3pSolutions of pose/p3p/common.rs, an ArrayVec of at most four poses: four slots and a
+-- count, and the updates that each pose's depths took. Slots beyond the count hold plus zeros and
+-- 0.
 use Prim.Native.Nat.{ℕ, _+_}
 use mathlib.Core.List.{[], _∷_}
 use lib.Dec.{ltb}

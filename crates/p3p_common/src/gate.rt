@@ -1,5 +1,6 @@
-// The gate that a pose recovered from edges and positive depths passes, is projected at, or does not pass: push_pose_with_cheirality of pose/p3p/common.rs with
-// `edge_basis_with_positive_depths`, and push_valid_rotation, both without the push.
+// The gate that a pose recovered from edges and positive depths passes, is projected at, or does
+// not pass: push_pose_with_cheirality of pose/p3p/common.rs with `edge_basis_with_positive_depths`,
+// and push_valid_rotation, both without the push.
 ghost use mathlib.Core.Path.{_≡_};
 ghost use Rattle.p3p_common.specs.Gate.{gate, projectedGate};
 use crate::has_near_orthonormal_columns::has_near_orthonormal_columns;
@@ -50,14 +51,14 @@ pub fn projected_gate(input: P3pInput, raw_rotation: Matrix3, translation: Vecto
 pub fn gate(input: P3pInput, raw_rotation: Matrix3, translation: Vector3) -> Gated
     ensures { λ r. ⌜ r ≡ gate input «raw_rotation» translation .value ⌝ }
 {
-    if !has_near_orthonormal_columns(raw_rotation) {
-        return projected_gate(input, raw_rotation, translation);
+    if has_near_orthonormal_columns(raw_rotation) {
+        if !translation.all_finite() {
+            return Gated::Dropped;
+        }
+        return Gated::Passed(Pose {
+            rotation: raw_rotation,
+            translation,
+        });
     }
-    if !translation.all_finite() {
-        return Gated::Dropped;
-    }
-    Gated::Passed(Pose {
-        rotation: raw_rotation,
-        translation,
-    })
+    projected_gate(input, raw_rotation, translation)
 }

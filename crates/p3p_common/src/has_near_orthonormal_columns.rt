@@ -1,4 +1,5 @@
-// Whether a matrix has orthonormal columns within 1e-10 (has_near_orthonormal_columns of pose/p3p/common.rs).
+// Whether a matrix has orthonormal columns within 1e-10 (has_near_orthonormal_columns of
+// pose/p3p/common.rs).
 ghost use mathlib.Core.Path.{_≡_};
 ghost use Rattle.p3p_common.specs.NearOrthonormal.{hasNearOrthonormalColumns};
 use ieee754::abs::abs;

@@ -1,4 +1,6 @@
-// What the three-point solvers share: their input, the refinement of depths, the recovery of a rotation from edges and the gates that a pose passes. From pose/p3p/common.rs, document 01, modules 4 and 5.
+// What the three-point solvers share: their input, the refinement of depths, the recovery of a
+// rotation from edges and the gates that a pose passes. From pose/p3p/common.rs, document 01,
+// modules 4 and 5.
 pub mod gate;
 pub mod has_near_orthonormal_columns;
 pub mod input;

@@ -1,4 +1,5 @@
-// The rotation near a matrix, by modified Gram-Schmidt on its first two columns (project_to_rotation of pose/p3p/common.rs).
+// The rotation near a matrix, by modified Gram-Schmidt on its first two columns
+// (project_to_rotation of pose/p3p/common.rs).
 ghost use mathlib.Core.Path.{_≡_};
 ghost use Rattle.p3p_common.specs.ProjectToRotation.{projectToRotation};
 use ieee754::literal::EPSILON;

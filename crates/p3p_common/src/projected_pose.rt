@@ -1,6 +1,8 @@
-// Whether a projected pose still meets the three observations (projected_pose_fits_minimal_sample of pose/p3p/common.rs).
+// Whether a projected pose still meets the three observations (projected_pose_fits_minimal_sample
+// of pose/p3p/common.rs).
 ghost use mathlib.Core.Path.{_≡_};
-ghost use Rattle.p3p_common.specs.ProjectedPose.{observationFits, projectedPoseFitsMinimalSample};
+ghost use Rattle.p3p_common.specs.ProjectedPose.{observationFits};
+ghost use Rattle.p3p_common.specs.ProjectedPose.{projectedPoseFitsMinimalSample};
 use crate::input::P3pInput;
 use crate::ray_fits::ray_fits;
 use frames::pose::Pose;

@@ -1,4 +1,5 @@
-// A pose appended to the solutions where the gate lets it by (push_pose_with_cheirality of pose/p3p/common.rs, as push_edge_basis_pose_from_positive_depths calls it).
+// A pose appended to the solutions where the gate lets it by (push_pose_with_cheirality of
+// pose/p3p/common.rs, as push_edge_basis_pose_from_positive_depths calls it).
 ghost use mathlib.Core.Path.{_≡_};
 ghost use Rattle.p3p_common.specs.PushPose.{pushPose};
 use crate::gate::Gated;

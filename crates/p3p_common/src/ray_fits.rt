@@ -1,4 +1,5 @@
-// Whether a camera point lies in front, within 2^-20 of its bearing's direction (ray_fits of pose/p3p/common.rs).
+// Whether a camera point lies in front, within 2^-20 of its bearing's direction (ray_fits of
+// pose/p3p/common.rs).
 ghost use mathlib.Core.Path.{_≡_};
 ghost use Rattle.p3p_common.specs.RayFits.{rayFits};
 use ieee754::is_finite::is_finite;
@@ -11,12 +12,9 @@ pub fn ray_fits(camera: Vector3, bearing: Vector3) -> bool
     ensures { λ r. ⌜ r ≡ rayFits camera bearing .value ⌝ }
 {
     let ray_depth = camera.dot(bearing);
-    if !is_finite(ray_depth) {
-        return false;
+    if is_finite(ray_depth) & (ray_depth > 0.0) {
+        let off_ray = camera.cross(bearing).norm_squared();
+        return off_ray <= PROJECTED_RAY_TOLERANCE * PROJECTED_RAY_TOLERANCE * ray_depth * ray_depth;
     }
-    if !(ray_depth > 0.0) {
-        return false;
-    }
-    let off_ray = camera.cross(bearing).norm_squared();
-    off_ray <= PROJECTED_RAY_TOLERANCE * PROJECTED_RAY_TOLERANCE * ray_depth * ray_depth
+    false
 }

@@ -1,6 +1,8 @@
-// The refinement of three depths by Newton's method (refine_depths of pose/p3p/common.rs; document 01, module 4).
+// The refinement of three depths by Newton's method (refine_depths of pose/p3p/common.rs; document
+// 01, module 4).
 ghost use mathlib.Core.Path.{_≡_};
-ghost use Rattle.p3p_common.specs.RefineDepths.{depthResidual, depthUpdate, depthStep, refineDepths};
+ghost use Rattle.p3p_common.specs.RefineDepths.{depthResidual, depthUpdate, depthStep};
+ghost use Rattle.p3p_common.specs.RefineDepths.{refineDepths};
 use frames::cosines::Cosines;
 use frames::squared_edges::SquaredEdges;
 use ieee754::is_finite::is_finite;
@@ -43,8 +45,8 @@ pub fn depth_residual(
     }
 }
 
-// Newton's step from a residual. It stops where the denominator is zero or not finite, and where the
-// candidate is not finite.
+// Newton's step from a residual. It stops where the denominator is zero or not finite, and where
+// the candidate is not finite.
 pub fn depth_update(depths: Vector3, bearing_cosines: Cosines, residual: Vector3) -> Step
     ensures { λ r. ⌜ r ≡ depthUpdate depths «bearing_cosines» residual .value ⌝ }
 {
@@ -64,10 +66,7 @@ pub fn depth_update(depths: Vector3, bearing_cosines: Cosines, residual: Vector3
     let x32 = d1 - d2 * m12;
     let x33 = d2 - d1 * m12;
     let denominator = x11 * x23 * x32 + x12 * x21 * x33;
-    if !is_finite(denominator) {
-        return Step::Stop;
-    }
-    if denominator == 0.0 {
+    if !is_finite(denominator) | (denominator == 0.0) {
         return Step::Stop;
     }
     let inverse = 0.5 / denominator;

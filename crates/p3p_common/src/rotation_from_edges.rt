@@ -1,4 +1,5 @@
-// The rotation that takes the world's edges to the camera's (rotation_from_edges of pose/p3p/common.rs).
+// The rotation that takes the world's edges to the camera's (rotation_from_edges of
+// pose/p3p/common.rs).
 ghost use mathlib.Core.Path.{_≡_};
 ghost use Rattle.p3p_common.specs.RotationFromEdges.{rotationFromEdges};
 use linalg::matrix3::Matrix3;

@@ -1,4 +1,5 @@
-// The zero to four poses of a solve, with the updates that each one's depths took: four slots and a count (SolverP3pSolutions of pose/p3p/common.rs).
+// The zero to four poses of a solve, with the updates that each one's depths took: four slots and a
+// count (SolverP3pSolutions of pose/p3p/common.rs).
 ghost use mathlib.Core.Path.{_≡_};
 ghost use Rattle.p3p_common.specs.Slots.{empty, push};
 use frames::pose::Pose;

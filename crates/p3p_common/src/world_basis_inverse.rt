@@ -1,4 +1,5 @@
-// The inverse of the matrix whose columns are two edges of the world's triangle and their cross product (world_basis_inverse of pose/p3p/common.rs).
+// The inverse of the matrix whose columns are two edges of the world's triangle and their cross
+// product (world_basis_inverse of pose/p3p/common.rs).
 ghost use mathlib.Core.Path.{_≡_};
 ghost use Rattle.p3p_common.specs.WorldBasisInverse.{worldBasisInverse, dualBasis};
 use ieee754::is_finite::is_finite;
@@ -36,10 +37,8 @@ pub fn world_basis_inverse(first_edge: Vector3, second_edge: Vector3) -> Basis
     let first_squared = first_edge.norm_squared();
     let second_squared = second_edge.norm_squared();
     let geometry_scale_squared = max(first_squared, second_squared);
-    if !is_finite(determinant) {
-        return Basis::Singular;
-    }
-    if determinant <= 64.0 * EPSILON * geometry_scale_squared * geometry_scale_squared {
+    let limit = 64.0 * EPSILON * geometry_scale_squared * geometry_scale_squared;
+    if !is_finite(determinant) | (determinant <= limit) {
         return Basis::Singular;
     }
     Basis::Inverse(dual_basis(first_edge, second_edge, normal, determinant))

@@ -1,4 +1,5 @@
--- The cubic's part in the scaling rule: its coefficients are of degree 0, so both runs solve the same cubic (`cubic-scales`). Assumes nothing.
+-- The cubic's part in the scaling rule: its coefficients are of degree 0, so both runs solve the
+-- same cubic (`cubic-scales`). Assumes nothing.
 use lib.IntN.{ℤ, pos}
 use lib.Ieee.{Float}
 use Rattle.ieee754.specs.Scaling.{Both, At}
@@ -14,5 +15,10 @@ module _ {k : ℤ} where
   roots-same (One x) = one-at (same x)
   roots-same (Refused n) = refused-at n
 
-  pub cubic-scales : {b b' c c' d d' : Float} → At k (pos 0) b b' → At k (pos 0) c c' → At k (pos 0) d d' → Both (AtRoots k (pos 0)) (polishedCubicRoot b c d) (polishedCubicRoot b' c' d')
-  cubic-scales {b} {b'} {c} {c'} {d} {d'} B C D = rw (← at-zero B, ← at-zero C, ← at-zero D) (record { results = λ r r'. roots-same _ })
+  pub cubic-scales : {b b' c c' d d' : Float}
+      → At k (pos 0) b b'
+      → At k (pos 0) c c'
+      → At k (pos 0) d d'
+      → Both (AtRoots k (pos 0)) (polishedCubicRoot b c d) (polishedCubicRoot b' c' d')
+  cubic-scales B C D =
+      rw (← at-zero B, ← at-zero C, ← at-zero D) (record { results = λ r r'. roots-same _ })

@@ -1,6 +1,9 @@
--- The laws that crates above use: how the answers scale, what holds where a `match` has ruled one out, and the cases that document 01 marks.
+-- The laws that crates above use: how the answers scale and what follows them, what holds where a
+-- `match` has ruled one out, what opens every definition, and the cases that document 01 marks.
+pub mod RootScaling
 pub mod QuadraticScaling
 pub mod CubicScaling
 pub mod RootTags
 pub mod Every
+pub mod Evaluated
 pub mod RootCases

@@ -1,19 +1,25 @@
--- The quadratic's part in the scaling rule: with b at a degree n and c at 2 * n the roots are at n, and the refusals are the same (`quadratic-scales`). Each proof is its definition, with the
+-- The quadratic's part in the scaling rule: with b at a degree n and c at 2 * n the roots are at n,
+-- and the refusals are the same (`quadratic-scales`). Each proof is its definition, with the
 -- hypotheses on the inputs in their places. Assumes nothing.
-use mathlib.Core.Path.{ap}
-use mathlib.Core.Bool.{not}
+use mathlib.Core.Path.{ap, ap₂}
+use mathlib.Core.Bool.{not, _||_}
 use lib.IntN.{ℤ, _+ℤ_, +ℤ-idl, +ℤ-negℤ-cancel}
 use lib.Ieee.{Float}
 use Rattle.ieee754.specs.Literal.{half, epsilon}
 use Rattle.ieee754.specs.Scaling.{Both, At}
-use Rattle.ieee754_laws.proofs.Degrees.{same, null, !_, ⊝_, √_, _⊗_, _⊘_, _⊕_, mulAdd, degree, neg-at, abs-at, copysign-at, max-at, lt-same, eq-same, finite-same, pure, _>>=_, if_then_else_}
+use Rattle.ieee754_laws.proofs.Degrees.{same, null, !_, ⊝_, √_, _⊗_, _⊘_, _⊕_, mulAdd, degree, neg-at}
+use Rattle.ieee754_laws.proofs.Degrees.{abs-at, copysign-at, max-at, lt-same, eq-same, finite-same, pure}
+use Rattle.ieee754_laws.proofs.Degrees.{_>>=_, if_then_else_}
 use Rattle.ieee754_laws.proofs.MinPositive.{floored, epsilon32-small}
 use Rattle.polynomial.specs.Literal.{four, thirtyTwo}
-use Rattle.polynomial.specs.Quadratic.{quadraticPair, quadraticRealMonicComputed, quadraticRealMonic}
+use Rattle.polynomial.specs.Quadratic.{quadraticPair, quadraticRealMonicComputed}
+use Rattle.polynomial.specs.Quadratic.{quadraticRealMonic}
 use Rattle.polynomial.specs.RootScaling.{AtRoots, two-at, refused-at}
 
 module _ {k n : ℤ} {b b' c c' : Float} (B : At k n b b') (C : At k (n +ℤ n) c c') where
-  pair-scales : {d d' : Float} → At k (n +ℤ n) d d' → Both (AtRoots k n) (quadraticPair b c d) (quadraticPair b' c' d')
+  pair-scales : {d d' : Float}
+      → At k (n +ℤ n) d d'
+      → Both (AtRoots k n) (quadraticPair b c d) (quadraticPair b' c' d')
   unfolding quadraticPair
   pair-scales D =
       if eq-same D null then (
@@ -27,17 +33,18 @@ module _ {k n : ℤ} {b b' c c' : Float} (B : At k n b b') (C : At k (n +ℤ n) 
       degree (+ℤ-negℤ-cancel n n) (! C ⊘ ! q) >>= λ _ _ other.
       pure (two-at q other)))
 
-  computed-scales : {s s' : Float} → At k (n +ℤ n) s s' → Both (AtRoots k n) (quadraticRealMonicComputed b c s) (quadraticRealMonicComputed b' c' s')
+  computed-scales : {s s' : Float}
+      → At k (n +ℤ n) s s'
+      → Both (AtRoots k n) (quadraticRealMonicComputed b c s) (quadraticRealMonicComputed b' c' s')
   unfolding quadraticRealMonicComputed
   computed-scales S =
-      if ap not (finite-same B) then pure (refused-at 4)
-      else if ap not (finite-same C) then pure (refused-at 4)
+      if ap₂ _||_ (ap not (finite-same B)) (ap not (finite-same C)) then pure (refused-at 4)
       else (
       mulAdd (! B) (! B) (degree (+ℤ-idl (n +ℤ n)) (⊝ ! same four ⊗ ! C)) >>= λ _ _ discriminant.
       ! B ⊗ ! B ⊕ degree (+ℤ-idl (n +ℤ n)) (! same four ⊗ ! S) >>= λ _ _ scale.
       degree (+ℤ-idl (n +ℤ n)) (floored (! same thirtyTwo ⊗ ! same epsilon) epsilon32-small scale) >>= λ _ _ tolerance.
-      if lt-same discriminant (neg-at tolerance) then pure (refused-at 5)
-      else if ap not (finite-same discriminant) then pure (refused-at 5)
+      if ap₂ _||_ (lt-same discriminant (neg-at tolerance)) (ap not (finite-same discriminant)) then
+      pure (refused-at 5)
       else pair-scales (max-at discriminant null))
 
   pub quadratic-scales : Both (AtRoots k n) (quadraticRealMonic b c) (quadraticRealMonic b' c')

@@ -1,4 +1,5 @@
--- What holds of every answer of a root finder but two roots (`not-two`), or but one root (`not-one`), holds where a `match` has ruled that answer out. Assumes nothing.
+-- What holds of every answer of a root finder but two roots (`not-two`), or but one root
+-- (`not-one`), holds where a `match` has ruled that answer out. Assumes nothing.
 use Prim.Native.Nat.{ℕ}
 use mathlib.Core.List.{[], _∷_}
 use mathlib.Core.Logic.{inl, inr}
@@ -10,12 +11,18 @@ use Rattle.polynomial.specs.Types.{Roots, Two, One, Refused}
 use Rattle.polynomial.proofs.Roots.{the-type}
 
 module _ (P : Roots → Type 0) (refused : (n : ℕ) → P (Refused n)) where
-  pub not-two : ((x : Float) → P (One x)) → (r : Roots) → OneOf (1 ∷ 2 ∷ []) (tagOf the-type r) → P r
+  pub not-two : ((x : Float) → P (One x))
+      → (r : Roots)
+      → OneOf (1 ∷ 2 ∷ []) (tagOf the-type r)
+      → P r
   not-two one (Two x y) h = absurd (elim h [ inl e ↦ omega arith | inr e ↦ omega arith ])
   not-two one (One x) h = one x
   not-two one (Refused n) h = refused n
 
-  pub not-one : ((x y : Float) → P (Two x y)) → (r : Roots) → OneOf (0 ∷ 2 ∷ []) (tagOf the-type r) → P r
+  pub not-one : ((x y : Float) → P (Two x y))
+      → (r : Roots)
+      → OneOf (0 ∷ 2 ∷ []) (tagOf the-type r)
+      → P r
   not-one two (Two x y) h = two x y
   not-one two (One x) h = absurd (elim h [ inl e ↦ omega arith | inr e ↦ omega arith ])
   not-one two (Refused n) h = refused n

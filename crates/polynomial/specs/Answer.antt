@@ -1,5 +1,7 @@
--- What the enums of this crate stand for. An answer, `Roots`, holds two roots, one root, or the number by which document 01 names a refusal ("Questions, in order").
--- A `Step` is a value to go on with, or a stop: the Rust returns None there, or breaks off its loop of Newton steps.
+-- What the enums of this crate stand for, and what is made of them. An answer, `Roots`, holds two
+-- roots, one root, or the number by which document 01 names a refusal ("Questions, in order"). A
+-- `Step` is a value to go on with, or a stop: the Rust returns None there, or breaks off its loop
+-- of Newton steps.
 use Prim.Native.Nat.{ℕ}
 use mathlib.Core.List.{List, [], _∷_}
 use lib.Ieee.{Float}
@@ -30,6 +32,19 @@ abbrev pub values : Roots → List Float
 values (Two x y) = x ∷ y ∷ []
 values (One x) = x ∷ []
 values (Refused n) = []
+
+-- ---- what follows a root finder: what `k` makes of the one root, or of the two in their order,
+-- and
+-- `none` for any other answer
+abbrev pub withRoot : {A : Type 0} → Roots → Traced A → (Float → Traced A) → Traced A
+withRoot (Two x y) none k = none
+withRoot (One x) none k = k x
+withRoot (Refused n) none k = none
+
+abbrev pub withPair : {A : Type 0} → Roots → Traced A → (Float → Float → Traced A) → Traced A
+withPair (Two x y) none k = k x y
+withPair (One x) none k = none
+withPair (Refused n) none k = none
 
 -- ---- what follows a step: `none` at a stop, and else what `k` makes of the value
 abbrev pub after : {A : Type 0} → Step → Traced A → (Float → Traced A) → Traced A

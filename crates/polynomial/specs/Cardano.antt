@@ -1,4 +1,5 @@
--- `cardano_single_real` of polynomial.rs: the root of x^3 + p*x + 2*half_q by Cardano's formula, where it is the only real one. Document 01, module 3.
+-- `cardano_single_real` of polynomial.rs: the root of x^3 + p*x + 2*half_q by Cardano's formula,
+-- where it is the only real one. Document 01, module 3.
 use lib.Ieee.{Float}
 use Rattle.ieee754.specs.CopySign.{copysign}
 use Rattle.ieee754.specs.Traced.{Traced, _>>=_, !_, ⊝_, √_, _⊗_, _⊘_, _⊖_}

@@ -1,4 +1,5 @@
--- The cases of document 01, "Checked by hand", that are marked P and speak of the quadratic and the cubic, as rows of a table: arguments and roots by their bit patterns.
+-- The cases of document 01, "Checked by hand", that are marked P and speak of the quadratic and the
+-- cubic, as rows of a table: arguments and roots by their bit patterns.
 use Prim.Native.Nat.{ℕ}
 use mathlib.Core.Bool.{Bool, true, false, _&&_}
 use mathlib.Core.List.{List, [], _∷_}

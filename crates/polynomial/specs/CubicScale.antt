@@ -1,4 +1,5 @@
--- `cubic_variable_scale` of polynomial.rs, and the coefficients over that scale, with which `polished_cubic_root` goes on. Document 01, module 3.
+-- `cubic_variable_scale` of polynomial.rs, and the coefficients over that scale, with which
+-- `polished_cubic_root` goes on. Document 01, module 3.
 use mathlib.Core.Bool.{Bool, _&&_, _||_}
 use lib.Ieee.{Float, lt, eq}
 use Rattle.ieee754.specs.Literal.{plusZero, one}

@@ -1,5 +1,8 @@
--- The root from which `polished_cubic_root` of polynomial.rs starts its Newton steps, of x^3 + b*x^2 + c*x + d: Cardano's where it is the only real one; else a point outside a turning point, or
--- -b / 3 where there are no turning points. The Rust returns None only at a turning point, where the parabola there has no leading term or a negative radicand. Document 01, module 3.
+-- The root from which `polished_cubic_root` of polynomial.rs starts its Newton steps, of x^3 +
+-- b*x^2 + c*x + d: Cardano's where it is the only real one; else a point outside a turning point,
+-- or -b / 3 where there are no turning points. The Rust returns None only at a turning point, where
+-- the parabola there has no leading term or a negative radicand. Document 01, module 3.
+use mathlib.Core.Bool.{_||_}
 use lib.Ieee.{Float, neg, lt, le, eq}
 use Rattle.ieee754.specs.Literal.{plusZero, half, two}
 use Rattle.ieee754.specs.Traced.{Traced, pure, _>>=_, if_then_else_, !_, ⊝_, √_, _⊗_, _⊘_, _⊕_, _⊖_}
@@ -19,8 +22,7 @@ turningOffset p turning value = do
   denominator ← ! three ⊗ ! turning ⊕ ! (p .b)
   -- let radicand = -left_value / denominator;
   radicand ← ⊝ ! value ⊘ ! denominator
-  if eq denominator plusZero then pure Stop
-      else if lt radicand plusZero then pure Stop
+  if eq denominator plusZero || lt radicand plusZero then pure Stop
       else do
         offset ← √ ! radicand
         pure (Next offset)

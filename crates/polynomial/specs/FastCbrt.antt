@@ -1,4 +1,5 @@
--- `fast_cbrt` of polynomial.rs: a cube root by two steps of Halley's method, from a start that divides the bit pattern by three. Document 01, module 3.
+-- `fast_cbrt` of polynomial.rs: a cube root by two steps of Halley's method, from a start that
+-- divides the bit pattern by three. Document 01, module 3.
 use Prim.Native.Nat.{_+_, _/_}
 use mathlib.Core.Bool.{not, _||_}
 use lib.Ieee.{Float, binary64, toBits, ofBits, lt, eq}

@@ -1,4 +1,5 @@
--- The literals of polynomial.rs, each by its bit pattern. The powers of ten are the nearest doubles.
+-- The literals of polynomial.rs, each by its bit pattern. The powers of ten are the nearest
+-- doubles.
 use lib.Ieee.{Float}
 use Rattle.ieee754.specs.Literal.{double}
 

@@ -1,4 +1,5 @@
--- The Newton steps of `polished_cubic_root` of polynomial.rs, each with its stops. Document 01, module 3.
+-- The Newton steps of `polished_cubic_root` of polynomial.rs, each with its stops. Document 01,
+-- module 3.
 use Prim.Native.Nat.{ℕ, zero, suc}
 use mathlib.Core.Bool.{not, _||_}
 use lib.Ieee.{Float, lt, eq}

@@ -1,5 +1,6 @@
--- `polished_cubic_root` of polynomial.rs: one real root of x^3 + b*x^2 + c*x + d. Document 01, module 3.
-use mathlib.Core.Bool.{not}
+-- `polished_cubic_root` of polynomial.rs: one real root of x^3 + b*x^2 + c*x + d. Document 01,
+-- module 3.
+use mathlib.Core.Bool.{not, _||_}
 use lib.Ieee.{Float}
 use lib.Ieee.Scale.{finite}
 use Rattle.ieee754.specs.Literal.{plusZero}
@@ -29,8 +30,6 @@ polishedRoot b c d = do
 
 unfoldable pub polishedCubicRoot : Float → Float → Float → Traced Roots
 polishedCubicRoot b c d =
-    if not (finite b) then pure notFinite
-    else if not (finite c) then pure notFinite
-    else if not (finite d) then pure notFinite
+    if not (finite b) || not (finite c) || not (finite d) then pure notFinite
     else if allZero b c d then pure (One plusZero)
     else polishedRoot b c d

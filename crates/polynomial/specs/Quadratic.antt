@@ -1,17 +1,20 @@
--- `quadratic_real_monic` and `quadratic_real_monic_computed` of polynomial.rs: the real roots of x^2 + b*x + c. Document 01, module 2.
-use mathlib.Core.Bool.{not}
+-- `quadratic_real_monic` and `quadratic_real_monic_computed` of polynomial.rs: the real roots of
+-- x^2 + b*x + c. Document 01, module 2.
+use mathlib.Core.Bool.{not, _||_}
 use lib.Ieee.{Float, neg, lt, eq}
 use lib.Ieee.Scale.{finite}
 use Rattle.ieee754.specs.Literal.{plusZero, half, epsilon, minPositive}
 use Rattle.ieee754.specs.Magnitude.{abs}
 use Rattle.ieee754.specs.CopySign.{copysign}
 use Rattle.ieee754.specs.Maximum.{max}
-use Rattle.ieee754.specs.Traced.{Traced, pure, _>>=_, if_then_else_, !_, ⊝_, √_, _⊗_, _⊘_, _⊕_, mulAdd}
+use Rattle.ieee754.specs.Traced.{Traced, pure, _>>=_, if_then_else_, !_, ⊝_, √_, _⊗_, _⊘_, _⊕_}
+use Rattle.ieee754.specs.Traced.{mulAdd}
 use Rattle.polynomial.specs.Literal.{four, thirtyTwo}
 use Rattle.polynomial.specs.Answer.{notFinite, noRealRoots}
 use Rattle.polynomial.specs.Types.{Roots, Two}
 
--- the roots where the discriminant is in the band or above it; the caller has cut a negative one to zero
+-- the roots where the discriminant is in the band or above it; the caller has cut a negative one to
+-- zero
 unfoldable pub quadraticPair : Float → Float → Float → Traced Roots
 quadraticPair b c discriminant =
     if eq discriminant plusZero then (do
@@ -30,8 +33,7 @@ quadraticPair b c discriminant =
 
 unfoldable pub quadraticRealMonicComputed : Float → Float → Float → Traced Roots
 quadraticRealMonicComputed b c cScale =
-    if not (finite b) then pure notFinite
-    else if not (finite c) then pure notFinite
+    if not (finite b) || not (finite c) then pure notFinite
     else do
       -- let discriminant = b.mul_add(b, -4.0 * c);
       discriminant ← mulAdd (! b) (! b) (⊝ ! four ⊗ ! c)
@@ -39,8 +41,7 @@ quadraticRealMonicComputed b c cScale =
       discriminantScale ← ! b ⊗ ! b ⊕ ! four ⊗ ! cScale
       -- let tolerance = 32.0 * f64::EPSILON * discriminant_scale.max(f64::MIN_POSITIVE);
       tolerance ← ! thirtyTwo ⊗ ! epsilon ⊗ ! (max discriminantScale minPositive)
-      if lt discriminant (neg tolerance) then pure noRealRoots
-          else if not (finite discriminant) then pure noRealRoots
+      if lt discriminant (neg tolerance) || not (finite discriminant) then pure noRealRoots
           else quadraticPair b c (max discriminant plusZero)
 
 unfoldable pub quadraticRealMonic : Float → Float → Traced Roots

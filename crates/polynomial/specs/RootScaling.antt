@@ -1,4 +1,5 @@
--- What the scaling rule says of the answers of the root finders: the same refusal in both runs, or roots at the degree n.
+-- What the scaling rule says of the answers of the root finders: the same refusal in both runs, or
+-- roots at the degree n.
 use Prim.Native.Nat.{ℕ}
 use lib.IntN.{ℤ}
 use lib.Ieee.{Float}

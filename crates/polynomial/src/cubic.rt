@@ -1,6 +1,7 @@
 // One real root of a monic cubic: polished_cubic_root of shared/polynomial.rs.
 ghost use mathlib.Core.Path.{_≡_};
-ghost use Rattle.polynomial.specs.PolishedRoot.{rescaledRoot, polishedRoot, polishedCubicRoot};
+ghost use Rattle.polynomial.specs.PolishedRoot.{rescaledRoot, polishedRoot};
+ghost use Rattle.polynomial.specs.PolishedRoot.{polishedCubicRoot};
 use crate::Monic;
 use crate::Roots;
 use crate::Step;
@@ -33,18 +34,13 @@ fn polished_root(b: f64, c: f64, d: f64) -> Roots
     rescaled_root(p, variable_scale, start)
 }
 
-// One polished real root of x^3 + b*x^2 + c*x + d = 0. Where it has three, the start outside the nearest turning point
+// One polished real root of x^3 + b*x^2 + c*x + d = 0. Where it has three, the start outside the
+// nearest turning point
 // finds the branch that the conic-pencil reduction of the three-point pose problem needs.
 pub fn polished_cubic_root(b: f64, c: f64, d: f64) -> Roots
     ensures { λ r. ⌜ r ≡ polishedCubicRoot b c d .value ⌝ }
 {
-    if !is_finite(b) {
-        return Roots::Refused(4);
-    }
-    if !is_finite(c) {
-        return Roots::Refused(4);
-    }
-    if !is_finite(d) {
+    if !is_finite(b) | !is_finite(c) | !is_finite(d) {
         return Roots::Refused(4);
     }
     if all_zero(b, c, d) {

@@ -1,6 +1,8 @@
-// The scale of a cubic's variable, by which its coefficients come near to one: cubic_variable_scale of shared/polynomial.rs.
+// The scale of a cubic's variable, by which its coefficients come near to one: cubic_variable_scale
+// of shared/polynomial.rs.
 ghost use mathlib.Core.Path.{_≡_};
-ghost use Rattle.polynomial.specs.CubicScale.{allZero, large, tiny, rootMagnitude, cubicVariableScale, normalised};
+ghost use Rattle.polynomial.specs.CubicScale.{allZero, large, tiny, rootMagnitude};
+ghost use Rattle.polynomial.specs.CubicScale.{cubicVariableScale, normalised};
 use crate::Monic;
 use ieee754::abs::abs;
 use ieee754::cbrt::cbrt;
@@ -38,10 +40,7 @@ pub fn cubic_variable_scale(b: f64, c: f64, d: f64) -> f64
     if all_zero(b, c, d) {
         return 1.0;
     }
-    if large(b, c, d) {
-        return root_magnitude(b, c, d);
-    }
-    if tiny(b, c, d) {
+    if large(b, c, d) | tiny(b, c, d) {
         return root_magnitude(b, c, d);
     }
     1.0

@@ -1,6 +1,8 @@
-// The root of a cubic from which Newton's method starts: polished_cubic_root of shared/polynomial.rs, from `let b3` on.
+// The root of a cubic from which Newton's method starts: polished_cubic_root of
+// shared/polynomial.rs, from `let b3` on.
 ghost use mathlib.Core.Path.{_≡_};
-ghost use Rattle.polynomial.specs.CubicStart.{cubicValue, turningOffset, leftStart, rightStart, turningStart, startRoot};
+ghost use Rattle.polynomial.specs.CubicStart.{cubicValue, turningOffset, leftStart};
+ghost use Rattle.polynomial.specs.CubicStart.{rightStart, turningStart, startRoot};
 use crate::Monic;
 use crate::Step;
 use crate::cardano::cardano_single_real;
@@ -23,10 +25,7 @@ fn turning_offset(p: Monic, turning: f64, value: f64) -> Step
     let b = p.b;
     let denominator = 3.0 * turning + b;
     let radicand = -value / denominator;
-    if denominator == 0.0 {
-        return Step::Stop;
-    }
-    if radicand < 0.0 {
+    if (denominator == 0.0) | (radicand < 0.0) {
         return Step::Stop;
     }
     Step::Next(sqrt(radicand))
@@ -69,7 +68,8 @@ fn turning_start(p: Monic) -> Step
     right_start(p, turning_span)
 }
 
-// Cardano's root where it is the only real one, and else a point outside a turning point, if there are turning points.
+// Cardano's root where it is the only real one, and else a point outside a turning point, if there
+// are turning points.
 pub fn start_root(m: Monic) -> Step
     ensures { λ r. ⌜ r ≡ startRoot m .value ⌝ }
 {

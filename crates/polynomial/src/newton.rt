@@ -7,7 +7,8 @@ use crate::cubic_start::cubic_value;
 use ieee754::abs::abs;
 use ieee754::is_finite::is_finite;
 
-// The next root, unless the value is small already, or the step leaves the finite numbers or makes the value greater.
+// The next root, unless the value is small already, or the step leaves the finite numbers or makes
+// the value greater.
 fn newton_step(p: Monic, root: f64) -> Step
     ensures { λ r. ⌜ r ≡ newtonStep p root .value ⌝ }
 {

@@ -1,6 +1,8 @@
-// The real roots of a monic quadratic: quadratic_real_monic and quadratic_real_monic_computed of shared/polynomial.rs.
+// The real roots of a monic quadratic: quadratic_real_monic and quadratic_real_monic_computed of
+// shared/polynomial.rs.
 ghost use mathlib.Core.Path.{_≡_};
-ghost use Rattle.polynomial.specs.Quadratic.{quadraticPair, quadraticRealMonicComputed, quadraticRealMonic};
+ghost use Rattle.polynomial.specs.Quadratic.{quadraticPair, quadraticRealMonicComputed};
+ghost use Rattle.polynomial.specs.Quadratic.{quadraticRealMonic};
 use crate::Roots;
 use ieee754::abs::abs;
 use ieee754::copysign::copysign;
@@ -18,23 +20,18 @@ pub fn quadratic_real_monic(b: f64, c: f64) -> Roots
     quadratic_real_monic_computed(b, c, abs(c))
 }
 
-// The same for a constant term formed by arithmetic whose rounding error scales with `c_scale`, rather than with |c|.
+// The same for a constant term formed by arithmetic whose rounding error scales with `c_scale`,
+// rather than with |c|.
 fn quadratic_real_monic_computed(b: f64, c: f64, c_scale: f64) -> Roots
     ensures { λ r. ⌜ r ≡ quadraticRealMonicComputed b c «c_scale» .value ⌝ }
 {
-    if !is_finite(b) {
-        return Roots::Refused(4);
-    }
-    if !is_finite(c) {
+    if !is_finite(b) | !is_finite(c) {
         return Roots::Refused(4);
     }
     let discriminant = fma(b, b, -4.0 * c);
     let discriminant_scale = b * b + 4.0 * c_scale;
     let tolerance = 32.0 * EPSILON * max(discriminant_scale, MIN_POSITIVE);
-    if discriminant < -tolerance {
-        return Roots::Refused(5);
-    }
-    if !is_finite(discriminant) {
+    if (discriminant < -tolerance) | !is_finite(discriminant) {
         return Roots::Refused(5);
     }
     quadratic_pair(b, c, max(discriminant, 0.0))

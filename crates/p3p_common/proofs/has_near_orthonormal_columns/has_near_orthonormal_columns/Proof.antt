@@ -1,4 +1,5 @@
--- `p3p_common::has_near_orthonormal_columns::has_near_orthonormal_columns` meets its contract. Assumes nothing.
+-- `p3p_common::has_near_orthonormal_columns::has_near_orthonormal_columns` meets its contract.
+-- Assumes nothing.
 use borrow.Author.Needs.{needs}
 use Rattle.p3p_common.specs.NearOrthonormal.{hasNearOrthonormalColumns}
 use Rattle.p3p_common.proofs.has_near_orthonormal_columns.has_near_orthonormal_columns.Statement.{statement}

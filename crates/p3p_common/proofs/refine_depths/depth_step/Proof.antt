@@ -6,12 +6,20 @@ use Rattle.p3p_common.proofs.refine_depths.depth_step.Tie as tie
 
 returns : tie.Need-returns
 unfolding depthStep
-returns c = rw (← c .before .before .depth-residual .ensures, ← c .before .abs-sum .ensures, c .if1 .taken)
+returns c =
+    rw (← c .before .before .depth-residual .ensures, ← c .before .abs-sum .ensures, c .if1 .taken)
 
 returns-2 : tie.Need-returns-2
 unfolding depthStep
-returns-2 c = rw (← c .before .before .before .depth-residual .ensures, ← c .before .before .abs-sum .ensures, c .before .if1 .left) (c .depth-update .ensures)
+returns-2 c =
+    let depth-residual = c .before .before .before in
+    rw (
+      ← depth-residual .depth-residual .ensures,
+      ← c .before .before .abs-sum .ensures,
+      c .before .if1 .left,
+    ) (c .depth-update .ensures)
 
 pub depth-step-spec : {M : Type 1} → statement M
 depth-step-spec =
-    tie.close (tie.spec (λ c _. search needs) (λ c _. search needs) returns (λ c _. search needs) returns-2)
+    tie.close (tie.spec (λ c _. search needs) (λ c _. search needs) returns (λ c _. search needs)
+    returns-2)

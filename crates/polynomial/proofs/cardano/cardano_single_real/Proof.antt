@@ -6,7 +6,8 @@ use Rattle.polynomial.proofs.cardano.cardano_single_real.Tie as tie
 
 returns : tie.Need-returns
 unfolding cardanoSingleReal
-returns c = rw (← c .before .before .sqrt .ensures, ← c .before .copysign .ensures, ← c .fast-cbrt .ensures)
+returns c =
+    rw (← c .before .before .sqrt .ensures, ← c .before .copysign .ensures, ← c .fast-cbrt .ensures)
 
 pub cardano-single-real-spec : {M : Type 1} → statement M
 cardano-single-real-spec =

@@ -9,4 +9,5 @@ unfolding large
 returns c = cc
 
 pub large-spec : {M : Type 1} → statement M
-large-spec = tie.close (tie.spec (λ c _. search needs) (λ c _. search needs) (λ c _. search needs) returns)
+large-spec =
+    tie.close (tie.spec (λ c _. search needs) (λ c _. search needs) (λ c _. search needs) returns)

@@ -6,9 +6,20 @@ use Rattle.polynomial.proofs.cubic_scale.root_magnitude.Tie as tie
 
 returns : tie.Need-returns
 unfolding rootMagnitude
-returns c = rw (← c .before .before .before .before .before .before .abs .ensures, ← c .before .before .before .before .before .abs2 .ensures, ← c .before .before .before .before .sqrt .ensures, ← c .before .before .before .max .ensures, ← c .before .before .abs3 .ensures, ← c .before .cbrt .ensures, ← c .max2 .ensures)
+returns c =
+    let max = c .before .before .before in
+    let abs = max .before .before .before in
+    rw (
+      ← abs .abs .ensures,
+      ← max .before .before .abs2 .ensures,
+      ← max .before .sqrt .ensures,
+      ← max .max .ensures,
+      ← c .before .before .abs3 .ensures,
+      ← c .before .cbrt .ensures,
+      ← c .max2 .ensures,
+    )
 
 pub root-magnitude-spec : {M : Type 1} → statement M
 root-magnitude-spec =
-    tie.close (tie.spec (λ c _. search needs) (λ c _. search needs) (λ c _. search needs) (λ c _. search needs)
-    (λ c _. search needs) (λ c _. search needs) (λ c _. search needs) returns)
+    tie.close (tie.spec (λ c _. search needs) (λ c _. search needs) (λ c _. search needs)
+    (λ c _. search needs) (λ c _. search needs) (λ c _. search needs) (λ c _. search needs) returns)

@@ -9,4 +9,5 @@ unfolding tiny
 returns c = cc
 
 pub tiny-spec : {M : Type 1} → statement M
-tiny-spec = tie.close (tie.spec (λ c _. search needs) (λ c _. search needs) (λ c _. search needs) returns)
+tiny-spec =
+    tie.close (tie.spec (λ c _. search needs) (λ c _. search needs) (λ c _. search needs) returns)

@@ -11,9 +11,10 @@ returns c = rw (← c .before .before .turning-offset .ensures, c .enum-told .gi
 returns-2 : tie.Need-returns-2
 unfolding leftStart
 returns-2 c =
-    let offset = c .before in
-    rw (← offset .before .before .turning-offset .ensures, offset .offset .given .1)
+    let turning-offset = c .before .before .before in
+    rw (← turning-offset .turning-offset .ensures, c .before .offset .given .1)
 
 pub left-start-spec : {M : Type 1} → statement M
 left-start-spec =
-    tie.close (tie.spec (λ c _. search needs) (λ c. search needs) (λ c. search needs) returns returns-2)
+    tie.close (tie.spec (λ c _. search needs) (λ c. search needs) (λ c. search needs) returns
+    returns-2)

@@ -6,22 +6,15 @@ use Rattle.polynomial.proofs.cubic_start.start_root.Tie as tie
 
 returns : tie.Need-returns
 unfolding startRoot
-returns c =
-    let e1 = c .before in
-    rw (e1 .if1 .taken, ← c .cardano-single-real .ensures)
+returns c = rw (c .before .if1 .taken, ← c .cardano-single-real .ensures)
 
 returns-2 : tie.Need-returns-2
 unfolding startRoot
-returns-2 c =
-    let e2 = c .before in
-    let e1 = e2 .before in
-    rw (e1 .if1 .left, e2 .if2 .taken, ← c .turning-start .ensures)
+returns-2 c = rw (c .before .before .if1 .left, c .before .if2 .taken, ← c .turning-start .ensures)
 
 returns-3 : tie.Need-returns-3
 unfolding startRoot
-returns-3 c =
-    let e1 = c .before in
-    rw (e1 .if1 .left, c .if2 .left)
+returns-3 c = rw (c .before .if1 .left, c .if2 .left)
 
 pub start-root-spec : {M : Type 1} → statement M
 start-root-spec =

@@ -7,16 +7,26 @@ use Rattle.polynomial.proofs.cubic_start.turning_start.Tie as tie
 returns : tie.Need-returns
 unfolding turningStart
 returns c =
-    let e1 = c .before in
-    rw (← e1 .before .before .sqrt .ensures, ← e1 .before .cubic-value .ensures, e1 .if1 .taken, ← c .left-start .ensures)
+    let sqrt = c .before .before .before in
+    rw (
+      ← sqrt .sqrt .ensures,
+      ← c .before .before .cubic-value .ensures,
+      c .before .if1 .taken,
+      ← c .left-start .ensures,
+    )
 
 returns-2 : tie.Need-returns-2
 unfolding turningStart
 returns-2 c =
-    let e1 = c .before in
-    rw (← e1 .before .before .sqrt .ensures, ← e1 .before .cubic-value .ensures, e1 .if1 .left, ← c .right-start .ensures)
+    let sqrt = c .before .before .before in
+    rw (
+      ← sqrt .sqrt .ensures,
+      ← c .before .before .cubic-value .ensures,
+      c .before .if1 .left,
+      ← c .right-start .ensures,
+    )
 
 pub turning-start-spec : {M : Type 1} → statement M
 turning-start-spec =
-    tie.close (tie.spec (λ c _. search needs) (λ c _. search needs) (λ c _. search needs) returns (λ c _. search needs)
-    returns-2)
+    tie.close (tie.spec (λ c _. search needs) (λ c _. search needs) (λ c _. search needs) returns
+    (λ c _. search needs) returns-2)

@@ -7,25 +7,44 @@ use Rattle.polynomial.proofs.fast_cbrt.cbrt_steps.Tie as tie
 returns : tie.Need-returns
 unfolding cbrtSteps
 returns c =
-    let enum-told = c .before in
-    rw (← enum-told .before .before .before .cbrt-start .ensures, ← enum-told .before .before .cbrt-step .ensures, enum-told .enum-told .given .1, ← c .cbrt .ensures)
+    let cbrt-step = c .before .before .before in
+    rw (
+      ← cbrt-step .before .cbrt-start .ensures,
+      ← cbrt-step .cbrt-step .ensures,
+      c .before .enum-told .given .1,
+      ← c .cbrt .ensures,
+    )
 
 returns-2 : tie.Need-returns-2
 unfolding cbrtSteps
 returns-2 c =
-    let enum-told2 = c .before in
-    let first = enum-told2 .before .before .before .before in
-    rw (← first .before .before .before .cbrt-start .ensures, ← first .before .before .cbrt-step .ensures, first .first .given .1, ← enum-told2 .before .before .cbrt-step2 .ensures, enum-told2 .enum-told2 .given .1, ← c .cbrt2 .ensures)
+    let cbrt-step2 = c .before .before .before in
+    let cbrt-step = cbrt-step2 .before .before .before .before in
+    rw (
+      ← cbrt-step .before .cbrt-start .ensures,
+      ← cbrt-step .cbrt-step .ensures,
+      cbrt-step2 .before .before .first .given .1,
+      ← cbrt-step2 .cbrt-step2 .ensures,
+      c .before .enum-told2 .given .1,
+      ← c .cbrt2 .ensures,
+    )
 
 returns-3 : tie.Need-returns-3
 unfolding cbrtSteps
 returns-3 c =
-    let second = c .before .before in
-    let first = second .before .before .before .before in
-    rw (← first .before .before .before .cbrt-start .ensures, ← first .before .before .cbrt-step .ensures, first .first .given .1, ← second .before .before .cbrt-step2 .ensures, second .second .given .1, ← c .copysign .ensures)
+    let cbrt-step2 = c .before .before .before .before in
+    let cbrt-step = cbrt-step2 .before .before .before .before in
+    rw (
+      ← cbrt-step .before .cbrt-start .ensures,
+      ← cbrt-step .cbrt-step .ensures,
+      cbrt-step2 .before .before .first .given .1,
+      ← cbrt-step2 .cbrt-step2 .ensures,
+      c .before .before .second .given .1,
+      ← c .copysign .ensures,
+    )
 
 pub cbrt-steps-spec : {M : Type 1} → statement M
 cbrt-steps-spec =
-    tie.close (tie.spec (λ c _. search needs) (λ c _. search needs) (λ c. search needs) (λ c. search needs)
-    (λ c _. search needs) returns (λ c _. search needs) (λ c. search needs) (λ c. search needs)
-    (λ c _. search needs) returns-2 (λ c _. search needs) returns-3)
+    tie.close (tie.spec (λ c _. search needs) (λ c _. search needs) (λ c. search needs)
+    (λ c. search needs) (λ c _. search needs) returns (λ c _. search needs) (λ c. search needs)
+    (λ c. search needs) (λ c _. search needs) returns-2 (λ c _. search needs) returns-3)

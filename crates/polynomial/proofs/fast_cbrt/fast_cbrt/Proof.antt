@@ -13,6 +13,10 @@ was-true : (a b : Bool) → not a || b ≡ false → a ≡ true
 was-true true b h = refl
 was-true false b h = absurd (true≢false h)
 
+cbrt-steps-requires : tie.Need-cbrt-steps-requires
+cbrt-steps-requires c κs =
+    finite-not-nan _ (answered (c .before .is-finite .ensures) (was-true _ _ (c .if2 .left)))
+
 returns : tie.Need-returns
 unfolding fastCbrt
 returns c = rw (c .if1 .taken)
@@ -20,30 +24,28 @@ returns c = rw (c .if1 .taken)
 returns-2 : tie.Need-returns-2
 unfolding fastCbrt
 returns-2 c =
-    let e2 = c .before in
+    let abs = c .before .before .before in
     rw (
-      e2 .before .before .before .if1 .left,
-      ← e2 .before .before .abs .ensures,
-      ← e2 .before .is-finite .ensures,
-      e2 .if2 .taken,
+      abs .before .if1 .left,
+      ← abs .abs .ensures,
+      ← c .before .before .is-finite .ensures,
+      c .before .if2 .taken,
       ← c .cbrt .ensures,
     )
-
-cbrt-steps-requires : tie.Need-cbrt-steps-requires
-cbrt-steps-requires c κs = finite-not-nan _ (answered (c .before .is-finite .ensures) (was-true _ _ (c .if2 .left)))
 
 returns-3 : tie.Need-returns-3
 unfolding fastCbrt
 returns-3 c =
-    let e2 = c .before in
+    let abs = c .before .before .before in
     rw (
-      e2 .before .before .before .if1 .left,
-      ← e2 .before .before .abs .ensures,
-      ← e2 .before .is-finite .ensures,
-      e2 .if2 .left,
+      abs .before .if1 .left,
+      ← abs .abs .ensures,
+      ← c .before .before .is-finite .ensures,
+      c .before .if2 .left,
       ← c .cbrt-steps .ensures,
     )
 
 pub fast-cbrt-spec : {M : Type 1} → statement M
 fast-cbrt-spec =
-    tie.close (tie.spec returns (λ c _. search needs) (λ c _. search needs) (λ c _. search needs) returns-2 cbrt-steps-requires returns-3)
+    tie.close (tie.spec returns (λ c _. search needs) (λ c _. search needs) (λ c _. search needs)
+    returns-2 cbrt-steps-requires returns-3)

@@ -11,11 +11,11 @@ returns c = rw (← c .before .before .cubic-value .ensures, ← c .before .abs 
 returns-2 : tie.Need-returns-2
 unfolding newtonStep
 returns-2 c =
-    let e1 = c .before .before .before in
+    let tested = c .before .before .before in
     rw (
-      ← e1 .before .before .cubic-value .ensures,
-      ← e1 .before .abs .ensures,
-      e1 .if1 .left,
+      ← tested .before .before .cubic-value .ensures,
+      ← tested .before .abs .ensures,
+      tested .if1 .left,
       ← c .before .before .is-finite .ensures,
       ← c .before .is-finite2 .ensures,
       c .if2 .taken,
@@ -24,15 +24,15 @@ returns-2 c =
 returns-3 : tie.Need-returns-3
 unfolding newtonStep
 returns-3 c =
-    let e2 = c .before .before in
-    let e1 = e2 .before .before .before in
+    let is-finite2 = c .before .before .before in
+    let abs = is-finite2 .before .before .before in
     rw (
-      ← e1 .before .before .cubic-value .ensures,
-      ← e1 .before .abs .ensures,
-      e1 .if1 .left,
-      ← e2 .before .before .is-finite .ensures,
-      ← e2 .before .is-finite2 .ensures,
-      e2 .if2 .left,
+      ← abs .before .cubic-value .ensures,
+      ← abs .abs .ensures,
+      is-finite2 .before .before .if1 .left,
+      ← is-finite2 .before .is-finite .ensures,
+      ← is-finite2 .is-finite2 .ensures,
+      c .before .before .if2 .left,
       ← c .before .is-finite3 .ensures,
       c .if3 .taken,
     )
@@ -40,20 +40,20 @@ returns-3 c =
 returns-4 : tie.Need-returns-4
 unfolding newtonStep
 returns-4 c =
-    let e3 = c .before .before .before .before in
-    let e2 = e3 .before .before in
-    let e1 = e2 .before .before .before in
+    let cubic-value2 = c .before .before .before in
+    let tested2 = cubic-value2 .before .before .before in
+    let tested = tested2 .before .before .before in
     rw (
-      ← e1 .before .before .cubic-value .ensures,
-      ← e1 .before .abs .ensures,
-      e1 .if1 .left,
-      e1 .before .abs .ensures,
-      ← e2 .before .before .is-finite .ensures,
-      ← e2 .before .is-finite2 .ensures,
-      e2 .if2 .left,
-      ← e3 .before .is-finite3 .ensures,
-      e3 .if3 .left,
-      ← c .before .before .before .cubic-value2 .ensures,
+      ← tested .before .before .cubic-value .ensures,
+      ← tested .before .abs .ensures,
+      tested .if1 .left,
+      tested .before .abs .ensures,
+      ← tested2 .before .before .is-finite .ensures,
+      ← tested2 .before .is-finite2 .ensures,
+      tested2 .if2 .left,
+      ← cubic-value2 .before .before .is-finite3 .ensures,
+      cubic-value2 .before .if3 .left,
+      ← cubic-value2 .cubic-value2 .ensures,
       ← c .before .before .abs2 .ensures,
       ← c .before .abs3 .ensures,
       c .if4 .taken,
@@ -62,20 +62,20 @@ returns-4 c =
 returns-5 : tie.Need-returns-5
 unfolding newtonStep
 returns-5 c =
-    let e3 = c .before .before .before .before in
-    let e2 = e3 .before .before in
-    let e1 = e2 .before .before .before in
+    let cubic-value2 = c .before .before .before in
+    let tested2 = cubic-value2 .before .before .before in
+    let tested = tested2 .before .before .before in
     rw (
-      ← e1 .before .before .cubic-value .ensures,
-      ← e1 .before .abs .ensures,
-      e1 .if1 .left,
-      e1 .before .abs .ensures,
-      ← e2 .before .before .is-finite .ensures,
-      ← e2 .before .is-finite2 .ensures,
-      e2 .if2 .left,
-      ← e3 .before .is-finite3 .ensures,
-      e3 .if3 .left,
-      ← c .before .before .before .cubic-value2 .ensures,
+      ← tested .before .before .cubic-value .ensures,
+      ← tested .before .abs .ensures,
+      tested .if1 .left,
+      tested .before .abs .ensures,
+      ← tested2 .before .before .is-finite .ensures,
+      ← tested2 .before .is-finite2 .ensures,
+      tested2 .if2 .left,
+      ← cubic-value2 .before .before .is-finite3 .ensures,
+      cubic-value2 .before .if3 .left,
+      ← cubic-value2 .cubic-value2 .ensures,
       ← c .before .before .abs2 .ensures,
       ← c .before .abs3 .ensures,
       c .if4 .left,
@@ -83,5 +83,6 @@ returns-5 c =
 
 pub newton-step-spec : {M : Type 1} → statement M
 newton-step-spec =
-    tie.close (tie.spec (λ c _. search needs) (λ c _. search needs) returns (λ c _. search needs) (λ c _. search needs) returns-2
-    (λ c _. search needs) returns-3 (λ c _. search needs) (λ c _. search needs) (λ c _. search needs) returns-4 returns-5)
+    tie.close (tie.spec (λ c _. search needs) (λ c _. search needs) returns (λ c _. search needs)
+    (λ c _. search needs) returns-2 (λ c _. search needs) returns-3 (λ c _. search needs)
+    (λ c _. search needs) (λ c _. search needs) returns-4 returns-5)

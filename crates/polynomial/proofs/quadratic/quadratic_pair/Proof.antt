@@ -11,14 +11,24 @@ returns c = rw (c .if1 .taken)
 returns-2 : tie.Need-returns-2
 unfolding quadraticPair
 returns-2 c =
-    let e1 = c .before .before .before in
-    rw (e1 .if1 .left, ← c .before .before .sqrt .ensures, ← c .before .copysign .ensures, c .if2 .taken)
+    let tested = c .before .before .before in
+    rw (
+      tested .if1 .left,
+      ← c .before .before .sqrt .ensures,
+      ← c .before .copysign .ensures,
+      c .if2 .taken,
+    )
 
 returns-3 : tie.Need-returns-3
 unfolding quadraticPair
 returns-3 c =
-    let e1 = c .before .before .before in
-    rw (e1 .if1 .left, ← c .before .before .sqrt .ensures, ← c .before .copysign .ensures, c .if2 .left)
+    let tested = c .before .before .before in
+    rw (
+      tested .if1 .left,
+      ← c .before .before .sqrt .ensures,
+      ← c .before .copysign .ensures,
+      c .if2 .left,
+    )
 
 pub quadratic-pair-spec : {M : Type 1} → statement M
 quadratic-pair-spec =

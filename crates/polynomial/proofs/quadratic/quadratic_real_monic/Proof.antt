@@ -9,5 +9,4 @@ unfolding quadraticRealMonic
 returns c = rw (← c .before .abs .ensures, ← c .quadratic-real-monic-computed .ensures)
 
 pub quadratic-real-monic-spec : {M : Type 1} → statement M
-quadratic-real-monic-spec =
-    tie.close (tie.spec (λ c _. search needs) (λ c _. search needs) returns)
+quadratic-real-monic-spec = tie.close (tie.spec (λ c _. search needs) (λ c _. search needs) returns)

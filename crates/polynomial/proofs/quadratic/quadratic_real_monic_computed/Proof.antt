@@ -6,40 +6,43 @@ use Rattle.polynomial.proofs.quadratic.quadratic_real_monic_computed.Ti
 
 returns : tie.Need-returns
 unfolding quadraticRealMonicComputed
-returns c = rw (← c .before .is-finite .ensures, c .if1 .taken)
+returns c =
+    rw (← c .before .before .is-finite .ensures, ← c .before .is-finite2 .ensures, c .if1 .taken)
 
 returns-2 : tie.Need-returns-2
 unfolding quadraticRealMonicComputed
 returns-2 c =
-    let e1 = c .before .before in
-    rw (← e1 .before .is-finite .ensures, e1 .if1 .left, ← c .before .is-finite2 .ensures, c .if2 .taken)
+    let fma = c .before .before .before in
+    let is-finite = fma .before .before .before in
+    rw (
+      ← is-finite .is-finite .ensures,
+      ← fma .before .before .is-finite2 .ensures,
+      fma .before .if1 .left,
+      ← fma .fma .ensures,
+      ← c .before .before .max .ensures,
+      ← c .before .is-finite3 .ensures,
+      c .if2 .taken,
+    )
 
 returns-3 : tie.Need-returns-3
 unfolding quadraticRealMonicComputed
 returns-3 c =
-    let e2 = c .before .before .before in
-    let e1 = e2 .before .before in
-    rw (← e1 .before .is-finite .ensures, e1 .if1 .left, ← e2 .before .is-finite2 .ensures, e2 .if2 .left, ← c .before .before .fma .ensures, ← c .before .max .ensures, c .if3 .taken)
-
-returns-4 : tie.Need-returns-4
-unfolding quadraticRealMonicComputed
-returns-4 c =
-    let e3 = c .before .before in
-    let e2 = e3 .before .before .before in
-    let e1 = e2 .before .before in
-    rw (← e1 .before .is-finite .ensures, e1 .if1 .left, ← e2 .before .is-finite2 .ensures, e2 .if2 .left, ← e3 .before .before .fma .ensures, ← e3 .before .max .ensures, e3 .if3 .left, ← c .before .is-finite3 .ensures, c .if4 .taken)
-
-returns-5 : tie.Need-returns-5
-unfolding quadraticRealMonicComputed
-returns-5 c =
-    let e4 = c .before .before in
-    let e3 = e4 .before .before in
-    let e2 = e3 .before .before .before in
-    let e1 = e2 .before .before in
-    rw (← e1 .before .is-finite .ensures, e1 .if1 .left, ← e2 .before .is-finite2 .ensures, e2 .if2 .left, ← e3 .before .before .fma .ensures, ← e3 .before .max .ensures, e3 .if3 .left, ← e4 .before .is-finite3 .ensures, e4 .if4 .left, ← c .before .max2 .ensures, ← c .quadratic-pair .ensures)
+    let is-finite3 = c .before .before .before in
+    let tested = is-finite3 .before .before .before in
+    rw (
+      ← tested .before .before .is-finite .ensures,
+      ← tested .before .is-finite2 .ensures,
+      tested .if1 .left,
+      ← is-finite3 .before .before .fma .ensures,
+      ← is-finite3 .before .max .ensures,
+      ← is-finite3 .is-finite3 .ensures,
+      c .before .before .if2 .left,
+      ← c .before .max2 .ensures,
+      ← c .quadratic-pair .ensures,
+    )
 
 pub quadratic-real-monic-computed-spec : {M : Type 1} → statement M
 quadratic-real-monic-computed-spec =
-    tie.close (tie.spec (λ c _. search needs) returns (λ c _. search needs) returns-2 (λ c _. search needs)
-    (λ c _. search needs) returns-3 (λ c _. search needs) returns-4 (λ c _. search needs) (λ c _. search needs)
-    returns-5)
+    tie.close (tie.spec (λ c _. search needs) (λ c _. search needs) returns (λ c _. search needs)
+    (λ c _. search needs) (λ c _. search needs) returns-2 (λ c _. search needs)
+    (λ c _. search needs) returns-3)
