@@ -1,4 +1,5 @@
--- What the enum of this crate stands for: the place of a pose with its score, or document 01's number 10.
+-- What the enum of this crate stands for: the place of a pose with its score, or document 01's
+-- number 10.
 use Prim.Native.Nat.{ℕ}
 use Rattle.choice.specs.Types.{Choice, Best, Refused}
 

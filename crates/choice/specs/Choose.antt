@@ -1,5 +1,6 @@
--- The choice of one pose. From document 01, module 8: lowest finite score wins, the earlier pose on a tie, as `best_by` of pose/p3p/common.rs does. No score is minus zero, so the order of numbers is
--- that of `total_cmp`.
+-- The choice of one pose. From document 01, module 8: lowest finite score wins, the earlier pose on
+-- a tie, as `best_by` of pose/p3p/common.rs does. No score is minus zero, so the order of numbers
+-- is that of `total_cmp`.
 use Prim.Native.Nat.{ℕ, _+_, min}
 use mathlib.Core.List.{List, [], _∷_}
 use lib.ListN.{take}
@@ -26,6 +27,7 @@ chooseAmong (pose ∷ poses) passed target bearing best = do
   value ← score pose target bearing
   chooseAmong poses (passed + 1) target bearing (better best (passed + 1) value)
 
--- A stated pose count above 4 is read as 4. Has any pose a finite score? If no (also for an empty list): 10.
+-- A stated pose count above 4 is read as 4. Has any pose a finite score? If no (also for an empty
+-- list): 10.
 unfoldable pub choose : List Pose → ℕ → Vector3 → Vector3 → Traced Choice
 choose poses count target bearing = chooseAmong (take (min count 4) poses) 0 target bearing noScore

@@ -1,7 +1,8 @@
-// The pose with the lowest finite score, the earlier one on a tie: best_by of pose/p3p/common.rs with document 01's score.
+// The pose with the lowest finite score, the earlier one on a tie: best_by of pose/p3p/common.rs
+// with document 01's score.
 ghost use mathlib.Core.Path.{_≡_};
-ghost use Prim.Native.Nat.{min};
 ghost use Rattle.choice.specs.Choose as Choose;
+use crate::count::at_most_four;
 use crate::score::score;
 use frames::pose::Pose;
 use ieee754::is_finite::is_finite;
@@ -30,18 +31,11 @@ pub fn better(best: Choice, place: u32, score: f64) -> Choice
     best
 }
 
-// A stated pose count above 4 is read as 4.
-fn cut(count: u32) -> u32
-    ensures { λ r. ⌜ r ≡ min count 4 ⌝ }
-{
-    if count < 4 { count } else { 4 }
-}
-
 // The choice among the first `count` poses.
 pub fn choose(poses: [Pose; 4], count: u32, target: Vector3, bearing: Vector3) -> Choice
     ensures { λ r. ⌜ r ≡ Choose.choose poses count target bearing .value ⌝ }
 {
-    let n = cut(count);
+    let n = at_most_four(count);
     let mut best = Choice::Refused(10);
     let mut at: u32 = 0;
     while at < n {

@@ -1,4 +1,5 @@
--- Decimal digits: a number below 10 is its digit, another is a tenth of it and one digit more; there are at most 20. Assumes nothing.
+-- Decimal digits: a number below 10 is its digit, another is a tenth of it and one digit more;
+-- there are at most 20. Assumes nothing.
 use Prim.Native.Nat.{ℕ, zero, suc, _/_, _%_, _^_, _≤_, _<_}
 use mathlib.Core.Path.{_≡_, sym, ap, _∙_, subst}
 use mathlib.Core.Bool.{Bool, true, false, cond}
@@ -24,7 +25,9 @@ unfolding spelt
 spelt-length zero n = le-refl 1
 spelt-length (suc k) n = go (ltb n 10) (spelt-length k (n / 10))
   where
-    go : (b : Bool) → length (spelt k (n / 10)) ≤ suc k → length (cond b (glyph n ∷ []) (spelt k (n / 10) ++ (glyph (n % 10) ∷ []))) ≤ suc (suc k)
+    go : (b : Bool)
+        → length (spelt k (n / 10)) ≤ suc k
+        → length (cond b (glyph n ∷ []) (spelt k (n / 10) ++ (glyph (n % 10) ∷ []))) ≤ suc (suc k)
     go true h = omega arith
     go false h = simp length-append (omega arith)
 
@@ -40,10 +43,17 @@ open-one : (k n : ℕ) → 10 ≤ n → spelt (suc k) n ≡ spelt k (n / 10) ++ 
 unfolding spelt
 open-one k n h = rw (le-ltb n 10 h)
 
-pub decimal-more : (n : ℕ) → 10 ≤ n → n < 10 ^ 20 → decimal n ≡ decimal (n / 10) ++ (glyph (n % 10) ∷ [])
+pub decimal-more : (n : ℕ)
+    → 10 ≤ n
+    → n < 10 ^ 20
+    → decimal n ≡ decimal (n / 10) ++ (glyph (n % 10) ∷ [])
 unfolding decimal
-decimal-more n h small = open-one 18 n h ∙ ap (λ (l : List ℕ). l ++ (glyph (n % 10) ∷ [])) (sym (spelt-steady 18 (n / 10) (tenth-lt 18 n small)))
+decimal-more n h small =
+    let steady = spelt-steady 18 (n / 10) (tenth-lt 18 n small) in
+    open-one 18 n h ∙ ap (λ (l : List ℕ). l ++ (glyph (n % 10) ∷ [])) (sym steady)
 
 -- so there is room for that digit
 pub decimal-room : (n : ℕ) → 10 ≤ n → n < 10 ^ 20 → length (decimal (n / 10)) < 20
-decimal-room n h small = omega (arith, decimal-length n, simp length-append at (ap length (decimal-more n h small)))
+decimal-room n h small =
+    let one-more = simp length-append at (ap length (decimal-more n h small)) in
+    omega (arith, decimal-length n, one-more)

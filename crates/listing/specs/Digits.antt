@@ -1,4 +1,5 @@
--- Numbers as text: in decimal with no zero in front, and in hexadecimal at a fixed width, in lower case. From document 01, "Frame records and their listing".
+-- Numbers as text: in decimal with no zero in front, and in hexadecimal at a fixed width, in lower
+-- case. From document 01, "Frame records and their listing".
 use Prim.Native.Nat.{ℕ, zero, suc, _+_, _/_, _%_}
 use mathlib.Core.Bool.{cond}
 use mathlib.Core.List.{List, [], _∷_, _++_}

@@ -1,4 +1,5 @@
--- The lines of the listing, as bytes, and what putting one into a slice leaves. From document 01, "Frame records and their listing".
+-- The lines of the listing, as bytes, and what putting one into a slice leaves. From document 01,
+-- "Frame records and their listing".
 use Prim.Native.Nat.{ℕ, _+_, _-_, _≤_}
 use mathlib.Core.Path.{_≡_}
 use mathlib.Core.Bool.{Bool, cond}
@@ -50,8 +51,9 @@ endLine n = ascii "end " ++ decimal n ++ ascii "\n"
 abbrev pub roomy : ℕ → List ℕ → ℕ → Bool
 roomy room s at = leb room (length s - at)
 
--- After a text has been put from a position on, which is done where there is room: the next position, and what the slice holds. Without room
--- nothing is put. The room is a number of bytes that every such text fits in: 320 for a line.
+-- After a text has been put from a position on, which is done where there is room: the next
+-- position, and what the slice holds. Without room nothing is put. The room is a number of bytes
+-- that every such text fits in: 320 for a line.
 pub record Written (room : ℕ) (before : List ℕ) (at : ℕ) (text : List ℕ) (next : ℕ) (after : List ℕ) : Type 0 where
   pub next-at : next ≡ cond (roomy room before at) (at + length text) at
   pub holds : after ≡ cond (roomy room before at) (take at before ++ text ++ drop (at + length text) before) before

@@ -1,5 +1,5 @@
-// The lines of the listing. Each function puts one line from `at` on and returns the next position. Where fewer than 320 bytes are left, which
-// every line fits in, it puts nothing and returns `at`.
+// The lines of the listing. Each function puts one line from `at` on and returns the next position.
+// Where fewer than 320 bytes are left, which every line fits in, it puts nothing and returns `at`.
 use crate::digits::put_decimal;
 use crate::put::put_byte;
 use crate::put::put_text;

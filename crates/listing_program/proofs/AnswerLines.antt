@@ -10,11 +10,16 @@ use Rattle.listing_program.specs.FrameLines.{poseLines, answerLines}
 use Rattle.choice.specs.Answer.{place}
 
 module _ (n : ℕ) (answer : Answer) (target bearing : Vector3) where
-  pub refused-lines : (answer .refusal ≡ 0 → ⊥) → refusedLine n (answer .refusal) ≡ answerLines n answer target bearing
+  pub refused-lines : (answer .refusal ≡ 0 → ⊥)
+      → refusedLine n (answer .refusal) ≡ answerLines n answer target bearing
   unfolding answerLines
   refused-lines h = rw (ne-eqb (answer .refusal) 0 h)
 
-  pub accepted-lines : {best : ℕ} → answer .refusal ≡ 0 → best ≡ place (choose (answer .poses) (answer .count) target bearing .value)
-      → acceptedLine n (answer .count) best ++ poseLines n (answer .poses) (answer .updates) (min (answer .count) 4) ≡ answerLines n answer target bearing
+  pub accepted-lines : {best : ℕ}
+      → answer .refusal ≡ 0
+      → best ≡ place (choose (answer .poses) (answer .count) target bearing .value)
+      → acceptedLine n (answer .count) best
+      ++ poseLines n (answer .poses) (answer .updates) (min (answer .count) 4)
+      ≡ answerLines n answer target bearing
   unfolding answerLines
   accepted-lines h e = rw (eq-eqb (answer .refusal) 0 h, e)

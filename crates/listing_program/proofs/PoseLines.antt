@@ -9,7 +9,7 @@ use Rattle.frames.specs.Poses.{zeroPose}
 use Rattle.listing_program.specs.Types.{Pose}
 use Rattle.listing.specs.Bytes.{Stored}
 use Rattle.listing.specs.Lines.{Written, poseLine}
-use Rattle.listing.proofs.Storing.{none, then, stored-as}
+use Rattle.listing.proofs.Storing.{none, _and-then_, stored-as}
 use Rattle.listing.proofs.Writing.{stored}
 use Rattle.listing_program.specs.FrameLines.{poseLines}
 
@@ -18,12 +18,18 @@ module _ (n : ℕ) (poses : List Pose) (updates : List ℕ) where
   unfolding poseLines
   none-stored l at = none l at
 
-  one-more : (k : ℕ) (d : Pose) → k < length poses → poseLines n poses updates k ++ poseLine n (k + 1) (getD updates k 0) (getD poses k d) ≡ poseLines n poses updates (k + 1)
+  one-more : (k : ℕ) (d : Pose)
+      → k < length poses
+      → poseLines n poses updates k ++ poseLine n (k + 1) (getD updates k 0) (getD poses k d)
+      ≡ poseLines n poses updates (k + 1)
   unfolding poseLines
   one-more k d h = rw (add-one, inside-same poses k d zeroPose h)
 
   -- after the first k lines the next one is put, for which there is room
-  pub next-stored : {l l′ l″ : List ℕ} {at next end : ℕ} (k : ℕ) (d : Pose) → k < length poses → next + 320 ≤ length l′
-      → Stored l at (poseLines n poses updates k) next l′ → Written 320 l′ next (poseLine n (k + 1) (getD updates k 0) (getD poses k d)) end l″
+  pub next-stored : {l l′ l″ : List ℕ} {at next end : ℕ} (k : ℕ) (d : Pose)
+      → k < length poses
+      → next + 320 ≤ length l′
+      → Stored l at (poseLines n poses updates k) next l′
+      → Written 320 l′ next (poseLine n (k + 1) (getD updates k 0) (getD poses k d)) end l″
       → Stored l at (poseLines n poses updates (k + 1)) end l″
-  next-stored k d h room s w = stored-as (one-more k d h) (then s (stored room w))
+  next-stored k d h room s w = stored-as (one-more k d h) (s and-then stored w room)

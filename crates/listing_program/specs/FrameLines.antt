@@ -1,4 +1,5 @@
--- The lines of a frame: its solve, the choice by the checking target, and the poses. From document 01, "Frame records and their listing".
+-- The lines of a frame: its solve, the choice by the checking target, and the poses. From document
+-- 01, "Frame records and their listing".
 use Prim.Native.Nat.{ℕ, zero, suc, min}
 use mathlib.Core.List.{List, [], _++_}
 use lib.Dec.{eqb}

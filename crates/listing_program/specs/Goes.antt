@@ -1,4 +1,6 @@
--- What a turn of the run leads to: the state, the lines put, and what is kept of the input. What the calls of C read and write, and whether they succeed, is left open. From document 01, "Frame records and their listing".
+-- What a turn of the run leads to: the state, the lines put, and what is kept of the input. What
+-- the calls of C read and write, and whether they succeed, is left open. From document 01, "Frame
+-- records and their listing".
 use Prim.Native.Nat.{ℕ, _+_, _%_, _^_, _≤_, _<_, min}
 use mathlib.Core.Path.{_≡_}
 use mathlib.Core.Bool.{true, false}
@@ -9,7 +11,8 @@ use Rattle.listing.specs.Lines.{roomy, Written}
 use Rattle.listing_program.specs.RecordLines.{turnLines, courseOf}
 use Rattle.listing_program.specs.Types.{Course, Write, Read, Next, Closed, State, Turn, More, Over, Filling, Filled, End, Failed}
 
--- one record more is listed, its lines end where `put` says, and the next begins at a position of the same buffer
+-- one record more is listed, its lines end where `put` says, and the next begins at a position of
+-- the same buffer
 pub record Counted (before : State) (next : ℕ) (put : ℕ → Type 0) (after : State) : Type 0 where
   pub filled : after .filled ≡ before .filled
   pub begins : after .next ≡ next
@@ -46,7 +49,8 @@ abbrev pub Reads : (size filled next listed : ℕ) → Turn → Type 0
 Reads size filled next listed (More after) = Fetched size filled next listed after
 Reads size filled next listed Over = Unit {0}
 
--- by the course of the record: `put at` says that its lines stand in the listing's buffer and end at `at`, also those that close the listing
+-- by the course of the record: `put at` says that its lines stand in the listing's buffer and end
+-- at `at`, also those that close the listing
 abbrev pub Goes : (size : ℕ) → Course → State → (ℕ → Type 0) → Turn → Type 0
 Goes size Write state put turn = Writes state turn
 Goes size Read state put turn = Reads size (state .filled) (state .next) (state .listed) turn
@@ -55,7 +59,8 @@ Goes size (Next next) state put Over = ⊥
 Goes size Closed state put (More after) = ⊥
 Goes size Closed state put Over = (at : ℕ) × put at
 
--- one turn, of a buffer `input` of which so much as the state says has been read, and of a listing that stands in `out` before it and in `out'` after
+-- one turn, of a buffer `input` of which so much as the state says has been read, and of a listing
+-- that stands in `out` before it and in `out'` after
 abbrev pub Steps : (input out out' : List ℕ) → State → Turn → Type 0
 Steps input out out' state turn =
     let found = recordAt (take (min (state .filled) (length input)) input) (state .next) in

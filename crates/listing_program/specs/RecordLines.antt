@@ -1,7 +1,9 @@
--- What is listed of a record, and how the run goes on after it. From document 01, "Questions, in order" and "Frame records and their listing": refusals 7 and 9 stop the
--- run, and the rest go on to the next record. Of an input that is read in parts, what is not there may still come, so the input's end and 9 wait until it has ended.
+-- What is listed of a record, and how the run goes on after it. From document 01, "Questions, in
+-- order" and "Frame records and their listing": refusals 7 and 9 stop the run, and the rest go on
+-- to the next record. Of an input that is read in parts, what is not there may still come, so the
+-- input's end and 9 wait until it has ended.
 use Prim.Native.Nat.{ℕ}
-use mathlib.Core.Bool.{Bool, true, false}
+use mathlib.Core.Bool.{Bool, false, not, _&&_}
 use mathlib.Core.List.{List, []}
 use lib.Dec.{eqb}
 use Rattle.ieee754.specs.Traced.{if_then_else_}
@@ -10,7 +12,8 @@ use Rattle.listing_program.specs.FrameLines.{frameLines}
 use Rattle.listing_program.specs.Types.{Record, Course, Write, Read, Next, Closed}
 use Rattle.records.specs.declared.record.Record.the-variants.{End, Stop, Skip, Accepted}
 
--- the lines of a record, the n-th, after so many listed ones; at the input's end and at a stop the line that closes the listing
+-- the lines of a record, the n-th, after so many listed ones; at the input's end and at a stop the
+-- line that closes the listing
 unfoldable pub recordLines : ℕ → ℕ → Record → List ℕ
 recordLines listed n End = endLine listed
 recordLines listed n (Stop refusal) = stopLine refusal n
@@ -26,10 +29,10 @@ following (Accepted frame next) = Next next
 
 -- whether a stop waits
 unfoldable pub stopWaits : Bool → ℕ → Bool
-stopWaits ended refusal = if ended then false else eqb refusal 9
+stopWaits ended refusal = not ended && eqb refusal 9
 
 unfoldable pub waits : Bool → Record → Bool
-waits ended End = if ended then false else true
+waits ended End = not ended
 waits ended (Stop refusal) = stopWaits ended refusal
 waits ended (Skip refusal next) = false
 waits ended (Accepted frame next) = false

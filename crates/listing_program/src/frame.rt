@@ -8,6 +8,7 @@ ghost use Rattle.listing.specs.Lines.{Written};
 ghost use Rattle.listing_program.specs.FrameLines.{poseLines, answerLines, frameLines};
 use choice::choose::Choice;
 use choice::choose::choose;
+use choice::count::at_most_four;
 use frames::frame::Frame;
 use frames::pose::Pose;
 use lambdatwist::solve::Answer;
@@ -31,13 +32,6 @@ fn place_of(choice: Choice) -> u32
     }
 }
 
-// How many lines of poses an answer has.
-fn listed(count: u32) -> u32
-    ensures { λ r. ⌜ r ≡ min count 4 ⌝ }
-{
-    if count < 4 { count } else { 4 }
-}
-
 // Puts a line for each of the first `count` poses.
 fn put_poses(
     out: &mut [u8],
@@ -51,7 +45,7 @@ fn put_poses(
     ensures { λ r. ⌜ Stored (now (out .entry)) at (poseLines number poses updates (min count 4)) r (now (out .exit)) ⌝ }
     ensures { λ r. ⌜ r ≤ at + 1280 ⌝ }
 {
-    let n = listed(count);
+    let n = at_most_four(count);
     let mut next = at;
     let mut place: u32 = 0;
     while place < n {
@@ -88,8 +82,8 @@ fn put_answer(
     put_poses(out, next, number, count, poses, updates)
 }
 
-// Puts the lines of a frame: its solve, and the answer. Where fewer than 1,600 bytes are left, which every frame's lines fit in, it puts
-// nothing and returns `at`.
+// Puts the lines of a frame: its solve, and the answer. Where fewer than 1,600 bytes are left,
+// which every frame's lines fit in, it puts nothing and returns `at`.
 pub fn put_frame(out: &mut [u8], at: usize, number: u64, frame: Frame) -> usize
     ensures { λ r. ⌜ Written 1600 (now (out .entry)) at (frameLines number frame) r (now (out .exit)) ⌝ }
 {

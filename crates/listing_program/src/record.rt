@@ -1,4 +1,5 @@
-// What is listed of a record, and how the run goes on after it: 7 and 9 stop it, the rest go on to the next record.
+// What is listed of a record, and how the run goes on after it: 7 and 9 stop it, the rest go on to
+// the next record.
 ghost use mathlib.Core.Path.{_≡_};
 ghost use Prim.Native.Nat.{_+_, _≤_};
 ghost use lib.ListN.{length};
@@ -34,10 +35,7 @@ pub struct Listed(pub usize, pub Course);
 fn stop_waits(ended: bool, refusal: u32) -> bool
     ensures { λ r. ⌜ r ≡ stopWaits ended refusal ⌝ }
 {
-    if ended {
-        return false;
-    }
-    refusal == 9
+    !ended & (refusal == 9)
 }
 
 // Puts the lines of what stands next in the input: the record `number`, after `listed` others.
@@ -76,8 +74,8 @@ fn put_found(
     }
 }
 
-// Puts the lines of what stands at `start` in the input, of which `input` is what has been read. Where fewer than 1,600 bytes are left, it
-// puts nothing.
+// Puts the lines of what stands at `start` in the input, of which `input` is what has been read.
+// Where fewer than 1,600 bytes are left, it puts nothing.
 pub fn put_record(
     input: &[u8],
     start: usize,

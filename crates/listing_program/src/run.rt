@@ -1,4 +1,5 @@
-// The run: records are listed one after another, what waits is written, and the input is read on, as each turn asks for.
+// The run: records are listed one after another, what waits is written, and the input is read on,
+// as each turn asks for.
 ghost use mathlib.Core.Path.{_≡_};
 ghost use Prim.Native.Nat.{_%_, _≤_, min};
 ghost use lib.ListN.{length, take};
@@ -126,8 +127,9 @@ fn step(fd: i32, input: &mut [u8], out: &mut [u8], state: State) -> Turn
     }
 }
 
-// A proved loop has to end, and nothing says that the input does: turns are counted down from a number that no run uses up.
-// A record never lies across the end of the input's buffer, and a frame's lines always fit the listing's.
+// A proved loop has to end, and nothing says that the input does: turns are counted down from a
+// number that no run uses up. A record never lies across the end of the input's buffer, and a
+// frame's lines always fit the listing's.
 pub(crate) fn run(fd: i32, input: &mut [u8], out: &mut [u8])
     requires { ⌜ (length (now input) % 195 ≡ 0) × (1600 ≤ length (now out)) ⌝ }
 {

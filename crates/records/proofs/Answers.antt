@@ -21,10 +21,14 @@ module _ (s : List ℕ) (at : ℕ) where
 
   -- the last question
   abbrev versioned : Record
-  versioned = ask (eqb (getD s (at + 2) 0) 1) (Skip 8 (at + 195)) (Accepted (frameAt s (at + 3)) (at + 195))
+  versioned =
+      ask (eqb (getD s (at + 2) 0) 1) (Skip 8 (at + 195))
+      (Accepted (frameAt s (at + 3)) (at + 195))
 
   module _ (two : 2 ≤ length s - at) where
-    sized : recordAt s at ≡ ask (eqb (bigEndian (part s at 2)) 193) (Stop 7) (ask (leb 193 (length s - at - 2)) (Stop 9) versioned)
+    sized : recordAt s at
+        ≡ ask (eqb (bigEndian (part s at 2)) 193) (Stop 7)
+        (ask (leb 193 (length s - at - 2)) (Stop 9) versioned)
     unfolding recordAt
     sized = rw (lt-ltb 0 (length s - at) (omega arith), le-leb 2 (length s - at) two)
 
@@ -33,14 +37,25 @@ module _ (s : List ℕ) (at : ℕ) where
 
     module _ (right : bigEndian (part s at 2) ≡ 193) where
       pub truncated : length s - at - 2 < 193 → recordAt s at ≡ Stop 9
-      truncated h = rw (sized, eq-eqb (bigEndian (part s at 2)) 193 right, lt-leb 193 (length s - at - 2) h)
+      truncated h =
+          rw (
+            sized,
+            eq-eqb (bigEndian (part s at 2)) 193 right,
+            lt-leb 193 (length s - at - 2) h,
+          )
 
       module _ (whole : 193 ≤ length s - at - 2) where
         all-there : recordAt s at ≡ versioned
-        all-there = rw (sized, eq-eqb (bigEndian (part s at 2)) 193 right, le-leb 193 (length s - at - 2) whole)
+        all-there =
+            rw (
+              sized,
+              eq-eqb (bigEndian (part s at 2)) 193 right,
+              le-leb 193 (length s - at - 2) whole,
+            )
 
         pub wrong-version : (getD s (at + 2) 0 ≡ 1 → ⊥) → recordAt s at ≡ Skip 8 (at + 195)
         wrong-version h = rw (all-there, ne-eqb (getD s (at + 2) 0) 1 h)
 
-        pub accepted : getD s (at + 2) 0 ≡ 1 → recordAt s at ≡ Accepted (frameAt s (at + 3)) (at + 195)
+        pub accepted : getD s (at + 2) 0 ≡ 1
+            → recordAt s at ≡ Accepted (frameAt s (at + 3)) (at + 195)
         accepted h = rw (all-there, eq-eqb (getD s (at + 2) 0) 1 h)

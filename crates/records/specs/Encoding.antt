@@ -1,4 +1,5 @@
--- A frame's record as bytes, the inverse of reading. From document 01, "Frame records and their listing".
+-- A frame's record as bytes, the inverse of reading. From document 01, "Frame records and their
+-- listing".
 use Prim.Native.Nat.{ℕ, zero, suc, _/_, _%_, _^_}
 use mathlib.Core.List.{List, [], _∷_, _++_}
 use lib.Ieee.{Float, binary64, toBits}

@@ -1,5 +1,5 @@
--- What stands at a position of a list of bytes: numbers, doubles, vectors and a frame, all big-endian. From document 01, "Frame records and
--- their listing".
+-- What stands at a position of a list of bytes: numbers, doubles, vectors and a frame, all
+-- big-endian. From document 01, "Frame records and their listing".
 use Prim.Native.Nat.{ℕ, _+_, _*_, _^_}
 use mathlib.Core.List.{List, [], _∷_}
 use lib.ListN.{length, take, drop}

@@ -1,4 +1,5 @@
--- Reading a record: document 01's questions, in their order, and the number and frame of each answer. From document 01, "Questions, in order".
+-- Reading a record: document 01's questions, in their order, and the number and frame of each
+-- answer. From document 01, "Questions, in order".
 use Prim.Native.Nat.{ℕ, _+_, _-_}
 use mathlib.Core.Bool.{Bool, true, false}
 use mathlib.Core.List.{List}
@@ -7,7 +8,8 @@ use lib.ListN.{length, getD}
 use Rattle.records.specs.Types.{Record, End, Stop, Skip, Accepted}
 use Rattle.records.specs.Format.{part, bigEndian, frameAt}
 
--- where the answer to a question is no, that is the record's answer; else the next question is asked
+-- where the answer to a question is no, that is the record's answer; else the next question is
+-- asked
 abbrev pub ask : Bool → Record → Record → Record
 ask true refused further = further
 ask false refused further = refused

@@ -1,5 +1,5 @@
-// Words of 64 bits, most significant byte first, each a number or the bit pattern of a double: what the files of stored answers
-// are made of.
+// Words of 64 bits, most significant byte first, each a number or the bit pattern of a double: what
+// the files of stored answers are made of.
 ghost use mathlib.Core.Path.{_≡_};
 ghost use Prim.Native.Nat.{_+_, _<_, _≤_};
 ghost use lib.Dec.{eqb};
@@ -10,7 +10,8 @@ use ieee754::bits::to_bits;
 
 pub mod report;
 
-// The byte i places after `at`, or 0 past the end.
+// The byte i places after `at`, or 0 past the end. The second test subtracts, so it is made only
+// where the first holds.
 fn byte(s: &[u8], at: usize, i: usize) -> u64
     ensures { λ r. ⌜ (r ≡ getD (now (s .entry)) (at + i) 0) × (r < 256) ⌝ }
 {

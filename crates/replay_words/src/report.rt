@@ -1,4 +1,4 @@
-// The line that a program writes of one kind of vector.
+// The line that a program writes of one file of stored answers.
 use libc::STDOUT_FILENO;
 
 // "NAME N compared, M differ"

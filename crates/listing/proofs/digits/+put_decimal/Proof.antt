@@ -1,4 +1,5 @@
--- The proof of the cycle of calls {put_decimal}: the measure is the number, which is divided by 10. Assumes nothing.
+-- The proof of the cycle of calls {put_decimal}: the measure is the number, which is divided by 10.
+-- Assumes nothing.
 use Prim.Native.Nat.{ℕ, _+_, _/_, _^_, _≤_, _<_}
 use mathlib.Core.Path.{sym, ap, _∙_}
 use mathlib.Core.List.{List, [], _∷_, _++_}
@@ -7,13 +8,13 @@ use native.Mathlib.Omega.{arith}
 use lib.Dec.{lit≤}
 use Rattle.listing.specs.Bytes.{Stored}
 use Rattle.listing.specs.Digits.{decimal}
-use Rattle.listing.proofs.Storing.{stored-as, then}
+use Rattle.listing.proofs.Storing.{stored-as, _and-then_}
 use Rattle.listing.proofs.Decimal.{decimal-one, decimal-more, decimal-room, decimal-length}
 use borrow.Fn.Kinds.{In}
 use borrow.Fn.PlainCycle.{Measures, is, falls, and}
-use Rattle.listing.proofs.digits.put_decimal.Reads as put-decimal
-use Rattle.listing.proofs.digits.put_decimal.Kinds as put-decimal-kinds
-use Rattle.listing.proofs.digits.+put_decimal.Lts-put_decimal as put-decimal-lts
+use Rattle.listing.proofs.digits.put_decimal.Reads as reads
+use Rattle.listing.proofs.digits.put_decimal.Kinds as kinds
+use Rattle.listing.proofs.digits.+put_decimal.Lts-put_decimal as lts
 use Rattle.listing.proofs.digits.glyph.Reads as glyph-reads
 use Rattle.listing.proofs.put.put_byte.Reads as put-byte-reads
 use Rattle.listing.proofs.digits.+put_decimal.{statement}
@@ -24,74 +25,81 @@ small : (n : ℕ) → n < 2 ^ 64 → n < 10 ^ 20
 small n h = lt-of-lt-of-le h (lit≤ tt)
 
 -- and so the next position is at most twenty away
-spelt-out : (n : ℕ) {l l′ : List ℕ} {at next : ℕ} → Stored l at (decimal n) next l′ → Stored l at (decimal n) next l′ × (next ≤ at + 20)
+spelt-out : (n : ℕ) {l l′ : List ℕ} {at next : ℕ}
+    → Stored l at (decimal n) next l′
+    → Stored l at (decimal n) next l′ × (next ≤ at + 20)
 spelt-out n s = (s, omega (arith, s .next-at, decimal-length n))
 
-abbrev μ-put-decimal : Measures 1 put-decimal-kinds.ps ℕ
-μ-put-decimal κs a = a .1 .1 .0
+abbrev μ : Measures 1 kinds.ps ℕ
+μ κs a = a .1 .1 .0
 
-abbrev put-decimal-at : ℕ → In 1 put-decimal-kinds.ps
-put-decimal-at t =
-    and 1 put-decimal-kinds.ps (is 1 put-decimal-kinds.ps μ-put-decimal t) put-decimal.Pre
+-- the function at the number t
+module _ (t : ℕ) where
+  abbrev asked : In 1 kinds.ps
+  asked = and 1 kinds.ps (is 1 kinds.ps μ t) reads.Pre
 
-abbrev put-decimal-below : ℕ → In 1 put-decimal-kinds.ps
-put-decimal-below t =
-    and 1 put-decimal-kinds.ps (falls 1 put-decimal-kinds.ps _<_ μ-put-decimal t) put-decimal.Pre
+  -- what the calls ask and tell: the two callees, and this function at smaller numbers
+  abbrev calls : lts.Claims
+  calls = (
+    glyph-reads.Asked,
+    glyph-reads.Learnt,
+    put-byte-reads.Asked,
+    put-byte-reads.Learnt,
+    and 1 kinds.ps (falls 1 kinds.ps _<_ μ t) reads.Pre,
+    reads.Post,
+  )
 
--- what the calls ask and tell: the two callees, and this function at smaller numbers
-abbrev put-decimal-calls : ℕ → put-decimal-lts.Claims
-put-decimal-calls t = (glyph-reads.Asked, glyph-reads.Learnt, put-byte-reads.Asked, put-byte-reads.Learnt, put-decimal-below t, put-decimal.Post)
+  same-length : lts.Need-same-length calls asked reads.Post
+  same-length c = c .before .before .put-byte .kept .0
 
-put-decimal-glyph-requires : (t : ℕ) → put-decimal-lts.Need-glyph-requires (put-decimal-calls t) (put-decimal-at t) put-decimal.Post
-put-decimal-glyph-requires t c κs = omega arith
+  returns : lts.Need-returns calls asked reads.Post
+  returns c =
+      let put = c .before .before in
+      let spelt = put .before in
+      let one = spelt .before .before in
+      let n = one .before .before .args .n in
+      let digit = ap (λ (g : ℕ). g ∷ []) (spelt .glyph .ensures) ∙ sym (decimal-one n (one .if1 .taken)) in
+      spelt-out n (stored-as digit (put .put-byte .ensures))
 
-put-decimal-put-byte-requires : (t : ℕ) → put-decimal-lts.Need-put-byte-requires (put-decimal-calls t) (put-decimal-at t) put-decimal.Post
-put-decimal-put-byte-requires t c κs = omega arith
+  put-decimal-requires : lts.Need-put-decimal-requires calls asked reads.Post
+  put-decimal-requires c _ = (omega (arith, c .before .before .before .pre .0), omega arith)
 
-put-decimal-same-length : (t : ℕ) → put-decimal-lts.Need-same-length (put-decimal-calls t) (put-decimal-at t) put-decimal.Post
-put-decimal-same-length t c = c .before .before .put-byte .kept .0
+  put-byte-requires-2 : lts.Need-put-byte-requires-2 calls asked reads.Post
+  put-byte-requires-2 c _ =
+      let tenth = c .before .before .before .before in
+      let more = tenth .before .before in
+      let start = more .before .before in
+      let n = start .args .n in
+      let room = decimal-room n (more .if1 .left) (small n (start .fits .n .fits)) in
+      let next = tenth .put-decimal in
+      omega (arith, next .ensures .0 .next-at, next .kept .0, start .pre .1, room)
 
-put-decimal-returns : (t : ℕ) → put-decimal-lts.Need-returns (put-decimal-calls t) (put-decimal-at t) put-decimal.Post
-put-decimal-returns t c =
-    let k = c .before .before in
-    let a = k .before .before .before .before .before .args in
-    spelt-out (a .n) (stored-as (ap (λ (g : ℕ). g ∷ []) (k .before .glyph .ensures) ∙ sym (decimal-one (a .n) (k .before .before .before .if1 .taken))) (k .put-byte .ensures))
+  same-length-2 : lts.Need-same-length-2 calls asked reads.Post
+  same-length-2 c =
+      let put = c .before .before in
+      let tenth = put .before .before .before .before .before in
+      put .put-byte2 .kept .0 ∙ tenth .put-decimal .kept .0
 
-put-decimal-put-decimal-requires : (t : ℕ) → put-decimal-lts.Need-put-decimal-requires (put-decimal-calls t) (put-decimal-at t) put-decimal.Post
-put-decimal-put-decimal-requires t c κs = (omega (arith, c .before .before .before .pre .0), omega arith)
-
-put-decimal-glyph-requires-2 : (t : ℕ) → put-decimal-lts.Need-glyph-requires-2 (put-decimal-calls t) (put-decimal-at t) put-decimal.Post
-put-decimal-glyph-requires-2 t c κs = omega arith
-
-put-decimal-put-byte-requires-2 : (t : ℕ) → put-decimal-lts.Need-put-byte-requires-2 (put-decimal-calls t) (put-decimal-at t) put-decimal.Post
-put-decimal-put-byte-requires-2 t c κs =
-    let k = c .before .before .before .before in
-    let a = k .before .before .before .before in
-    omega (arith, k .put-decimal .ensures .0 .next-at, k .put-decimal .kept .0, a .pre .1, decimal-room (a .args .n) (k .before .before .if1 .left) (small (a .args .n) (a .fits .n .fits)))
-
-put-decimal-same-length-2 : (t : ℕ) → put-decimal-lts.Need-same-length-2 (put-decimal-calls t) (put-decimal-at t) put-decimal.Post
-put-decimal-same-length-2 t c = c .before .before .put-byte2 .kept .0 ∙ c .before .before .before .before .before .before .before .put-decimal .kept .0
-
-put-decimal-returns-2 : (t : ℕ) → put-decimal-lts.Need-returns-2 (put-decimal-calls t) (put-decimal-at t) put-decimal.Post
-put-decimal-returns-2 t c =
-    let k = c .before .before in
-    let d = k .before .before .before .before .before in
-    let a = d .before .before .before .before in
-    let digit = ap (λ (g : ℕ). decimal (a .args .n / 10) ++ (g ∷ [])) (k .before .glyph2 .ensures) in
-    let whole = decimal-more (a .args .n) (d .before .before .if1 .left) (small (a .args .n) (a .fits .n .fits)) in
-    spelt-out (a .args .n) (stored-as (digit ∙ sym whole) (then (d .put-decimal .ensures .0) (k .put-byte2 .ensures)))
+  returns-2 : lts.Need-returns-2 calls asked reads.Post
+  returns-2 c =
+      let put = c .before .before in
+      let tenth = put .before .before .before .before .before in
+      let more = tenth .before .before in
+      let start = more .before .before in
+      let n = start .args .n in
+      let digit = ap (λ (g : ℕ). decimal (n / 10) ++ (g ∷ [])) (put .before .glyph2 .ensures) in
+      let whole = decimal-more n (more .if1 .left) (small n (start .fits .n .fits)) in
+      let both = tenth .put-decimal .ensures .0 and-then put .put-byte2 .ensures in
+      spelt-out n (stored-as (digit ∙ sym whole) both)
 
 pub +put-decimal-spec : {M : Type 1} → statement M
-+put-decimal-spec = close μ-put-decimal λ t. put-decimal-lts.spec
-    (put-decimal-calls t)
-    (put-decimal-at t)
-    put-decimal.Post
-    (put-decimal-glyph-requires t)
-    (put-decimal-put-byte-requires t)
-    (put-decimal-same-length t)
-    (put-decimal-returns t)
-    (put-decimal-put-decimal-requires t)
-    (put-decimal-glyph-requires-2 t)
-    (put-decimal-put-byte-requires-2 t)
-    (put-decimal-same-length-2 t)
-    (put-decimal-returns-2 t)
++put-decimal-spec = close μ λ t. lts.spec (calls t) (asked t) reads.Post
+    (λ c _. omega arith)
+    (λ c _. omega arith)
+    (same-length t)
+    (returns t)
+    (put-decimal-requires t)
+    (λ c _. omega arith)
+    (put-byte-requires-2 t)
+    (same-length-2 t)
+    (returns-2 t)

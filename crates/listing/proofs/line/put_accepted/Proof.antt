@@ -2,25 +2,32 @@
 use native.Mathlib.Omega.{arith}
 use borrow.Author.Needs.{needs}
 use Rattle.listing.specs.Lines.{acceptedLine}
-use Rattle.listing.proofs.Storing.{then}
+use Rattle.listing.proofs.Storing.{_and-then_}
 use Rattle.listing.proofs.Writing.{written, not-written}
 use Rattle.listing.proofs.line.put_accepted.Statement.{statement}
 use Rattle.listing.proofs.line.put_accepted.Tie as tie
 
 returns : tie.Need-returns
-returns c = not-written _ _ _ _ (omega (arith, c .if1 .taken, c .before .left .ensures))
+returns c = not-written (c .before .left .ensures) (c .if1 .taken)
 
 returns-2 : tie.Need-returns-2
 unfolding acceptedLine
 returns-2 c =
-    let p6 = c .before .before in
-    let p5 = p6 .before .before .before .before in
-    let p4 = p5 .before .before .before .before in
-    let p3 = p4 .before .before .before .before .before in
-    let p2 = p3 .before .before .before .before in
-    let p1 = p2 .before .before .before .before .before in
-    let start = p1 .before .before in
-    written (omega (arith, start .if1 .left, start .before .left .ensures)) (omega arith) (omega arith) (then (then (then (then (then (p1 .put-decimal .ensures .0) (p2 .put-text .ensures)) (p3 .put-decimal2 .ensures .0)) (p4 .put-text2 .ensures)) (p5 .put-decimal3 .ensures .0)) (p6 .put-byte .ensures))
+    let line = c .before .before in
+    let best = line .before .before .before .before in
+    let second = best .before .before .before .before in
+    let count = second .before .before .before .before .before in
+    let first = count .before .before .before .before in
+    let number = first .before .before .before .before .before in
+    let room = number .before .before in
+    written (omega (arith, room .if1 .left, room .before .left .ensures)) (omega arith) (
+      number .put-decimal .ensures .0
+      and-then first .put-text .ensures
+      and-then count .put-decimal2 .ensures .0
+      and-then second .put-text2 .ensures
+      and-then best .put-decimal3 .ensures .0
+      and-then line .put-byte .ensures
+    )
 
 pub put-accepted-spec : {M : Type 1} → statement M
 put-accepted-spec =

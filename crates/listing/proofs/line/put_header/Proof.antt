@@ -7,14 +7,16 @@ use Rattle.listing.proofs.line.put_header.Statement.{statement}
 use Rattle.listing.proofs.line.put_header.Tie as tie
 
 returns : tie.Need-returns
-returns c = not-written _ _ _ _ (omega (arith, c .if1 .taken, c .before .left .ensures))
+returns c = not-written (c .before .left .ensures) (c .if1 .taken)
 
 returns-2 : tie.Need-returns-2
 unfolding headerLine
 returns-2 c =
-    let p1 = c .before .before in
-    let start = p1 .before .before .before in
-    written (omega (arith, start .if1 .left, start .before .left .ensures)) (omega arith) (omega arith) (p1 .put-text .ensures)
+    let line = c .before .before in
+    let room = line .before .before .before in
+    written (omega (arith, room .if1 .left, room .before .left .ensures)) (omega arith) (
+      line .put-text .ensures
+    )
 
 pub put-header-spec : {M : Type 1} → statement M
 put-header-spec =

@@ -2,26 +2,34 @@
 use native.Mathlib.Omega.{arith}
 use borrow.Author.Needs.{needs}
 use Rattle.listing.specs.Lines.{poseLine}
-use Rattle.listing.proofs.Storing.{then}
+use Rattle.listing.proofs.Storing.{_and-then_}
 use Rattle.listing.proofs.Writing.{written, not-written}
 use Rattle.listing.proofs.line.put_pose.Statement.{statement}
 use Rattle.listing.proofs.line.put_pose.Tie as tie
 
 returns : tie.Need-returns
-returns c = not-written _ _ _ _ (omega (arith, c .if1 .taken, c .before .left .ensures))
+returns c = not-written (c .before .left .ensures) (c .if1 .taken)
 
 returns-2 : tie.Need-returns-2
 unfolding poseLine
 returns-2 c =
-    let p7 = c .before .before in
-    let p6 = p7 .before .before .before .before in
-    let p5 = p6 .before .before .before .before in
-    let p4 = p5 .before .before .before .before in
-    let p3 = p4 .before .before .before .before .before in
-    let p2 = p3 .before .before .before .before in
-    let p1 = p2 .before .before .before .before in
-    let start = p1 .before .before in
-    written (omega (arith, start .if1 .left, start .before .left .ensures)) (omega arith) (omega arith) (then (then (then (then (then (then (p1 .put-decimal .ensures .0) (p2 .put-byte .ensures)) (p3 .put-decimal2 .ensures .0)) (p4 .put-text .ensures)) (p5 .put-decimal3 .ensures .0)) (p6 .put-words .ensures .0)) (p7 .put-byte2 .ensures))
+    let line = c .before .before in
+    let words = line .before .before .before .before in
+    let updates = words .before .before .before .before in
+    let text = updates .before .before .before .before in
+    let place = text .before .before .before .before .before in
+    let dot = place .before .before .before .before in
+    let number = dot .before .before .before .before in
+    let room = number .before .before in
+    written (omega (arith, room .if1 .left, room .before .left .ensures)) (omega arith) (
+      number .put-decimal .ensures .0
+      and-then dot .put-byte .ensures
+      and-then place .put-decimal2 .ensures .0
+      and-then text .put-text .ensures
+      and-then updates .put-decimal3 .ensures .0
+      and-then words .put-words .ensures .0
+      and-then line .put-byte2 .ensures
+    )
 
 pub put-pose-spec : {M : Type 1} → statement M
 put-pose-spec =

@@ -2,23 +2,28 @@
 use native.Mathlib.Omega.{arith}
 use borrow.Author.Needs.{needs}
 use Rattle.listing.specs.Lines.{refusedLine}
-use Rattle.listing.proofs.Storing.{then}
+use Rattle.listing.proofs.Storing.{_and-then_}
 use Rattle.listing.proofs.Writing.{written, not-written}
 use Rattle.listing.proofs.line.put_refused.Statement.{statement}
 use Rattle.listing.proofs.line.put_refused.Tie as tie
 
 returns : tie.Need-returns
-returns c = not-written _ _ _ _ (omega (arith, c .if1 .taken, c .before .left .ensures))
+returns c = not-written (c .before .left .ensures) (c .if1 .taken)
 
 returns-2 : tie.Need-returns-2
 unfolding refusedLine
 returns-2 c =
-    let p4 = c .before .before in
-    let p3 = p4 .before .before .before .before in
-    let p2 = p3 .before .before .before .before in
-    let p1 = p2 .before .before .before .before .before in
-    let start = p1 .before .before in
-    written (omega (arith, start .if1 .left, start .before .left .ensures)) (omega arith) (omega arith) (then (then (then (p1 .put-decimal .ensures .0) (p2 .put-text .ensures)) (p3 .put-decimal2 .ensures .0)) (p4 .put-byte .ensures))
+    let line = c .before .before in
+    let refusal = line .before .before .before .before in
+    let word = refusal .before .before .before .before in
+    let number = word .before .before .before .before .before in
+    let room = number .before .before in
+    written (omega (arith, room .if1 .left, room .before .left .ensures)) (omega arith) (
+      number .put-decimal .ensures .0
+      and-then word .put-text .ensures
+      and-then refusal .put-decimal2 .ensures .0
+      and-then line .put-byte .ensures
+    )
 
 pub put-refused-spec : {M : Type 1} → statement M
 put-refused-spec =

@@ -2,24 +2,30 @@
 use native.Mathlib.Omega.{arith}
 use borrow.Author.Needs.{needs}
 use Rattle.listing.specs.Lines.{stopLine}
-use Rattle.listing.proofs.Storing.{then}
+use Rattle.listing.proofs.Storing.{_and-then_}
 use Rattle.listing.proofs.Writing.{written, not-written}
 use Rattle.listing.proofs.line.put_stop.Statement.{statement}
 use Rattle.listing.proofs.line.put_stop.Tie as tie
 
 returns : tie.Need-returns
-returns c = not-written _ _ _ _ (omega (arith, c .if1 .taken, c .before .left .ensures))
+returns c = not-written (c .before .left .ensures) (c .if1 .taken)
 
 returns-2 : tie.Need-returns-2
 unfolding stopLine
 returns-2 c =
-    let p5 = c .before .before in
-    let p4 = p5 .before .before .before .before in
-    let p3 = p4 .before .before .before .before in
-    let p2 = p3 .before .before .before .before .before in
-    let p1 = p2 .before .before .before .before in
-    let start = p1 .before .before .before in
-    written (omega (arith, start .if1 .left, start .before .left .ensures)) (omega arith) (omega arith) (then (then (then (then (p1 .put-text .ensures) (p2 .put-decimal .ensures .0)) (p3 .put-text2 .ensures)) (p4 .put-decimal2 .ensures .0)) (p5 .put-byte .ensures))
+    let line = c .before .before in
+    let number = line .before .before .before .before in
+    let place = number .before .before .before .before in
+    let refusal = place .before .before .before .before .before in
+    let word = refusal .before .before .before .before in
+    let room = word .before .before .before in
+    written (omega (arith, room .if1 .left, room .before .left .ensures)) (omega arith) (
+      word .put-text .ensures
+      and-then refusal .put-decimal .ensures .0
+      and-then place .put-text2 .ensures
+      and-then number .put-decimal2 .ensures .0
+      and-then line .put-byte .ensures
+    )
 
 pub put-stop-spec : {M : Type 1} → statement M
 put-stop-spec =

@@ -7,7 +7,7 @@ use borrow.Author.Needs.{needs}
 use Rattle.listing.specs.Bytes.{ascii}
 use Rattle.listing.specs.Digits.{hexadecimal}
 use Rattle.listing.specs.Lines.{wordOf}
-use Rattle.listing.proofs.Storing.{stored-as, then}
+use Rattle.listing.proofs.Storing.{stored-as, _and-then_}
 use Rattle.listing.proofs.words.put_double.Statement.{statement}
 use Rattle.listing.proofs.words.put_double.Tie as tie
 
@@ -16,8 +16,9 @@ unfolding wordOf
 returns c =
     let word = c .before .before in
     let space = word .before .before .before .before in
-    let bits = space .before .before in (
-      stored-as (ap (λ (n : ℕ). ascii " " ++ hexadecimal 16 n) (bits .to-bits .ensures)) (then (space .put-byte .ensures) (word .put-word .ensures .0)),
+    let bits = space .before .before in
+    let digits = ap (λ (n : ℕ). ascii " " ++ hexadecimal 16 n) (bits .to-bits .ensures) in (
+      stored-as digits (space .put-byte .ensures and-then word .put-word .ensures .0),
       omega (arith, space .put-byte .ensures .next-at, word .put-word .ensures .1),
     )
 

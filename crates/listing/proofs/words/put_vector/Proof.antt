@@ -2,7 +2,7 @@
 use native.Mathlib.Omega.{arith}
 use borrow.Author.Needs.{needs}
 use Rattle.listing.specs.Lines.{wordsOf}
-use Rattle.listing.proofs.Storing.{then}
+use Rattle.listing.proofs.Storing.{_and-then_}
 use Rattle.listing.proofs.words.put_vector.Statement.{statement}
 use Rattle.listing.proofs.words.put_vector.Tie as tie
 
@@ -12,7 +12,7 @@ returns c =
     let z = c .before .before in
     let y = z .before .before .before .before in
     let x = y .before .before .before .before in (
-      then (then (x .put-double .ensures .0) (y .put-double2 .ensures .0)) (z .put-double3 .ensures .0),
+      x .put-double .ensures .0 and-then y .put-double2 .ensures .0 and-then z .put-double3 .ensures .0,
       omega (arith, x .put-double .ensures .1, y .put-double2 .ensures .1, z .put-double3 .ensures .1),
     )
 

@@ -3,10 +3,6 @@ use borrow.Author.Needs.{needs}
 use Rattle.listing_program.proofs.frame.place_of.Statement.{statement}
 use Rattle.listing_program.proofs.frame.place_of.Tie as tie
 
--- src/frame.rt:30:22
--- src/frame.rt:31:31
--- src/frame.rt:26:1
--- src/frame.rt:26:1
 pub place-of-spec : {M : Type 1} → statement M
 place-of-spec =
     tie.close (tie.spec (λ c. search needs) (λ c. search needs) (λ c. search needs) (λ c. search needs))

@@ -1,10 +1,10 @@
 -- `listing_program::frame::put_answer` meets its contract. Assumes nothing.
 use borrow.Author.Needs.{needs}
 use native.Mathlib.Omega.{arith}
-use Prim.Native.Nat.{_+_, _≤_}
 use mathlib.Core.Path.{ap, _∙_}
-use lib.ListN.{length}
-use Rattle.listing.proofs.Storing.{then, stored-as}
+use Rattle.listing.specs.Bytes.{Stored}
+use Rattle.listing.specs.Lines.{acceptedLine}
+use Rattle.listing.proofs.Storing.{_and-then_, stored-as}
 use Rattle.listing.proofs.Writing.{stored, stored-length}
 use Rattle.choice.specs.Answer.{place}
 use Rattle.listing_program.proofs.AnswerLines.{refused-lines, accepted-lines}
@@ -13,30 +13,40 @@ use Rattle.listing_program.proofs.frame.put_answer.Tie as tie
 
 returns : tie.Need-returns
 returns c =
-    let p = c .before .before in
-    let yes = p .before .before in
-    let start = yes .before .before in
-    let room : start .args .at + 320 ≤ length (start .args .out .now) = omega (arith, start .pre) in
-    (stored-as (refused-lines _ _ _ _ (yes .if1 .taken)) (stored room (p .put-refused .ensures)), omega (arith, p .put-refused .ensures .fits))
+    let put = c .before .before in
+    let refused = put .before .before in
+    let start = refused .before .before in
+    let line = put .put-refused .ensures in
+    let lines = refused-lines _ _ _ _ (refused .if1 .taken) in
+    (stored-as lines (stored line (omega (arith, start .pre))), omega (arith, line .fits))
+
+abbrev entry : tie.After-put-accepted → tie.Start
+entry c = let accepted = c .before .before .before .before .before .before in accepted .before .before
+
+-- the first line is in place
+first : (c : tie.After-put-accepted)
+    → Stored (entry c .args .out .now) (entry c .args .at)
+    (acceptedLine (entry c .args .number) (entry c .args .answer .count) (c .before .before .place-of .result))
+    (c .put-accepted .result) (c .put-accepted .last .0)
+first c = stored (c .put-accepted .ensures) (omega (arith, entry c .pre))
 
 put-poses-requires : tie.Need-put-poses-requires
-put-poses-requires c κs =
-    let p = c .before .before .before in
-    let start = p .before .before .before .before .before .before .before .before in
-    let room : start .args .at + 320 ≤ length (start .args .out .now) = omega (arith, start .pre) in
-    omega (arith, start .pre, p .put-accepted .ensures .fits, stored-length (stored room (p .put-accepted .ensures)))
+put-poses-requires c _ =
+    let put = c .before .before .before in
+    omega (arith, entry put .pre, put .put-accepted .ensures .fits, stored-length (first put))
 
 returns-2 : tie.Need-returns-2
 returns-2 c =
-    let q = c .before .before in
-    let p = q .before .before .before .before in
-    let placed = p .before .before in
+    let poses = c .before .before in
+    let put = poses .before .before .before .before in
+    let placed = put .before .before in
     let chosen = placed .before in
-    let no = chosen .before .before .before in
-    let start = no .before .before in
-    let room : start .args .at + 320 ≤ length (start .args .out .now) = omega (arith, start .pre) in
+    let accepted = chosen .before .before .before in
     let best = placed .place-of .ensures ∙ ap place (chosen .choose .ensures) in
-    (stored-as (accepted-lines _ _ _ _ (no .if1 .left) best) (then (stored room (p .put-accepted .ensures)) (q .put-poses .ensures .0)), omega (arith, p .put-accepted .ensures .fits, q .put-poses .ensures .1))
+    let lines = accepted-lines _ _ _ _ (accepted .if1 .left) best in (
+      stored-as lines (first put and-then poses .put-poses .ensures .0),
+      omega (arith, put .put-accepted .ensures .fits, poses .put-poses .ensures .1),
+    )
 
 pub put-answer-spec : {M : Type 1} → statement M
 put-answer-spec =

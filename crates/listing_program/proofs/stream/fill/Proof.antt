@@ -1,9 +1,9 @@
--- `listing_program::stream::fill` meets its contract: only the bytes behind those that are filled are lent to be read into. Assumes nothing.
+-- `listing_program::stream::fill` meets its contract: only the bytes behind those that are filled
+-- are lent to be read into. Assumes nothing.
 use borrow.Author.Needs.{needs}
 use native.Mathlib.Nat.{le-refl, le-of-lt}
-use Prim.Native.Nat.{ℕ, _-_}
+use Prim.Native.Nat.{_-_}
 use mathlib.Core.Path.{_≡_}
-use mathlib.Core.List.{List}
 use lib.ListN.{length, take}
 use denote.Ref.{now}
 use borrow.Rule.Slice.PartMut.{putMid, take-put}
@@ -11,30 +11,38 @@ use Rattle.listing_program.proofs.stream.fill.Statement.{statement}
 use Rattle.listing_program.proofs.stream.fill.Tie as tie
 
 -- what is filled stays, whatever is read behind it
-kept : (f : tie.Else1) → let s = f .before .before .args in (ys : List ℕ) → take (s .filled) (putMid (s .filled) (length (now (s .input)) - s .filled) (now (s .input)) ys) ≡ take (s .filled) (now (s .input))
-kept f ys = let s = f .before .before .args in take-put (s .filled) (length (now (s .input)) - s .filled) (now (s .input)) ys (le-of-lt (f .if1 .left))
+kept : (c : tie.After-read) → let a = c .before .before .before .before .before .args in
+    let size = length (now (a .input)) in
+    take (a .filled) (putMid (a .filled) (size - a .filled) (now (a .input)) (c .read .last .1 .0))
+    ≡ take (a .filled) (now (a .input))
+kept c =
+    let room = c .before .before .before in
+    let a = room .before .before .args in
+    let behind = length (now (a .input)) - a .filled in
+    take-put (a .filled) behind (now (a .input)) (c .read .last .1 .0) (le-of-lt (room .if1 .left))
 
 returns-2 : tie.Need-returns-2
 returns-2 c =
-    let r = c .before .before .before .before .before in
-    let f = r .before .before .before in
-    (f .if1 .left, kept f (r .read .last .1 .0))
+    let read = c .before .before .before .before .before in
+    let room = read .before .before .before in
+    (room .if1 .left, kept read)
 
 returns-3 : tie.Need-returns-3
 returns-3 c =
-    let r = c .before .before .before .before .before .before .before .before in
-    let f = r .before .before .before in
-    ((le-refl (f .before .before .args .filled), le-of-lt (f .if1 .left)), kept f (r .read .last .1 .0))
+    let failed = c .before .before .before .before in
+    let read = failed .before .before .before .before in
+    let room = read .before .before .before in
+    ((le-refl _, le-of-lt (room .if1 .left)), kept read)
 
 returns-4 : tie.Need-returns-4
 returns-4 c =
-    let r = c .before .before .before .before .before .before .before .before in
-    (tt, kept (r .before .before .before) (r .read .last .1 .0))
+    let failed = c .before .before .before .before in
+    (tt, kept (failed .before .before .before .before))
 
 returns-5 : tie.Need-returns-5
 returns-5 c =
-    let r = c .before .before .before .before .before .before .before .before in
-    ((search needs, search needs), kept (r .before .before .before) (r .read .last .1 .0))
+    let some = c .before .before .before .before in
+    ((search needs, search needs), kept (some .before .before .before .before))
 
 pub fill-spec : {M : Type 1} → statement M
 fill-spec =

@@ -1,4 +1,5 @@
--- `listing_program::stream::flush` meets its contract, and no more is written than there is. Assumes nothing.
+-- `listing_program::stream::flush` meets its contract, and no more is written than there is.
+-- Assumes nothing.
 use native.Mathlib.Omega.{arith}
 use native.Mathlib.Nat.{not-le-of-lt}
 use lib.ListN.{length-take}
