@@ -8,3 +8,4 @@ pub mod MatrixScaling
 pub mod RatioScaling
 pub mod ChartScaling
 pub mod SignScaling
+pub mod Evaluated

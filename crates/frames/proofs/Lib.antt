@@ -1,2 +1,3 @@
 -- The laws that crates above cite.
 pub mod PoseDegrees
+pub mod Evaluated
