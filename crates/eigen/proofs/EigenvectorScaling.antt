@@ -1,25 +1,45 @@
--- Eigenvectors are equal in the two runs: that of the row crosses, at degree 4, is divided by its length, and so is that of the eigenvalue zero; the others are made of ratios. Assumes nothing.
-use mathlib.Core.Path.{_≡_, refl, ap, subst}
-use mathlib.Core.Bool.{_&&_}
+-- Eigenvectors are equal in the two runs: that of the row crosses, at degree 4, is divided by its
+-- length, and so is that of the eigenvalue zero; the others are made of ratios. Assumes nothing.
+use mathlib.Core.Path.{_≡_, refl, ap, ap₂, subst}
+use mathlib.Core.Bool.{not, _&&_, _||_}
 use lib.IntN.{ℤ, pos}
 use lib.Ieee.{Float}
 use Rattle.ieee754.specs.Literal.{one, sixtyFour, epsilon}
+use Rattle.ieee754.specs.Traced.{Traced}
 use Rattle.ieee754.specs.Scaling.{Both, At, Scales}
-use Rattle.ieee754_laws.proofs.Degrees.{same, null, !_, ⊝_, √_, _⊗_, _⊘_, _⊕_, _⊖_, pure, _>>=_, if_then_else_, choose, abs-at, le-same, finite-same, total-same}
+use Rattle.ieee754_laws.proofs.Degrees.{same, null, !_, ⊝_, √_, _⊗_, _⊘_, _⊕_, _⊖_, pure, _>>=_}
+use Rattle.ieee754_laws.proofs.Degrees.{if_then_else_, choose, abs-at, le-same, finite-same, total-same}
 use Rattle.ieee754_laws.proofs.MinPositive.{floored, epsilon64-small, norm-at}
 use Rattle.linalg.specs.Vectors.{norm}
 use Rattle.linalg.specs.VectorScaling.{AtVector, AtMatrix}
-use Rattle.linalg.proofs.VectorDegrees.{vector-at-zero, vecDiv-scales, normSquared-scales, cross-scales}
+use Rattle.linalg.proofs.VectorDegrees.{vector-at-zero, vecDiv-scales, normSquared-scales}
+use Rattle.linalg.proofs.VectorDegrees.{cross-scales}
 use Rattle.linalg.proofs.MatrixDegrees.{matNormSquared-scales}
-use Rattle.eigen.specs.RowCrosses.{lastGreatest, longer, unitVector, eigenvectorFromRowCrosses}
+use Rattle.eigen.specs.RowCrosses.{withVector, lastGreatest, longer, unitVector}
+use Rattle.eigen.specs.RowCrosses.{eigenvectorFromRowCrosses}
 use Rattle.eigen.specs.ZeroVector.{zeroDirection, zeroVector}
-use Rattle.eigen.specs.EigenvectorOf.{precompute, eigenDenominator, denominatorScale, ifFinite, eigenvectorByDivision, eigenvectorOf}
-use Rattle.eigen.specs.Types.{Order, Less, Equal, Greater, Vector3, Matrix3, Eigenvector, Unit, Missing, Precomputed}
+use Rattle.eigen.specs.EigenvectorOf.{precompute, eigenDenominator, denominatorScale}
+use Rattle.eigen.specs.EigenvectorOf.{ifFinite, eigenvectorByDivision, eigenvectorOf}
+use Rattle.eigen.specs.Types.{Order, Less, Equal, Greater, Vector3, Matrix3, Eigenvector}
+use Rattle.eigen.specs.Types.{Unit, Missing, Precomputed}
 use Rattle.linalg.proofs.SquaredLength.{squared-normal}
+
+-- what follows an eigenvector that is the same in the two runs, in any relation of them
+module _ {A : Type 0} {R : A → A → Type 0} {none none' : Traced A} {f f' : Vector3 → Traced A} where
+  pub withVector-scales : (e : Eigenvector)
+      → Both R none none'
+      → ((v : Vector3) → Both R (f v) (f' v))
+      → Both R (withVector e none f) (withVector e none' f')
+  withVector-scales (Unit v) none next = next v
+  withVector-scales Missing none next = none
 
 module _ {k : ℤ} where
   -- ---- the longest cross product of two rows
-  lastGreatest-at : {n : ℤ} {o o' : Order} {l l' r r' : Vector3} → o ≡ o' → AtVector k n l l' → AtVector k n r r' → AtVector k n (lastGreatest o l r) (lastGreatest o' l' r')
+  lastGreatest-at : {n : ℤ} {o o' : Order} {l l' r r' : Vector3}
+      → o ≡ o'
+      → AtVector k n l l'
+      → AtVector k n r r'
+      → AtVector k n (lastGreatest o l r) (lastGreatest o' l' r')
   unfolding lastGreatest
   lastGreatest-at {n} {o} {l = l} {l'} {r} {r'} e L R = subst (λ (p : Order). AtVector k n (lastGreatest o l r) (lastGreatest p l' r')) e (go o)
     where
@@ -28,14 +48,19 @@ module _ {k : ℤ} where
       go Equal = R
       go Greater = L
 
-  longer-scales : {n : ℤ} {l l' r r' : Vector3} → AtVector k n l l' → AtVector k n r r' → Both (AtVector k n) (longer l r) (longer l' r')
+  longer-scales : {n : ℤ} {l l' r r' : Vector3}
+      → AtVector k n l l'
+      → AtVector k n r r'
+      → Both (AtVector k n) (longer l r) (longer l' r')
   unfolding longer
   longer-scales left right =
       normSquared-scales left >>= λ _ _ l.
       normSquared-scales right >>= λ _ _ r.
       pure (lastGreatest-at (total-same l r) left right)
 
-  unitVector-same : {v v' : Vector3} → AtVector k (pos 4) v v' → Both {A = Eigenvector} _≡_ (unitVector v) (unitVector v')
+  unitVector-same : {v v' : Vector3}
+      → AtVector k (pos 4) v v'
+      → Both {A = Eigenvector} _≡_ (unitVector v) (unitVector v')
   unfolding unitVector norm
   unitVector-same {v} {v'} h =
       norm-at {n = pos 4} (normSquared-scales h) (squared-normal v) (squared-normal v') >>= λ _ _ length.
@@ -43,7 +68,9 @@ module _ {k : ℤ} where
       pure (choose _≡_ (λ i. (length .1) i && finite-same (length .0) i) (ap Unit (vector-at-zero unit)) (refl {a = Missing}))
 
   module _ {m m' : Matrix3} (M : AtMatrix k (pos 2) m m') where
-    pub rowCrosses-same : {e e' : Float} → At k (pos 2) e e' → Both {A = Eigenvector} _≡_ (eigenvectorFromRowCrosses m e) (eigenvectorFromRowCrosses m' e')
+    pub rowCrosses-same : {e e' : Float}
+        → At k (pos 2) e e'
+        → Both {A = Eigenvector} _≡_ (eigenvectorFromRowCrosses m e) (eigenvectorFromRowCrosses m' e')
     unfolding eigenvectorFromRowCrosses
     rowCrosses-same e =
         ! (M .m00) ⊖ ! e >>= λ _ _ x0.
@@ -85,7 +112,9 @@ module _ {k : ℤ} where
       pub pre0 : At k (pos 4) (p .pre0) (p' .pre0)
       pub pre1 : At k (pos 4) (p .pre1) (p' .pre1)
 
-    pub precompute-scales : {s s' : Float} → At k (pos 4) s s' → Both AtPrecomputed (precompute m s) (precompute m' s')
+    pub precompute-scales : {s s' : Float}
+        → At k (pos 4) s s'
+        → Both AtPrecomputed (precompute m s) (precompute m' s')
     unfolding precompute
     precompute-scales square =
         ⊝ ! (M .m00) ⊗ ! (M .m11) >>= λ _ _ product.
@@ -104,7 +133,9 @@ module _ {k : ℤ} where
           ! E ⊗ (! (M .m00) ⊕ ! (M .m11)) >>= λ _ _ linear.
           ! abs-at linear ⊕ ! abs-at (P .product) ⊕ ! E ⊗ ! E ⊕ ! (P .square)
 
-      byDivision-same : {d d' : Float} → At k (pos 4) d d' → Both {A = Eigenvector} _≡_ (eigenvectorByDivision m p e d) (eigenvectorByDivision m' p' e' d')
+      byDivision-same : {d d' : Float}
+          → At k (pos 4) d d'
+          → Both {A = Eigenvector} _≡_ (eigenvectorByDivision m p e d) (eigenvectorByDivision m' p' e' d')
       unfolding eigenvectorByDivision ifFinite
       byDivision-same denominator =
           ⊝ (! E ⊗ ! (M .m02) ⊕ ! (P .pre0)) ⊘ ! denominator >>= λ _ _ first.
@@ -120,6 +151,6 @@ module _ {k : ℤ} where
           eigenDenominator-scales >>= λ _ _ denominator.
           denominatorScale-scales >>= λ _ _ scale.
           floored (! same sixtyFour ⊗ ! same epsilon) epsilon64-small scale >>= λ _ _ limit.
-          if le-same (abs-at denominator) limit then rowCrosses-same E
-          else if finite-same denominator then byDivision-same denominator
-          else rowCrosses-same E
+          if ap₂ _||_ (le-same (abs-at denominator) limit) (ap not (finite-same denominator)) then
+          rowCrosses-same E
+          else byDivision-same denominator

@@ -1,5 +1,6 @@
--- What follows a quadratic's refusal, and the scaling laws of the eigensystem.
-mod NoPair
+-- How the eigensystem, the ratio of its values and what follows them scale, and what opens every
+-- definition.
 pub mod EigenvectorScaling
 pub mod EigenvalueScaling
 pub mod SystemScaling
+pub mod Evaluated

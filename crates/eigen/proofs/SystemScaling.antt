@@ -1,4 +1,7 @@
--- The eigensystem: its vectors are equal in the two runs and its values at degree 2, or neither run has one. Assumes nothing.
+-- The eigensystem: its vectors are equal in the two runs and its values at degree 2, or neither run
+-- has one. Assumes nothing.
+use mathlib.Core.Path.{ap}
+use mathlib.Core.Bool.{not}
 use lib.IntN.{ℤ, pos}
 use lib.Ieee.{Float}
 use Rattle.ieee754.specs.Traced.{Traced}
@@ -7,45 +10,53 @@ use Rattle.ieee754_laws.proofs.Degrees.{null, !_, _⊗_, pure, _>>=_, _>>≡_, 
 use Rattle.linalg.specs.Matrices.{fromColumns}
 use Rattle.linalg.specs.VectorScaling.{AtVector, AtMatrix}
 use Rattle.linalg.proofs.MatrixDegrees.{matFinite-same}
-use Rattle.eigen.specs.KnownZero.{orNotFound, orNoPair, systemOfPair, eigWithKnownZero}
-use Rattle.eigen.specs.Types.{Vector3, Matrix3, Eigenvector, Unit, Missing, Eigenvalues, Eigensystem, Found, NotFound}
-use Rattle.eigen.proofs.EigenvectorScaling.{zeroVector-same, precompute-scales, eigenvectorOf-same}
-use Rattle.eigen.proofs.EigenvalueScaling.{AtEigenvalues, pair-at, no-pair, eigenvaluePair-scales}
+use Rattle.eigen.specs.KnownZero.{withSystem, systemOfPair, eigWithKnownZero}
+use Rattle.eigen.specs.Types.{Vector3, Matrix3, Eigensystem, Found, NotFound}
+use Rattle.eigen.proofs.EigenvectorScaling.{withVector-scales, zeroVector-same}
+use Rattle.eigen.proofs.EigenvectorScaling.{precompute-scales, eigenvectorOf-same}
+use Rattle.eigen.proofs.EigenvalueScaling.{withEigenvalues-scales, eigenvaluePair-scales}
 
 pub data AtSystem (k : ℤ) : Eigensystem → Eigensystem → Type 0 where
-  found-at : (m : Matrix3) {v v' : Vector3} → AtVector k (pos 2) v v' → AtSystem k (Found m v) (Found m v')
+  found-at : (m : Matrix3) {v v' : Vector3}
+      → AtVector k (pos 2) v v'
+      → AtSystem k (Found m v) (Found m v')
   not-found : AtSystem k NotFound NotFound
 
+-- what follows a system, in any relation of the two runs
+module _ {A : Type 0} {R : A → A → Type 0} {k : ℤ} {none none' : Traced A} where
+  pub withSystem-scales : {s s' : Eigensystem} {f f' : Matrix3 → Vector3 → Traced A}
+      → AtSystem k s s'
+      → Both R none none'
+      → ((m : Matrix3) (v v' : Vector3) → AtVector k (pos 2) v v' → Both R (f m v) (f' m v'))
+      → Both R (withSystem s none f) (withSystem s' none' f')
+  withSystem-scales (found-at m {v} {v'} h) none next = next m v v' h
+  withSystem-scales not-found none next = none
+
 module _ {k : ℤ} where
-  orNotFound-scales : (e : Eigenvector) {f f' : Vector3 → Traced Eigensystem} → ((v : Vector3) → Both (AtSystem k) (f v) (f' v)) → Both (AtSystem k) (orNotFound e f) (orNotFound e f')
-  unfolding orNotFound
-  orNotFound-scales (Unit v) next = next v
-  orNotFound-scales Missing next = pure not-found
-
-  orNoPair-scales : {e e' : Eigenvalues} {f f' : Float → Float → Traced Eigensystem} → AtEigenvalues k e e'
-      → ((x x' y y' : Float) → At k (pos 2) x x' → At k (pos 2) y y' → Both (AtSystem k) (f x y) (f' x' y')) → Both (AtSystem k) (orNoPair e f) (orNoPair e' f')
-  unfolding orNoPair
-  orNoPair-scales (pair-at {x} {x'} {y} {y'} h g) next = next x x' y y' h g
-  orNoPair-scales no-pair next = pure not-found
-
   module _ {m m' : Matrix3} (M : AtMatrix k (pos 2) m m') where
-    systemOfPair-scales : (zeroUnit : Vector3) {s s' x x' y y' : Float} → At k (pos 4) s s' → At k (pos 2) x x' → At k (pos 2) y y'
+    systemOfPair-scales : (zeroUnit : Vector3) {s s' x x' y y' : Float}
+        → At k (pos 4) s s'
+        → At k (pos 2) x x'
+        → At k (pos 2) y y'
         → Both (AtSystem k) (systemOfPair m zeroUnit s x y) (systemOfPair m' zeroUnit s' x' y')
     unfolding systemOfPair
     systemOfPair-scales zeroUnit square firstValue secondValue =
         precompute-scales M square >>= λ _ _ p.
         eigenvectorOf-same M p firstValue >>≡ λ first.
-        orNotFound-scales first (λ column0.
+        withVector-scales first (pure not-found) (λ column0.
         eigenvectorOf-same M p secondValue >>≡ λ second.
-        orNotFound-scales second (λ column1. pure (found-at (fromColumns column0 column1 zeroUnit) (record { x = firstValue; y = secondValue; z = null }))))
+        withVector-scales second (pure not-found) (λ column1.
+        pure (found-at (fromColumns column0 column1 zeroUnit)
+        (record { x = firstValue; y = secondValue; z = null }))))
 
     pub eigWithKnownZero-scales : Both (AtSystem k) (eigWithKnownZero m) (eigWithKnownZero m')
     unfolding eigWithKnownZero
     eigWithKnownZero-scales =
-        if matFinite-same M then (
+        if ap not (matFinite-same M) then pure not-found
+        else (
         zeroVector-same M >>≡ λ known.
-        orNotFound-scales known (λ zeroUnit.
+        withVector-scales known (pure not-found) (λ zeroUnit.
         ! (M .m01) ⊗ ! (M .m01) >>= λ _ _ square.
         eigenvaluePair-scales M square >>= λ _ _ pair.
-        orNoPair-scales pair (λ _ _ _ _ first second. systemOfPair-scales zeroUnit square first second)))
-        else pure not-found
+        withEigenvalues-scales pair (pure not-found) (λ _ _ _ _ first second.
+        systemOfPair-scales zeroUnit square first second)))

@@ -1,35 +1,44 @@
--- The two eigenvalues that are not known: the second part of `eig_with_known_zero` (lambdatwist.rs). They are the roots of a quadratic, the greater in magnitude first.
+-- The two eigenvalues that are not known: the second part of `eig_with_known_zero`
+-- (lambdatwist.rs). They are the roots of a quadratic, the greater in magnitude first; a
+-- quadratic's refusal ends the solve.
+use mathlib.Core.Bool.{_||_}
 use lib.Ieee.{Float, lt, eq}
 use Rattle.ieee754.specs.Literal.{plusZero}
 use Rattle.ieee754.specs.Magnitude.{abs}
 use Rattle.ieee754.specs.Traced.{Traced, pure, _>>=_, if_then_else_, _⊗_, _⊕_, _⊖_, !_, ⊝_}
 use Rattle.linalg.specs.Matrices.{trace}
+use Rattle.polynomial.specs.Answer.{withPair}
 use Rattle.polynomial.specs.Quadratic.{quadraticRealMonic}
-use Rattle.eigen.specs.Types.{Matrix3, Roots, Two, One, Refused, Eigenvalues, Pair, NoPair}
+use Rattle.eigen.specs.Types.{Matrix3, Eigenvalues, Pair, NoPair}
+
+-- ---- what follows the eigenvalues: what `k` makes of the two, and `none` where there is no pair
+abbrev pub withEigenvalues : {A : Type 0}
+    → Eigenvalues
+    → Traced A
+    → (Float → Float → Traced A)
+    → Traced A
+withEigenvalues (Pair first second) none k = k first second
+withEigenvalues NoPair none k = none
 
 -- -off_diagonal_squared - matrix[(0, 2)] * matrix[(0, 2)] - matrix[(1, 2)] * matrix[(1, 2)]
 --     + matrix[(0, 0)] * (matrix[(1, 1)] + matrix[(2, 2)])
 --     + matrix[(1, 1)] * matrix[(2, 2)]
 unfoldable pub pairCoefficient : Matrix3 → Float → Traced Float
 pairCoefficient m offDiagonalSquared =
-    ⊝ ! offDiagonalSquared ⊖ ! (m .m02) ⊗ ! (m .m02) ⊖ ! (m .m12) ⊗ ! (m .m12) ⊕ ! (m .m00) ⊗ (! (m .m11) ⊕ ! (m .m22)) ⊕ ! (m .m11) ⊗ ! (m .m22)
+    ⊝ ! offDiagonalSquared ⊖ ! (m .m02) ⊗ ! (m .m02) ⊖ ! (m .m12) ⊗ ! (m .m12)
+    ⊕ ! (m .m00) ⊗ (! (m .m11) ⊕ ! (m .m22))
+    ⊕ ! (m .m11) ⊗ ! (m .m22)
 
 -- if first_value == 0.0 || second_value == 0.0 { return None; }
 unfoldable pub nonzeroPair : Float → Float → Eigenvalues
 nonzeroPair first second =
-    if eq first plusZero then NoPair
-    else if eq second plusZero then NoPair
-    else Pair first second
+    if eq first plusZero || eq second plusZero then NoPair else Pair first second
 
--- if first_value.abs() < second_value.abs() { std::mem::swap(&mut first_value, &mut second_value); }
+-- if first_value.abs() < second_value.abs() {
+--     std::mem::swap(&mut first_value, &mut second_value); }
 unfoldable pub byMagnitude : Float → Float → Eigenvalues
-byMagnitude first second = if lt (abs first) (abs second) then nonzeroPair second first else nonzeroPair first second
-
--- what follows the quadratic: its refusal ends the solve. It answers two roots or refuses: the arm of a single root only makes the match whole.
-unfoldable pub pairOfRoots : Roots → Eigenvalues
-pairOfRoots (Two first second) = byMagnitude first second
-pairOfRoots (One root) = NoPair
-pairOfRoots (Refused number) = NoPair
+byMagnitude first second =
+    if lt (abs first) (abs second) then nonzeroPair second first else nonzeroPair first second
 
 unfoldable pub eigenvaluePair : Matrix3 → Float → Traced Eigenvalues
 eigenvaluePair m offDiagonalSquared = do
@@ -37,4 +46,4 @@ eigenvaluePair m offDiagonalSquared = do
   traceCoefficient ← ⊝ trace m
   pairTerm ← pairCoefficient m offDiagonalSquared
   roots ← quadraticRealMonic traceCoefficient pairTerm
-  pure (pairOfRoots roots)
+  withPair roots (pure NoPair) (λ first second. pure (byMagnitude first second))

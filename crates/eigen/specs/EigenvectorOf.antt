@@ -1,4 +1,6 @@
--- The eigenvector of a nonzero eigenvalue: the closure `eigenvector` of `eig_with_known_zero` (lambdatwist.rs), and what is computed before it for both values.
+-- The eigenvector of a nonzero eigenvalue: the closure `eigenvector` of `eig_with_known_zero`
+-- (lambdatwist.rs), and what is computed before it for both values.
+use mathlib.Core.Bool.{not, _||_}
 use lib.Ieee.{Float, le}
 use lib.Ieee.Scale.{finite}
 use Rattle.ieee754.specs.Literal.{one, sixtyFour, epsilon, minPositive}
@@ -19,12 +21,14 @@ precompute m offDiagonalSquared = do
   pre1 ← ! (m .m01) ⊗ ! (m .m02) ⊖ ! (m .m00) ⊗ ! (m .m12)
   pure (record { square = offDiagonalSquared; product = product; pre0 = pre0; pre1 = pre1 })
 
--- eigenvalue * (matrix[(0, 0)] + matrix[(1, 1)]) + product00_11 - eigenvalue * eigenvalue + off_diagonal_squared
+-- eigenvalue * (matrix[(0, 0)] + matrix[(1, 1)]) + product00_11
+--     - eigenvalue * eigenvalue + off_diagonal_squared
 unfoldable pub eigenDenominator : Matrix3 → Precomputed → Float → Traced Float
 eigenDenominator m p eigenvalue =
     ! eigenvalue ⊗ (! (m .m00) ⊕ ! (m .m11)) ⊕ ! (p .product) ⊖ ! eigenvalue ⊗ ! eigenvalue ⊕ ! (p .square)
 
--- (eigenvalue * (matrix[(0, 0)] + matrix[(1, 1)])).abs() + product00_11.abs() + eigenvalue * eigenvalue + off_diagonal_squared
+-- (eigenvalue * (matrix[(0, 0)] + matrix[(1, 1)])).abs() + product00_11.abs()
+--     + eigenvalue * eigenvalue + off_diagonal_squared
 unfoldable pub denominatorScale : Matrix3 → Precomputed → Float → Traced Float
 denominatorScale m p eigenvalue = do
   linear ← ! eigenvalue ⊗ (! (m .m00) ⊕ ! (m .m11))
@@ -51,8 +55,9 @@ unfoldable pub eigenvectorOf : Matrix3 → Precomputed → Float → Traced Eige
 eigenvectorOf m p eigenvalue = do
   denominator ← eigenDenominator m p eigenvalue
   scale ← denominatorScale m p eigenvalue
-  -- denominator.abs() <= 64.0 * f64::EPSILON * denominator_scale.max(f64::MIN_POSITIVE) || !denominator.is_finite()
+  -- denominator.abs() <= 64.0 * f64::EPSILON * denominator_scale.max(f64::MIN_POSITIVE)
+  --     || !denominator.is_finite()
   limit ← ! sixtyFour ⊗ ! epsilon ⊗ ! max scale minPositive
-  if le (abs denominator) limit then eigenvectorFromRowCrosses m eigenvalue
-      else if finite denominator then eigenvectorByDivision m p eigenvalue denominator
-      else eigenvectorFromRowCrosses m eigenvalue
+  if le (abs denominator) limit || not (finite denominator) then
+      eigenvectorFromRowCrosses m eigenvalue
+      else eigenvectorByDivision m p eigenvalue denominator

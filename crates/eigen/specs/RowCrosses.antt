@@ -1,4 +1,5 @@
--- `eigenvector_from_row_crosses` of lambdatwist.rs: the longest cross product of two rows of matrix - eigenvalue, divided by its length.
+-- `eigenvector_from_row_crosses` of lambdatwist.rs: the longest cross product of two rows of
+-- matrix - eigenvalue, divided by its length.
 use mathlib.Core.Bool.{_&&_}
 use lib.Ieee.{Float, lt}
 use lib.Ieee.Scale.{finite}
@@ -6,7 +7,13 @@ use Rattle.ieee754.specs.Literal.{minPositive}
 use Rattle.ieee754.specs.TotalOrder.{totalCmp}
 use Rattle.ieee754.specs.Traced.{Traced, pure, _>>=_, if_then_else_, _⊖_, !_}
 use Rattle.linalg.specs.Vectors.{vector, cross, normSquared, norm, vecDiv}
-use Rattle.eigen.specs.Types.{Order, Less, Equal, Greater, Vector3, Matrix3, Eigenvector, Unit, Missing}
+use Rattle.eigen.specs.Types.{Order, Less, Equal, Greater, Vector3, Matrix3, Eigenvector}
+use Rattle.eigen.specs.Types.{Unit, Missing}
+
+-- ---- what follows an eigenvector: what `k` makes of it, and `none` where it is missing
+abbrev pub withVector : {A : Type 0} → Eigenvector → Traced A → (Vector3 → Traced A) → Traced A
+withVector (Unit v) none k = k v
+withVector Missing none k = none
 
 -- `max_by` keeps what it has only where that compares greater: of equals the last wins
 unfoldable pub lastGreatest : Order → Vector3 → Vector3 → Vector3

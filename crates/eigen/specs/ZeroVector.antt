@@ -1,5 +1,6 @@
--- The eigenvector of the known eigenvalue zero: the first part of `eig_with_known_zero` (lambdatwist.rs). It becomes the third column of the eigenvectors, which the solve never reads; but where it is
--- missing the solve ends.
+-- The eigenvector of the known eigenvalue zero: the first part of `eig_with_known_zero`
+-- (lambdatwist.rs). It becomes the third column of the eigenvectors, which the solve never reads;
+-- but where it is missing the solve ends.
 use lib.Ieee.{le}
 use Rattle.ieee754.specs.Literal.{plusZero, sixtyFour, epsilon}
 use Rattle.ieee754.specs.Traced.{Traced, pure, _>>=_, if_then_else_, _⊗_, _⊖_, !_, √_}

@@ -1,6 +1,7 @@
 // The two eigenvalues that are not known: the second part of eig_with_known_zero (lambdatwist.rs).
 ghost use mathlib.Core.Path.{_≡_};
-ghost use Rattle.eigen.specs.EigenPair.{pairCoefficient, nonzeroPair, byMagnitude, eigenvaluePair};
+ghost use Rattle.eigen.specs.EigenPair.{pairCoefficient, nonzeroPair, byMagnitude};
+ghost use Rattle.eigen.specs.EigenPair.{eigenvaluePair};
 use ieee754::abs::abs;
 use linalg::matrix3::Matrix3;
 use polynomial::Roots;
@@ -20,10 +21,7 @@ pub fn pair_coefficient(m: Matrix3, square: f64) -> f64
 pub fn nonzero_pair(first: f64, second: f64) -> Eigenvalues
     ensures { λ r. ⌜ r ≡ nonzeroPair first second ⌝ }
 {
-    if first == 0.0 {
-        return Eigenvalues::NoPair;
-    }
-    if second == 0.0 {
+    if (first == 0.0) | (second == 0.0) {
         return Eigenvalues::NoPair;
     }
     Eigenvalues::Pair(first, second)

@@ -1,7 +1,8 @@
-// The eigenvector of a nonzero eigenvalue: the closure `eigenvector` of eig_with_known_zero (lambdatwist.rs), and what is
-// computed before it for both values.
+// The eigenvector of a nonzero eigenvalue: the closure `eigenvector` of eig_with_known_zero
+// (lambdatwist.rs), and what is computed before it for both values.
 ghost use mathlib.Core.Path.{_≡_};
-ghost use Rattle.eigen.specs.EigenvectorOf.{precompute, eigenDenominator, denominatorScale, eigenvectorByDivision, eigenvectorOf};
+ghost use Rattle.eigen.specs.EigenvectorOf.{precompute, eigenDenominator, denominatorScale};
+ghost use Rattle.eigen.specs.EigenvectorOf.{eigenvectorByDivision, eigenvectorOf};
 use crate::row_crosses::Eigenvector;
 use crate::row_crosses::eigenvector_from_row_crosses;
 use ieee754::abs::abs;
@@ -62,10 +63,10 @@ pub fn eigenvector_by_division(
         y: second * inverse_norm,
         z: inverse_norm,
     };
-    if !vector.all_finite() {
-        return Eigenvector::Missing;
+    if vector.all_finite() {
+        return Eigenvector::Unit(vector);
     }
-    Eigenvector::Unit(vector)
+    Eigenvector::Missing
 }
 
 pub fn eigenvector(m: Matrix3, p: Precomputed, eigenvalue: f64) -> Eigenvector
@@ -73,10 +74,8 @@ pub fn eigenvector(m: Matrix3, p: Precomputed, eigenvalue: f64) -> Eigenvector
 {
     let denominator = eigen_denominator(m, p, eigenvalue);
     let scale = denominator_scale(m, p, eigenvalue);
-    if abs(denominator) <= 64.0 * EPSILON * max(scale, MIN_POSITIVE) {
-        return eigenvector_from_row_crosses(m, eigenvalue);
-    }
-    if !is_finite(denominator) {
+    let limit = 64.0 * EPSILON * max(scale, MIN_POSITIVE);
+    if (abs(denominator) <= limit) | !is_finite(denominator) {
         return eigenvector_from_row_crosses(m, eigenvalue);
     }
     eigenvector_by_division(m, p, eigenvalue, denominator)

@@ -1,5 +1,5 @@
-// The eigenvectors, by columns, and the eigenvalues of a symmetric matrix of which zero is an eigenvalue: eig_with_known_zero
-// of lambdatwist.rs.
+// The eigenvectors, by columns, and the eigenvalues of a symmetric matrix of which zero is an
+// eigenvalue: eig_with_known_zero of lambdatwist.rs.
 ghost use mathlib.Core.Path.{_≡_};
 ghost use Rattle.eigen.specs.KnownZero.{systemOfPair, eigWithKnownZero};
 use crate::eigenvalues::Eigenvalues;
@@ -16,7 +16,8 @@ pub enum Eigensystem {
     NotFound,
 }
 
-// The system of a matrix, by the eigenvector of zero, the square of the entry (0, 1) and the other two eigenvalues.
+// The system of a matrix, by the eigenvector of zero, the square of the entry (0, 1) and the other
+// two eigenvalues.
 pub fn system_of_pair(
     m: Matrix3,
     zero: Vector3,

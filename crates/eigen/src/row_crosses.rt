@@ -1,5 +1,5 @@
-// The longest cross product of two rows of matrix - eigenvalue, divided by its length: eigenvector_from_row_crosses of
-// lambdatwist.rs.
+// The longest cross product of two rows of matrix - eigenvalue, divided by its length:
+// eigenvector_from_row_crosses of lambdatwist.rs.
 ghost use mathlib.Core.Path.{_≡_};
 ghost use Rattle.eigen.specs.RowCrosses.{longer, unitVector, eigenvectorFromRowCrosses};
 use ieee754::is_finite::is_finite;
@@ -30,10 +30,8 @@ pub fn unit_vector(v: Vector3) -> Eigenvector
 {
     let length = v.norm();
     let unit = v.div(length);
-    if MIN_POSITIVE < length {
-        if is_finite(length) {
-            return Eigenvector::Unit(unit);
-        }
+    if (length > MIN_POSITIVE) & is_finite(length) {
+        return Eigenvector::Unit(unit);
     }
     Eigenvector::Missing
 }

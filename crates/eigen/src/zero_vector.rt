@@ -1,4 +1,5 @@
-// The eigenvector of the known eigenvalue zero: the first part of eig_with_known_zero (lambdatwist.rs).
+// The eigenvector of the known eigenvalue zero: the first part of eig_with_known_zero
+// (lambdatwist.rs).
 ghost use mathlib.Core.Path.{_≡_};
 ghost use Rattle.eigen.specs.ZeroVector.{zeroDirection, zeroVector};
 use crate::row_crosses::Eigenvector;

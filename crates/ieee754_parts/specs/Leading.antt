@@ -4,7 +4,7 @@ use mathlib.Core.Path.{_≡_}
 use mathlib.Core.Bool.{Bool}
 use Prim.Native.Nat.{ℕ, _+_, _-_, _*_, _^_, _≤_, _<_}
 use lib.Ieee.{binary64, units}
-use Rattle.ieee754_parts.specs.declared.normal.Scaled.{Scaled}
+use Rattle.ieee754_parts.specs.Types.{Scaled}
 use Rattle.ieee754_parts.specs.Rounded.{rounded}
 
 -- every number from (n - 1) * 2 ^ exp to (n + 2) * 2 ^ exp rounds to r, which has 53 digits

@@ -3,8 +3,7 @@
 use mathlib.Core.Path.{_≡_}
 use mathlib.Core.Bool.{Bool}
 use Prim.Native.Nat.{ℕ, _+_, _*_, _^_, _≤_, _<_}
-use Rattle.ieee754_parts.specs.declared.normal.Scaled.{Scaled}
-use Rattle.ieee754_parts.specs.declared.wide.Wide.{Wide}
+use Rattle.ieee754_parts.specs.Types.{Scaled, Wide}
 use Rattle.ieee754_parts.specs.Rounded.{rounded}
 use Rattle.ieee754_parts.specs.Value.{value}
 

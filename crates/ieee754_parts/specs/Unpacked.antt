@@ -4,7 +4,7 @@ use Prim.Native.Nat.{ℕ, _*_, _^_, _≤_, _<_}
 use mathlib.Core.Bool.{Bool, cond}
 use lib.Ieee.{Float}
 use lib.Ieee.Exact.{HasValue}
-use Rattle.ieee754_parts.specs.declared.unpack.Unpacked.{Unpacked}
+use Rattle.ieee754_parts.specs.Types.{Unpacked}
 
 -- the significand has at most 53 digits, and all of them unless the exponent is the lowest
 pub record IsSignificand (sig exp : ℕ) : Type 0 where

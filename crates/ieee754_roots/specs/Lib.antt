@@ -1,2 +1,3 @@
 -- What the functions of this crate return.
+pub mod Types
 pub mod Nearest

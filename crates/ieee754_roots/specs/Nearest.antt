@@ -3,7 +3,7 @@
 use Prim.Native.Nat.{ℕ, _+_, _-_, _*_, _/_, _^_, _<_}
 use mathlib.Core.Path.{_≡_}
 use mathlib.Core.Bool.{false}
-use Rattle.ieee754_parts.specs.declared.wide.Difference.{Difference}
+use Rattle.ieee754_roots.specs.Types.{Difference}
 
 -- q is the whole number nearest to the p-th root of n, with no tie: n lies strictly between the
 -- p-th powers of q - 1 / 2 and q + 1 / 2

@@ -17,7 +17,7 @@ use Rattle.polynomial.specs.CubicStart.{cubicValue, turningOffset, leftStart, r
 use Rattle.polynomial.specs.Newton.{newtonStep, newtonSteps}
 use Rattle.polynomial.specs.PolishedRoot.{rescaledRoot, polishedRoot, polishedCubicRoot}
 use Rattle.p3p_common.specs.Input.{inputFinite}
-use Rattle.p3p_common.specs.RefineDepths.{depthResidual, ifFinite, depthUpdate, depthStep, afterStep, refineTurns, refineDepths}
+use Rattle.p3p_common.specs.RefineDepths.{depthResidual, ifFinite, depthUpdate, depthStep, refineTurns, refineDepths}
 use Rattle.p3p_common.specs.RayFits.{rayFits}
 use Rattle.p3p_common.specs.WorldBasisInverse.{dualBasis, isSingular, worldBasisInverse}
 use Rattle.p3p_common.specs.Slots.{empty, push}
@@ -28,15 +28,13 @@ use Rattle.depths.specs.Condition.{foldedScale, leadingShare, leadingCubicCondi
 use Rattle.depths.specs.Matrix.{singularMatrix}
 use Rattle.eigen.specs.RowCrosses.{lastGreatest, longer, unitVector, eigenvectorFromRowCrosses}
 use Rattle.eigen.specs.ZeroVector.{zeroDirection, zeroVector}
-use Rattle.eigen.specs.EigenPair.{pairCoefficient, nonzeroPair, byMagnitude, pairOfRoots, eigenvaluePair}
+use Rattle.eigen.specs.EigenPair.{pairCoefficient, nonzeroPair, byMagnitude, eigenvaluePair}
 use Rattle.eigen.specs.EigenvectorOf.{precompute, eigenDenominator, denominatorScale, ifFinite as ifAllFinite, eigenvectorByDivision, eigenvectorOf}
-use Rattle.eigen.specs.KnownZero.{orNotFound, orNoPair, systemOfPair, eigWithKnownZero}
-use Rattle.depths.specs.RatioOf.{ratioOf}
-use Rattle.depths.specs.Measure.{measure, measuredCubic}
-use Rattle.depths.specs.Signs.{signTurn, candidates}
+use Rattle.eigen.specs.KnownZero.{systemOfPair, eigWithKnownZero}
+use Rattle.eigen.specs.RatioOf.{isNotReal, ratioOf}
 use Rattle.depths.specs.DepthSlots.{noCandidates, pushIfPositive}
 use Rattle.depths.specs.Charts.{forRoots, noDivisor, firstChartDepths, firstChart, secondChartDepths, weightChart, secondChart, chart}
-use Rattle.lambdatwist.specs.Poses.{allPositive, pushDepths, poseTurn, poseTurns, poses}
+use Rattle.lambdatwist.specs.Poses.{signTurn, candidates, allPositive, pushDepths, poseTurn, poseTurns, poses}
 use Rattle.lambdatwist.specs.Permutation.{withCondition, better, bestOf, bestPermutation}
 use Rattle.lambdatwist.specs.Solve.{answered, refused, orNoRoot, orNoSystem, orNoRatio, orSingular, solveCandidates, solveRoot, solveCubic, orderedOr, bestOr, solveOrdered, solve, ifKept}
 use Rattle.p3p_common.specs.Gate.{ifValid, keepPoint0, projectedGate, gate}
@@ -51,5 +49,5 @@ use Rattle.ieee754.specs.Traced.{Traced}
 use Rattle.theorems.specs.Types.{World, Bearings, Answer}
 
 unfoldable pub evaluated : World → Bearings → Traced Answer
-unfolding measure measuredCubic ifValid keepPoint0 projectedGate gate hasNearOrthonormalColumns projectToRotation cameraPoint observationFits projectedPoseFitsMinimalSample pushGated pushPose rotationFromEdges push allPositive pushDepths poseTurn poseTurns poses ifKept inRange addRegular mulRegular divRegular fmaRegular sqrtRegular cbrtRegular solve solveOrdered orderedOr bestOr solveCubic solveRoot solveCandidates orNoRoot orNoSystem orNoRatio orSingular answered refused bestPermutation bestOf better withCondition candidates signTurn chart firstChart secondChart weightChart firstChartDepths secondChartDepths forRoots noDivisor pushIfPositive noCandidates ratioOf eigWithKnownZero systemOfPair orNotFound orNoPair eigenvectorOf eigenvectorByDivision ifAllFinite denominatorScale eigenDenominator precompute eigenvaluePair pairOfRoots byMagnitude nonzeroPair pairCoefficient zeroVector zeroDirection eigenvectorFromRowCrosses unitVector longer lastGreatest singularMatrix leadingCubicCondition leadingShare foldedScale isUnusable coefficientScale cubicCoefficients bearingFactors squaredSines cosines cosine squaredEdges edgeVectors empty worldBasisInverse isSingular dualBasis rayFits refineDepths refineTurns afterStep depthStep depthUpdate ifFinite depthResidual inputFinite polishedCubicRoot polishedRoot rescaledRoot newtonSteps newtonStep startRoot turningStart leftStart rightStart turningOffset cubicValue normalised cubicVariableScale rootMagnitude tiny large allZero cardanoSingleReal fastCbrt cbrtSteps cbrtStep cbrtStart quadraticRealMonic quadraticRealMonicComputed quadraticPair fromColumns fromRows matVec matMul matNormSquared trace matFinite vecSub vecAdd vecMul vecDiv dot normSquared norm cross absSum allFinite fma sqrt cbrt roundRoot root rootDigits totalOrder totalCmp clamp max copysign abs ofBits toBits size add sub mul div sum round neg lt le eq isNan
+unfolding ifValid keepPoint0 projectedGate gate hasNearOrthonormalColumns projectToRotation cameraPoint observationFits projectedPoseFitsMinimalSample pushGated pushPose rotationFromEdges push allPositive pushDepths poseTurn poseTurns poses ifKept inRange addRegular mulRegular divRegular fmaRegular sqrtRegular cbrtRegular solve solveOrdered orderedOr bestOr solveCubic solveRoot solveCandidates orNoRoot orNoSystem orNoRatio orSingular answered refused bestPermutation bestOf better withCondition candidates signTurn chart firstChart secondChart weightChart firstChartDepths secondChartDepths forRoots noDivisor pushIfPositive noCandidates ratioOf isNotReal eigWithKnownZero systemOfPair eigenvectorOf eigenvectorByDivision ifAllFinite denominatorScale eigenDenominator precompute eigenvaluePair byMagnitude nonzeroPair pairCoefficient zeroVector zeroDirection eigenvectorFromRowCrosses unitVector longer lastGreatest singularMatrix leadingCubicCondition leadingShare foldedScale isUnusable coefficientScale cubicCoefficients bearingFactors squaredSines cosines cosine squaredEdges edgeVectors empty worldBasisInverse isSingular dualBasis rayFits refineDepths refineTurns depthStep depthUpdate ifFinite depthResidual inputFinite polishedCubicRoot polishedRoot rescaledRoot newtonSteps newtonStep startRoot turningStart leftStart rightStart turningOffset cubicValue normalised cubicVariableScale rootMagnitude tiny large allZero cardanoSingleReal fastCbrt cbrtSteps cbrtStep cbrtStart quadraticRealMonic quadraticRealMonicComputed quadraticPair fromColumns fromRows matVec matMul matNormSquared trace matFinite vecSub vecAdd vecMul vecDiv dot normSquared norm cross absSum allFinite fma sqrt cbrt roundRoot root rootDigits totalOrder totalCmp clamp max copysign abs ofBits toBits size add sub mul div sum round neg lt le eq isNan
 evaluated world bearings = solve world bearings

@@ -9,11 +9,7 @@ returns c = rw (c .if1 .taken)
 
 returns-2 : tie.Need-returns-2
 unfolding nonzeroPair
-returns-2 c = rw (c .before .if1 .left, c .if2 .taken)
-
-returns-3 : tie.Need-returns-3
-unfolding nonzeroPair
-returns-3 c = rw (c .before .if1 .left, c .if2 .left)
+returns-2 c = rw (c .if1 .left)
 
 pub nonzero-pair-spec : {M : Type 1} → statement M
-nonzero-pair-spec = tie.close (tie.spec returns returns-2 returns-3)
+nonzero-pair-spec = tie.close (tie.spec returns returns-2)

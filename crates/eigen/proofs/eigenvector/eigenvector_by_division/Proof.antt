@@ -1,17 +1,17 @@
 -- `eigen::eigenvector::eigenvector_by_division` meets its contract. Assumes nothing.
 use borrow.Author.Needs.{needs}
-use borrow.Author.Tests.{not-true, not-false}
 use Rattle.eigen.specs.EigenvectorOf.{eigenvectorByDivision, ifFinite}
 use Rattle.eigen.proofs.eigenvector.eigenvector_by_division.Statement.{statement}
 use Rattle.eigen.proofs.eigenvector.eigenvector_by_division.Tie as tie
 
 returns : tie.Need-returns
 unfolding eigenvectorByDivision ifFinite
-returns c = rw (← c .before .before .sqrt .ensures, ← c .before .all-finite .ensures, not-true (c .before .all-finite .result) (c .if1 .taken))
+returns c = rw (← c .before .before .sqrt .ensures, ← c .before .all-finite .ensures, c .if1 .taken)
 
 returns-2 : tie.Need-returns-2
 unfolding eigenvectorByDivision ifFinite
-returns-2 c = rw (← c .before .before .sqrt .ensures, ← c .before .all-finite .ensures, not-false (c .before .all-finite .result) (c .if1 .left))
+returns-2 c =
+    rw (← c .before .before .sqrt .ensures, ← c .before .all-finite .ensures, c .if1 .left)
 
 pub eigenvector-by-division-spec : {M : Type 1} → statement M
 eigenvector-by-division-spec =

@@ -6,17 +6,38 @@ use Rattle.eigen.proofs.row_crosses.longer.Tie as tie
 
 returns : tie.Need-returns
 unfolding longer lastGreatest
-returns c = rw (← c .before .before .before .before .norm-squared .ensures, ← c .before .before .before .norm-squared2 .ensures, ← c .before .before .total-cmp .ensures, c .enum-told .given .1)
+returns c =
+    let norm-squared2 = c .before .before .before in
+    rw (
+      ← norm-squared2 .before .norm-squared .ensures,
+      ← norm-squared2 .norm-squared2 .ensures,
+      ← c .before .before .total-cmp .ensures,
+      c .enum-told .given .1,
+    )
 
 returns-2 : tie.Need-returns-2
 unfolding longer lastGreatest
-returns-2 c = rw (← c .before .before .before .before .norm-squared .ensures, ← c .before .before .before .norm-squared2 .ensures, ← c .before .before .total-cmp .ensures, c .enum-told2 .given .1)
+returns-2 c =
+    let norm-squared2 = c .before .before .before in
+    rw (
+      ← norm-squared2 .before .norm-squared .ensures,
+      ← norm-squared2 .norm-squared2 .ensures,
+      ← c .before .before .total-cmp .ensures,
+      c .enum-told2 .given .1,
+    )
 
 returns-3 : tie.Need-returns-3
 unfolding longer lastGreatest
-returns-3 c = rw (← c .before .before .before .before .norm-squared .ensures, ← c .before .before .before .norm-squared2 .ensures, ← c .before .before .total-cmp .ensures, c .enum-told3 .given .1)
+returns-3 c =
+    let norm-squared2 = c .before .before .before in
+    rw (
+      ← norm-squared2 .before .norm-squared .ensures,
+      ← norm-squared2 .norm-squared2 .ensures,
+      ← c .before .before .total-cmp .ensures,
+      c .enum-told3 .given .1,
+    )
 
 pub longer-spec : {M : Type 1} → statement M
 longer-spec =
-    tie.close (tie.spec (λ c _. search needs) (λ c _. search needs) (λ c _. search needs) (λ c. search needs)
-    (λ c. search needs) (λ c. search needs) returns returns-2 returns-3)
+    tie.close (tie.spec (λ c _. search needs) (λ c _. search needs) (λ c _. search needs)
+    (λ c. search needs) (λ c. search needs) (λ c. search needs) returns returns-2 returns-3)

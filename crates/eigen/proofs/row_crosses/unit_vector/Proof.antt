@@ -6,16 +6,27 @@ use Rattle.eigen.proofs.row_crosses.unit_vector.Tie as tie
 
 returns : tie.Need-returns
 unfolding unitVector
-returns c = rw (← c .before .before .before .before .norm .ensures, ← c .before .before .before .div .ensures, c .before .before .if1 .taken, ← c .before .is-finite .ensures, c .if2 .taken)
+returns c =
+    let norm = c .before .before .before in
+    rw (
+      ← norm .norm .ensures,
+      ← c .before .before .div .ensures,
+      ← c .before .is-finite .ensures,
+      c .if1 .taken,
+    )
 
 returns-2 : tie.Need-returns-2
 unfolding unitVector
-returns-2 c = rw (← c .before .before .before .before .norm .ensures, ← c .before .before .before .div .ensures, c .before .before .if1 .taken, ← c .before .is-finite .ensures, c .if2 .left)
-
-returns-3 : tie.Need-returns-3
-unfolding unitVector
-returns-3 c = rw (← c .before .before .norm .ensures, ← c .before .div .ensures, c .if1 .left)
+returns-2 c =
+    let norm = c .before .before .before in
+    rw (
+      ← norm .norm .ensures,
+      ← c .before .before .div .ensures,
+      ← c .before .is-finite .ensures,
+      c .if1 .left,
+    )
 
 pub unit-vector-spec : {M : Type 1} → statement M
 unit-vector-spec =
-    tie.close (tie.spec (λ c _. search needs) (λ c _. search needs) (λ c _. search needs) returns returns-2 returns-3)
+    tie.close (tie.spec (λ c _. search needs) (λ c _. search needs) (λ c _. search needs) returns
+    returns-2)

@@ -12,7 +12,7 @@ use borrow.Author.Tests.{leb-true, leb-false}
 use lib.Dec.{leb, lit<, lit≤}
 use lib.Pow.{pow-pos, shr-lt, shr-le}
 use lib.Ieee.{Float, binary64, units}
-use Rattle.ieee754_parts.specs.declared.normal.Scaled.{Scaled}
+use Rattle.ieee754_parts.specs.Types.{Scaled}
 use Rattle.ieee754_parts.specs.Leading.{Settles}
 use Rattle.ieee754_parts.specs.Rounded.{rounded, summed}
 use Rattle.ieee754_parts.specs.Value.{value}
