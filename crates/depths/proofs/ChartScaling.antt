@@ -15,7 +15,8 @@ use Rattle.ieee754_laws.proofs.Entries.{set-entries, four-entries}
 use Rattle.linalg.specs.VectorScaling.{AtVector}
 use Rattle.linalg.proofs.VectorDegrees.{null-vector}
 use Rattle.frames.specs.FrameScaling.{AtEdges}
-use Rattle.polynomial.specs.RootScaling.{AtRoots, two-at, one-at, refused-at}
+use Rattle.polynomial.specs.RootScaling.{AtRoots}
+use Rattle.polynomial.proofs.RootScaling.{withPair-scales}
 use Rattle.polynomial.proofs.QuadraticScaling.{quadratic-scales}
 use Rattle.depths.specs.DepthSlots.{noCandidates, pushIfPositive}
 use Rattle.depths.specs.Charts.{forRoots, noDivisor, firstChartDepths, firstChart, secondChartDepths, weightChart, secondChart, chart}
@@ -43,12 +44,16 @@ module _ {k : ℤ} where
       found)
       found
 
-  forRoots-scales : {r r' : Roots} {turn turn' : Candidates → Float → Traced Candidates} {c c' : Candidates} → AtRoots k (pos 0) r r'
-      → ((c c' : Candidates) (t t' : Float) → AtCandidates k c c' → At k (pos 0) t t' → Both (AtCandidates k) (turn c t) (turn' c' t')) → AtCandidates k c c' → Both (AtCandidates k) (forRoots r turn c) (forRoots r' turn' c')
+  forRoots-scales : {r r' : Roots} {turn turn' : Candidates → Float → Traced Candidates} {c c' : Candidates}
+      → AtRoots k (pos 0) r r'
+      → ((c c' : Candidates) (t t' : Float) → AtCandidates k c c' → At k (pos 0) t t' → Both (AtCandidates k) (turn c t) (turn' c' t'))
+      → AtCandidates k c c'
+      → Both (AtCandidates k) (forRoots r turn c) (forRoots r' turn' c')
   unfolding forRoots
-  forRoots-scales (two-at first second) turn found = turn _ _ _ _ found first >>= λ _ _ once. turn _ _ _ _ once second
-  forRoots-scales (one-at root) turn found = pure found
-  forRoots-scales (refused-at number) turn found = pure found
+  forRoots-scales roots turn found =
+      withPair-scales roots (pure found) (λ _ _ _ _ first second.
+      turn _ _ _ _ found first >>= λ _ _ once.
+      turn _ _ _ _ once second)
 
   noDivisor-same : {n : ℤ} {d d' : Float} → At k n d d' → noDivisor d ≡ noDivisor d'
   unfolding noDivisor

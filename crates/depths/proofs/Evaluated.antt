@@ -8,7 +8,7 @@ use Rattle.depths.specs.Cubic.{cubicCoefficients, coefficientScale, isUn
 use Rattle.depths.specs.Measure.{measure, measuredCubic}
 use Rattle.depths.specs.Condition.{foldedScale, leadingShare, leadingCubicCondition}
 use Rattle.depths.specs.Matrix.{singularMatrix}
-use Rattle.depths.specs.RatioOf.{ratioOf}
+use Rattle.depths.specs.RatioOf.{isNotReal, ratioOf}
 use Rattle.depths.specs.DepthSlots.{noCandidates, pushIfPositive}
 use Rattle.depths.specs.Charts.{forRoots, noDivisor, firstChartDepths, firstChart}
 use Rattle.depths.specs.Charts.{secondChartDepths, weightChart, secondChart, chart}
@@ -17,7 +17,7 @@ use Rattle.depths.specs.Signs.{signTurn, candidates}
 unfoldable pub evaluated : Unit {0}
 unfolding vectors-evaluated roots-evaluated edgeVectors squaredEdges cosine cosines squaredSines
     bearingFactors cubicCoefficients coefficientScale isUnusable measure measuredCubic foldedScale
-    leadingShare leadingCubicCondition singularMatrix ratioOf noCandidates pushIfPositive forRoots
+    leadingShare leadingCubicCondition singularMatrix isNotReal ratioOf noCandidates pushIfPositive forRoots
     noDivisor firstChartDepths firstChart secondChartDepths weightChart secondChart chart signTurn
     candidates
 evaluated = tt

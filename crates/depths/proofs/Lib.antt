@@ -1,5 +1,4 @@
--- What the proofs of both charts use; how many slots candidates have; and the scaling laws of the stages, in the order of a solve, which crates above use.
-mod NoRoots
+-- How many slots candidates have; the scaling laws of the stages, in the order of a solve; and the definitions that compute.
 pub mod CandidateSlots
 pub mod EdgeScaling
 pub mod CubicScaling

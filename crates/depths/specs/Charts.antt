@@ -7,17 +7,17 @@ use Rattle.ieee754.specs.Literal.{plusZero, one, two}
 use Rattle.ieee754.specs.Magnitude.{abs}
 use Rattle.ieee754.specs.Traced.{Traced, pure, _>>=_, if_then_else_, _⊗_, _⊕_, _⊖_, _⊘_, !_, ⊝_, √_}
 use Rattle.linalg.specs.Vectors.{vector}
+use Rattle.polynomial.specs.Answer.{withPair}
 use Rattle.polynomial.specs.Quadratic.{quadraticRealMonic}
 use Rattle.depths.specs.DepthSlots.{pushIfPositive}
-use Rattle.depths.specs.Types.{Vector3, SquaredEdges, Roots, Two, One, Refused, Factors, Candidates}
+use Rattle.depths.specs.Types.{Vector3, SquaredEdges, Roots, Factors, Candidates}
 
--- for tau in roots { .. }, whose body is `turn`. The quadratic answers two roots or refuses: the arm of a single root only makes the match whole.
+-- for tau in roots { .. }, whose body is `turn`
 unfoldable pub forRoots : Roots → (Candidates → Float → Traced Candidates) → Candidates → Traced Candidates
-forRoots (Two first second) turn found = do
-  once ← turn found first
-  turn once second
-forRoots (One root) turn found = pure found
-forRoots (Refused number) turn found = pure found
+forRoots roots turn found =
+    withPair roots (pure found) (λ first second. do
+      once ← turn found first
+      turn once second)
 
 -- denominator == 0.0 || !denominator.is_finite()
 unfoldable pub noDivisor : Float → Bool

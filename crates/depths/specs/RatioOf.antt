@@ -6,7 +6,7 @@ use lib.Ieee.Scale.{finite}
 use Rattle.ieee754.specs.Literal.{plusZero, sixtyFour, epsilon}
 use Rattle.ieee754.specs.Maximum.{max}
 use Rattle.ieee754.specs.Traced.{Traced, pure, _>>=_, if_then_else_, _⊗_, _⊘_, !_, ⊝_, √_}
-use Rattle.eigen.specs.Types.{Ratio, Real, NotReal}
+use Rattle.depths.specs.Types.{Ratio, Real, NotReal}
 
 -- ---- what follows a ratio: what `k` makes of it, and `none` where it is not real
 abbrev pub withRatio : {A : Type 0} → Ratio → Traced A → (Float → Traced A) → Traced A

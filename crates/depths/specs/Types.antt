@@ -6,7 +6,6 @@ pub use Rattle.frames.specs.declared.cosines.Cosines.{Cosines}
 pub use Rattle.frames.specs.declared.squared_edges.SquaredEdges.{SquaredEdges}
 pub use Rattle.frames.specs.declared.world.World.{World}
 pub use Rattle.polynomial.specs.declared.Roots.{Roots}
-pub use Rattle.polynomial.specs.declared.Roots.the-variants.{Two, One, Refused}
 pub use Rattle.depths.specs.declared.angles.SquaredSines.{SquaredSines}
 pub use Rattle.depths.specs.declared.angles.Factors.{Factors}
 pub use Rattle.depths.specs.declared.candidates.Candidates.{Candidates}

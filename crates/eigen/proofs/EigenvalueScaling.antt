@@ -1,23 +1,19 @@
 -- The eigenvalues are at degree 2: the quadratic of which they are roots has its coefficients at 2
--- and 4. Their ratio is equal in the two runs. Assumes nothing.
-use mathlib.Core.Path.{_≡_, refl, ap, ap₂}
-use mathlib.Core.Bool.{Bool, not, _||_}
+-- and 4. Assumes nothing.
+use mathlib.Core.Path.{ap₂}
+use mathlib.Core.Bool.{_||_}
 use lib.IntN.{ℤ, pos}
 use lib.Ieee.{Float}
-use Rattle.ieee754.specs.Literal.{sixtyFour, epsilon}
 use Rattle.ieee754.specs.Traced.{Traced}
 use Rattle.ieee754.specs.Scaling.{Both, At, Scales}
-use Rattle.ieee754_laws.proofs.Degrees.{same, null, at-zero, !_, ⊝_, √_, _⊗_, _⊘_, _⊕_, _⊖_, pure, _>>=_}
-use Rattle.ieee754_laws.proofs.Degrees.{if_then_else_, choose, abs-at, max-at, lt-same, eq-same}
-use Rattle.ieee754_laws.proofs.Degrees.{finite-same}
+use Rattle.ieee754_laws.proofs.Degrees.{null, !_, ⊝_, _⊗_, _⊕_, _⊖_, pure, _>>=_, choose, abs-at, lt-same, eq-same}
 use Rattle.linalg.specs.VectorScaling.{AtMatrix}
 use Rattle.linalg.proofs.MatrixDegrees.{trace-scales}
 use Rattle.polynomial.proofs.RootScaling.{withPair-scales}
 use Rattle.polynomial.proofs.QuadraticScaling.{quadratic-scales}
 use Rattle.eigen.specs.EigenPair.{withEigenvalues, pairCoefficient, nonzeroPair, byMagnitude}
 use Rattle.eigen.specs.EigenPair.{eigenvaluePair}
-use Rattle.eigen.specs.RatioOf.{withRatio, isNotReal, ratioOf}
-use Rattle.eigen.specs.Types.{Matrix3, Eigenvalues, Pair, NoPair, Ratio, Real, NotReal}
+use Rattle.eigen.specs.Types.{Matrix3, Eigenvalues, Pair, NoPair}
 
 pub data AtEigenvalues (k : ℤ) : Eigenvalues → Eigenvalues → Type 0 where
   pair-at : {x x' y y' : Float}
@@ -26,8 +22,7 @@ pub data AtEigenvalues (k : ℤ) : Eigenvalues → Eigenvalues → Type 0 where
       → AtEigenvalues k (Pair x y) (Pair x' y')
   no-pair : AtEigenvalues k NoPair NoPair
 
--- what follows the eigenvalues, from those of degree 2, and what follows a ratio that is the same
--- in the two runs, in any relation of them
+-- what follows the eigenvalues, from those of degree 2, in any relation of the two runs
 module _ {A : Type 0} {R : A → A → Type 0} {none none' : Traced A} where
   pub withEigenvalues-scales : {k : ℤ} {e e' : Eigenvalues} {f f' : Float → Float → Traced A}
       → AtEigenvalues k e e'
@@ -36,13 +31,6 @@ module _ {A : Type 0} {R : A → A → Type 0} {none none' : Traced A} where
       → Both R (withEigenvalues e none f) (withEigenvalues e' none' f')
   withEigenvalues-scales (pair-at {x} {x'} {y} {y'} h g) none next = next x x' y y' h g
   withEigenvalues-scales no-pair none next = none
-
-  pub withRatio-scales : {f f' : Float → Traced A} (ratio : Ratio)
-      → Both R none none'
-      → ((x : Float) → Both R (f x) (f' x))
-      → Both R (withRatio ratio none f) (withRatio ratio none' f')
-  withRatio-scales (Real x) none next = next x
-  withRatio-scales NotReal none next = none
 
 module _ {k : ℤ} where
   nonzeroPair-at : {x x' y y' : Float}
@@ -74,27 +62,3 @@ module _ {k : ℤ} where
         pairCoefficient-scales >>= λ _ _ pairTerm.
         quadratic-scales traceCoefficient pairTerm >>= λ _ _ roots.
         withPair-scales roots (pure no-pair) (λ _ _ _ _ first second. pure (byMagnitude-at first second))
-
-  -- ---- the ratio
-  isNotReal-same : {x x' : Float}
-      → At k (pos 0) x x'
-      → Both {A = Bool} _≡_ (isNotReal x) (isNotReal x')
-  unfolding isNotReal
-  isNotReal-same ratioSquared =
-      if ap not (finite-same ratioSquared) then pure refl
-      else (
-      ⊝ ! same epsilon ⊗ ! same sixtyFour >>= λ _ _ limit.
-      pure (lt-same ratioSquared limit))
-
-  pub ratioOf-same : {x x' y y' : Float}
-      → At k (pos 2) x x'
-      → At k (pos 2) y y'
-      → Both {A = Ratio} _≡_ (ratioOf x y) (ratioOf x' y')
-  unfolding ratioOf
-  ratioOf-same first second =
-      ⊝ ! second ⊘ ! first >>= λ _ _ ratioSquared.
-      isNotReal-same ratioSquared >>= λ _ _ notReal.
-      if notReal then pure (refl {a = NotReal})
-      else (
-      √_ {n = pos 0} (! max-at ratioSquared null) >>= λ _ _ ratio.
-      pure (ap Real (at-zero ratio)))

@@ -1,6 +1,5 @@
--- Every definition that an eigensystem and its ratio are computed with, opened at once: under
--- `unfolding evaluated` they compute on concrete numbers. Assumes nothing.
-use Rattle.ieee754.specs.TotalOrder.{totalOrder, totalCmp}
+-- Every definition that an eigensystem is computed with, opened at once: under
+-- `unfolding evaluated` it computes on concrete numbers. Assumes nothing.
 use Rattle.linalg.proofs.Evaluated.{evaluated as linalg-evaluated}
 use Rattle.polynomial.proofs.Evaluated.{evaluated as polynomial-evaluated}
 use Rattle.eigen.specs.RowCrosses.{lastGreatest, longer, unitVector}
@@ -11,11 +10,10 @@ use Rattle.eigen.specs.EigenvectorOf.{precompute, eigenDenominator, deno
 use Rattle.eigen.specs.EigenvectorOf.{ifFinite}
 use Rattle.eigen.specs.EigenvectorOf.{eigenvectorByDivision, eigenvectorOf}
 use Rattle.eigen.specs.KnownZero.{systemOfPair, eigWithKnownZero}
-use Rattle.eigen.specs.RatioOf.{isNotReal, ratioOf}
 
 unfoldable pub evaluated : Unit {0}
-unfolding linalg-evaluated polynomial-evaluated totalOrder totalCmp lastGreatest longer unitVector
+unfolding linalg-evaluated polynomial-evaluated lastGreatest longer unitVector
     eigenvectorFromRowCrosses zeroDirection zeroVector pairCoefficient nonzeroPair byMagnitude
     eigenvaluePair precompute eigenDenominator denominatorScale ifFinite eigenvectorByDivision
-    eigenvectorOf systemOfPair eigWithKnownZero isNotReal ratioOf
+    eigenvectorOf systemOfPair eigWithKnownZero
 evaluated = tt

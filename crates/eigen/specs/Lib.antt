@@ -1,5 +1,5 @@
 -- The definitions that the contracts of this crate cite: what eig_with_known_zero of lambdatwist.rs
--- computes, line by line, and the ratio made of its eigenvalues.
+-- computes, line by line.
 pub mod Types
 pub mod RowCrosses
 pub mod ZeroVector

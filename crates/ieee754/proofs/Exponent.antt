@@ -15,7 +15,7 @@ use Rattle.ieee754.proofs.RootLaws.{roundRoot-at, nearest-ge, nearest-l
 use Rattle.ieee754_roots.specs.Nearest.{IsNearest}
 use Rattle.ieee754_roots.proofs.Moved.{moved}
 use Rattle.ieee754_parts.specs.Normal.{IsNormal}
-use Rattle.ieee754_parts.specs.declared.normal.Scaled.{Scaled}
+use Rattle.ieee754.specs.Types.{Scaled}
 use Rattle.ieee754_parts.proofs.Reading.{times}
 
 -- a significand moved up, times 2 ^ (52 * (p - 1)), has as many digits as makes 53 digits of its

@@ -1,5 +1,6 @@
 -- The definitions that the contracts of this crate cite, in reading order; then those that the
 -- formulas above and the scaling rule are stated with, Traced and Scaling.
+pub mod Types
 pub mod Literal
 pub mod Magnitude
 pub mod CopySign

@@ -3,8 +3,7 @@
 use mathlib.Core.Bool.{Bool, not, _&&_, _||_, cond}
 use lib.Ieee.{Float, isNan, lt, eq}
 use Rattle.ieee754.specs.CopySign.{negative}
-use Rattle.ieee754.specs.declared.total_cmp.Order.{Order}
-use Rattle.ieee754.specs.declared.total_cmp.Order.the-variants.{Less, Equal, Greater}
+use Rattle.ieee754.specs.Types.{Order, Less, Equal, Greater}
 
 -- x is at or below y: it is less, or it is equal and is not plus zero where y is minus zero
 unfoldable pub totalOrder : Float → Float → Bool

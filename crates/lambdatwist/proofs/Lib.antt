@@ -1,5 +1,4 @@
 -- What the proofs of several functions use; of an answer, that its poses are kept ones and its slots four; what is stated of the choice of permutation; and the scaling laws of the stages, in the order of a solve, up to `solve`.
-mod NoRoot
 mod PoseTurns
 pub mod KeptPoses
 pub mod AnswerSlots
@@ -8,3 +7,4 @@ pub mod NanCondition
 pub mod PoseScaling
 pub mod PermutationScaling
 pub mod SolveScaling
+pub mod Evaluated

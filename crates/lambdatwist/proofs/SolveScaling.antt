@@ -11,25 +11,25 @@ use Rattle.ieee754.specs.Traced as traced
 use Rattle.ieee754.specs.Traced.{Traced}
 use Rattle.ieee754.specs.Scaling.{Both}
 use Rattle.ieee754_laws.proofs.Degrees.{same, at-zero, !_, _⊗_, _⊘_, pure, _>>=_, _>>≡_, if_then_else_, choose, equal}
-use Rattle.linalg.specs.VectorScaling.{AtVector, AtRows, AtMatrix}
+use Rattle.linalg.specs.VectorScaling.{AtMatrix}
 use Rattle.linalg.specs.Vectors.{allFinite}
 use Rattle.linalg.proofs.VectorDegrees.{allFinite-same}
-use Rattle.polynomial.specs.RootScaling.{AtRoots, two-at, one-at, refused-at}
+use Rattle.polynomial.proofs.RootScaling.{withRoot-scales}
 use Rattle.polynomial.proofs.CubicScaling.{cubic-scales}
 use Rattle.p3p_common.specs.Input.{inputFinite}
 use Rattle.frames.specs.FrameScaling.{AtWorld, AtPose}
-use Rattle.p3p_common.specs.PoseScaling.{AtInput, AtBasis, inverse-at, singular-at, AtSolutions}
-use Rattle.p3p_common.proofs.BasisScaling.{worldBasisInverse-scales}
+use Rattle.p3p_common.specs.PoseScaling.{AtInput, AtSolutions}
+use Rattle.p3p_common.proofs.BasisScaling.{withInverse-scales, worldBasisInverse-scales}
 use Rattle.p3p_common.proofs.SlotScaling.{empty-scales}
-use Rattle.lambdatwist.specs.Solve.{answered, refused, ifKept, orNoRoot, orNoSystem, orNoRatio, orSingular, solveCandidates, solveRoot, solveCubic, orderedOr, bestOr, solveOrdered, solve}
-use Rattle.lambdatwist.specs.Types.{Vector3, Matrix3, Roots, World, Bearings, P3pInput, Basis, Solutions, Factors, Measured, Coefficients, Candidates, Eigensystem, Ratio, Real, NotReal, Answer}
+use Rattle.lambdatwist.specs.Solve.{answered, refused, ifKept, stopped, solveCandidates, solveRoot, solveCubic, orderedOr, bestOr, solveOrdered, solve}
+use Rattle.lambdatwist.specs.Types.{Matrix3, World, Bearings, P3pInput, Solutions, Factors, Measured, Coefficients, Candidates, Answer}
 use Rattle.depths.proofs.CubicScaling.{AtCoefficients, isUnusable-same}
 use Rattle.depths.proofs.MeasureScaling.{AtMeasured, measure-scales, measuredCubic-scales}
 use Rattle.depths.specs.Matrix.{singularMatrix}
 use Rattle.depths.specs.Signs.{candidates}
 use Rattle.depths.proofs.MatrixScaling.{singularMatrix-scales}
-use Rattle.depths.proofs.RatioScaling.{ratioOf-same}
-use Rattle.eigen.proofs.SystemScaling.{AtSystem, found-at, not-found, eigWithKnownZero-scales}
+use Rattle.depths.proofs.RatioScaling.{withRatio-scales, ratioOf-same}
+use Rattle.eigen.proofs.SystemScaling.{withSystem-scales, eigWithKnownZero-scales}
 use Rattle.depths.proofs.ChartScaling.{AtCandidates}
 use Rattle.depths.proofs.SignScaling.{candidates-scales}
 use Rattle.lambdatwist.proofs.PoseScaling.{poses-scales}
@@ -55,29 +55,8 @@ module _ {k : ℤ} where
   unfolding ifKept
   ifKept-at s = choose (AtAnswer k) (ap (λ (n : ℕ). eqb n 0) (s .count)) (refused-alike 3) (answered-at 0 s)
 
-  -- ---- each step that can stop
-  orNoRoot-scales : {r r' : Roots} {f f' : Float → Traced Answer} → AtRoots k (pos 0) r r' → ((g : Float) → Both (AtAnswer k) (f g) (f' g)) → Both (AtAnswer k) (orNoRoot r f) (orNoRoot r' f')
-  unfolding orNoRoot
-  orNoRoot-scales (two-at x y) next = pure (refused-alike 3)
-  orNoRoot-scales {f = f} {f' = f'} (one-at {x} root) next = subst (λ (y : Float). Both (AtAnswer k) (f x) (f' y)) (at-zero root) (next x)
-  orNoRoot-scales (refused-at number) next = pure (refused-alike 3)
-
-  orNoSystem-scales : {s s' : Eigensystem} {f f' : Matrix3 → Vector3 → Traced Answer} → AtSystem k s s'
-      → ((m : Matrix3) (v v' : Vector3) → AtVector k (pos 2) v v' → Both (AtAnswer k) (f m v) (f' m v')) → Both (AtAnswer k) (orNoSystem s f) (orNoSystem s' f')
-  unfolding orNoSystem
-  orNoSystem-scales (found-at m {v} {v'} h) next = next m v v' h
-  orNoSystem-scales not-found next = pure (refused-alike 3)
-
-  orNoRatio-scales : (r : Ratio) {f f' : Float → Traced Answer} → ((x : Float) → Both (AtAnswer k) (f x) (f' x)) → Both (AtAnswer k) (orNoRatio r f) (orNoRatio r f')
-  unfolding orNoRatio
-  orNoRatio-scales (Real x) next = next x
-  orNoRatio-scales NotReal next = pure (refused-alike 3)
-
-  orSingular-scales : {b b' : Basis} {f f' : Matrix3 → Traced Answer} → AtBasis k b b'
-      → ((m m' : Matrix3) → AtRows k (negsuc 0) (negsuc 0) (negsuc 1) m m' → Both (AtAnswer k) (f m) (f' m')) → Both (AtAnswer k) (orSingular b f) (orSingular b' f')
-  unfolding orSingular
-  orSingular-scales (inverse-at {m} {m'} h) next = next m m' h
-  orSingular-scales singular-at next = pure (refused-alike 3)
+  stops : Both (AtAnswer k) stopped stopped
+  stops = pure (refused-alike 3)
 
   -- ---- the stages of the ordered solve
   module _ {input input' : P3pInput} (I : AtInput k input input') where
@@ -88,7 +67,7 @@ module _ {k : ℤ} where
       unfolding solveCandidates
       solveCandidates-scales found =
           worldBasisInverse-scales (M .d01) (M .d02) >>= λ _ _ basis.
-          orSingular-scales basis (λ _ _ worldInverse.
+          withInverse-scales basis stops (λ _ _ worldInverse.
           poses-scales I M worldInverse found >>= λ _ _ solutions.
           pure (ifKept-at solutions))
 
@@ -112,9 +91,9 @@ module _ {k : ℤ} where
       solveRoot-scales g =
           matrix-scales g >>= λ _ _ matrix.
           eigWithKnownZero-scales matrix >>= λ _ _ system.
-          orNoSystem-scales system (λ eigenvectors _ _ eigenvalues.
+          withSystem-scales system stops (λ eigenvectors _ _ eigenvalues.
           ratioOf-same (eigenvalues .x) (eigenvalues .y) >>≡ λ ratio.
-          orNoRatio-scales ratio (λ real.
+          withRatio-scales ratio stops (λ real.
           found-scales eigenvectors real >>= λ _ _ found.
           solveCandidates-scales found))
 
@@ -127,7 +106,7 @@ module _ {k : ℤ} where
           ! (c .cubic1) ⊘ ! (c .cubic3) >>= λ _ _ c1.
           ! (c .cubic0) ⊘ ! (c .cubic3) >>= λ _ _ c0.
           cubic-scales c2 c1 c0 >>= λ _ _ root.
-          orNoRoot-scales root solveRoot-scales
+          withRoot-scales root stops (λ g g' same. subst (λ (h : Float). Both (AtAnswer k) (solveRoot input m g) (solveRoot input' m' h)) (at-zero same) (solveRoot-scales g))
 
     orderedOr-scales : {world world' : World} (bearings : Bearings)
         → AtWorld k world world'

@@ -6,19 +6,20 @@ use lib.Dec.{eqb}
 use lib.Ieee.{Float, le}
 use Rattle.ieee754.specs.Literal.{sixtyFour, epsilon}
 use Rattle.ieee754.specs.Traced.{Traced, pure, _>>=_, if_then_else_, _⊗_, _⊘_, !_}
+use Rattle.polynomial.specs.Answer.{withRoot}
 use Rattle.polynomial.specs.PolishedRoot.{polishedCubicRoot}
 use Rattle.p3p_common.specs.Input.{inputFinite}
 use Rattle.p3p_common.specs.Slots.{empty}
-use Rattle.p3p_common.specs.WorldBasisInverse.{worldBasisInverse}
+use Rattle.p3p_common.specs.WorldBasisInverse.{withInverse, worldBasisInverse}
 use Rattle.depths.specs.Measure.{measure, measuredCubic}
 use Rattle.depths.specs.Cubic.{isUnusable}
 use Rattle.depths.specs.Matrix.{singularMatrix}
-use Rattle.depths.specs.RatioOf.{ratioOf}
+use Rattle.depths.specs.RatioOf.{withRatio, ratioOf}
 use Rattle.depths.specs.Signs.{candidates}
-use Rattle.eigen.specs.KnownZero.{eigWithKnownZero}
+use Rattle.eigen.specs.KnownZero.{withSystem, eigWithKnownZero}
 use Rattle.lambdatwist.specs.Poses.{poses}
 use Rattle.lambdatwist.specs.Permutation.{bestPermutation}
-use Rattle.lambdatwist.specs.Types.{Vector3, Matrix3, Roots, Two, One, Refused, World, Bearings, P3pInput, Basis, Inverse, Singular, Solutions, Measured, Coefficients, Candidates, Eigensystem, Found, NotFound, Ratio, Real, NotReal, Answer}
+use Rattle.lambdatwist.specs.Types.{World, Bearings, P3pInput, Solutions, Measured, Coefficients, Candidates, Answer}
 
 -- ---- an answer: number 0 with the poses that were kept, or a refusal's number with count 0 and plus zeros
 unfoldable pub answered : ℕ → Solutions → Answer
@@ -31,24 +32,9 @@ refused number = answered number empty
 unfoldable pub ifKept : Solutions → Answer
 ifKept solutions = if eqb (solutions .count) 0 then refused 3 else answered 0 solutions
 
--- ---- each step that can stop, and what follows it: its stop ends the solve with 3
--- the cubic answers one root or refuses: the arm of two only makes the match whole
-unfoldable pub orNoRoot : Roots → (Float → Traced Answer) → Traced Answer
-orNoRoot (One root) next = next root
-orNoRoot (Two first second) next = pure (refused 3)
-orNoRoot (Refused number) next = pure (refused 3)
-
-unfoldable pub orNoSystem : Eigensystem → (Matrix3 → Vector3 → Traced Answer) → Traced Answer
-orNoSystem (Found eigenvectors eigenvalues) next = next eigenvectors eigenvalues
-orNoSystem NotFound next = pure (refused 3)
-
-unfoldable pub orNoRatio : Ratio → (Float → Traced Answer) → Traced Answer
-orNoRatio (Real ratio) next = next ratio
-orNoRatio NotReal next = pure (refused 3)
-
-unfoldable pub orSingular : Basis → (Matrix3 → Traced Answer) → Traced Answer
-orSingular (Inverse inverse) next = next inverse
-orSingular Singular next = pure (refused 3)
+-- a step that stops ends the solve with 3
+abbrev pub stopped : Traced Answer
+stopped = pure (refused 3)
 
 -- ---- the stages of `solve_ordered`, from the last to the first
 
@@ -56,7 +42,7 @@ orSingular Singular next = pure (refused 3)
 unfoldable pub solveCandidates : P3pInput → Measured → Candidates → Traced Answer
 solveCandidates input measured found = do
   basis ← worldBasisInverse (measured .d01) (measured .d02)
-  orSingular basis (λ worldInverse. do
+  withInverse basis stopped (λ worldInverse. do
     solutions ← poses input measured worldInverse found
     pure (ifKept solutions))
 
@@ -65,9 +51,9 @@ unfoldable pub solveRoot : P3pInput → Measured → Float → Traced Answer
 solveRoot input measured g = do
   matrix ← singularMatrix (measured .squares) (measured .factors) g
   system ← eigWithKnownZero matrix
-  orNoSystem system (λ eigenvectors eigenvalues. do
+  withSystem system stopped (λ eigenvectors eigenvalues. do
     ratio ← ratioOf (eigenvalues .x) (eigenvalues .y)
-    orNoRatio ratio (λ real. do
+    withRatio ratio stopped (λ real. do
       found ← candidates (measured .squares) (measured .factors) eigenvectors real
       solveCandidates input measured found))
 
@@ -78,7 +64,7 @@ solveCubic input measured c = do
   c1 ← ! (c .cubic1) ⊘ ! (c .cubic3)
   c0 ← ! (c .cubic0) ⊘ ! (c .cubic3)
   root ← polishedCubicRoot c2 c1 c0
-  orNoRoot root (solveRoot input measured)
+  withRoot root stopped (solveRoot input measured)
 
 -- the ordered solve of the points and bearings in some order, with what is done where that ordering is unusable
 unfoldable pub orderedOr : (P3pInput → Traced Answer) → P3pInput → World → Bearings → Traced Answer

@@ -4,20 +4,12 @@ pub use Rattle.linalg.specs.declared.vector3.Vector3.{Vector3}
 pub use Rattle.frames.specs.declared.bearings.Bearings.{Bearings}
 pub use Rattle.frames.specs.declared.cosines.Cosines.{Cosines}
 pub use Rattle.frames.specs.declared.world.World.{World}
-pub use Rattle.polynomial.specs.declared.Roots.{Roots}
-pub use Rattle.polynomial.specs.declared.Roots.the-variants.{Two, One, Refused}
 pub use Rattle.p3p_common.specs.declared.input.P3pInput.{P3pInput}
 pub use Rattle.p3p_common.specs.declared.refine_depths.Refined.{Refined}
 pub use Rattle.p3p_common.specs.declared.solutions.Solutions.{Solutions}
-pub use Rattle.p3p_common.specs.declared.world_basis_inverse.Basis.{Basis}
-pub use Rattle.p3p_common.specs.declared.world_basis_inverse.Basis.the-variants.{Inverse, Singular}
-pub use Rattle.eigen.specs.declared.known_zero.Eigensystem.{Eigensystem}
-pub use Rattle.eigen.specs.declared.known_zero.Eigensystem.the-variants.{Found, NotFound}
 pub use Rattle.depths.specs.declared.angles.Factors.{Factors}
 pub use Rattle.depths.specs.declared.candidates.Candidates.{Candidates}
 pub use Rattle.depths.specs.declared.cubic.Coefficients.{Coefficients}
 pub use Rattle.depths.specs.declared.measured.Measured.{Measured}
-pub use Rattle.depths.specs.declared.ratio.Ratio.{Ratio}
-pub use Rattle.depths.specs.declared.ratio.Ratio.the-variants.{Real, NotReal}
 pub use Rattle.lambdatwist.specs.declared.permutation.Conditioned.{Conditioned}
 pub use Rattle.lambdatwist.specs.declared.solve.Answer.{Answer}

@@ -3,6 +3,5 @@ pub mod OneAnswer
 mod TimesPower
 mod FiniteTranslation
 pub mod ScalingRule
-mod Evaluation
 pub mod ScalingExamples
 pub mod MarkedCases

@@ -5,7 +5,7 @@ use Rattle.polynomial.specs.Cases.{every, rootCases}
 use Rattle.polynomial.proofs.Every.{every-append, every-map}
 use Rattle.polynomial.proofs.RootCases.{root-cases}
 use Rattle.p3p_common.specs.Cases.{hasBits, refinedTo, poseCaseHolds, poseCases}
-use Rattle.theorems.proofs.Evaluation.{evaluated}
+use Rattle.lambdatwist.proofs.Evaluated.{evaluated}
 use Rattle.theorems.specs.Cases.{roots, pose, refusedWith, markedCaseHolds, solveCases, markedCases}
 
 -- no root finder is opened here

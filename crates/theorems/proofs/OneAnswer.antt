@@ -7,14 +7,22 @@ use lib.Dec.{T, T-not, eqb}
 use lib.Ieee.{Float, binary64, mul, le}
 use lib.Ieee.Fits.{and-i, eq→eqb}
 use Rattle.ieee754.specs.Literal.{sixtyFour, epsilon}
-use Rattle.ieee754.specs.Traced.{Traced, pure}
+use Rattle.ieee754.specs.Traced.{Traced, pure, _>>=_, _⊘_, !_}
 use Rattle.ieee754.proofs.Tests.{or-left, or-right, neither, not-both-left, not-both-right, either-way}
 use Rattle.polynomial.specs.declared.Roots.the-variants as roots
+use Rattle.polynomial.specs.Answer.{withRoot}
+use Rattle.polynomial.specs.PolishedRoot.{polishedCubicRoot}
 use Rattle.p3p_common.specs.Input.{inputFinite}
+use Rattle.p3p_common.specs.WorldBasisInverse.{withInverse, worldBasisInverse}
+use Rattle.eigen.specs.KnownZero.{withSystem, eigWithKnownZero}
+use Rattle.depths.specs.RatioOf.{withRatio, ratioOf}
+use Rattle.depths.specs.Matrix.{singularMatrix}
+use Rattle.depths.specs.Signs.{candidates}
+use Rattle.lambdatwist.specs.Poses.{poses}
 use Rattle.p3p_common.specs.Slots.{empty}
 use Rattle.p3p_common.proofs.SlotLaws.{Kept}
 use Rattle.lambdatwist.specs.Permutation.{bestPermutation}
-use Rattle.lambdatwist.specs.Solve.{answered, refused, ifKept, orNoRoot, orNoSystem, orNoRatio, orSingular, solveCandidates, solveRoot, solveCubic, orderedOr, bestOr, solveOrdered, solve}
+use Rattle.lambdatwist.specs.Solve.{answered, refused, ifKept, stopped, solveCandidates, solveRoot, solveCubic, orderedOr, bestOr, solveOrdered, solve}
 use Rattle.theorems.specs.OneAnswer.{Accepted, Refused, orderingUnusable, noOrdering, OneAnswer, refused-1, refused-2, refused-3, accepted}
 use Rattle.theorems.specs.Types.{Vector3, Matrix3, Roots, World, Bearings, P3pInput, Basis, Inverse, Singular, Solutions, Eigensystem, Found, NotFound, Ratio, Real, NotReal, Coefficients, Candidates, Answer, Measured}
 use Rattle.lambdatwist.proofs.KeptPoses.{poses-kept}
@@ -33,39 +41,48 @@ module _ (P : Answer → Type 0) (three : P (refused 3)) (found : (a : Answer) �
   abbrev Gives : Traced Answer → Type 0
   Gives m = P (m .value)
 
-  orNoRoot-gives : (r : Roots) (f : Float → Traced Answer) → ((g : Float) → Gives (f g)) → Gives (orNoRoot r f)
-  unfolding orNoRoot
-  orNoRoot-gives (roots.One g) f h = h g
-  orNoRoot-gives (roots.Two x y) f h = three
-  orNoRoot-gives (roots.Refused n) f h = three
+  withRoot-gives : (r : Roots) (f : Float → Traced Answer) → ((g : Float) → Gives (f g)) → Gives (withRoot r stopped f)
+  withRoot-gives (roots.One g) f h = h g
+  withRoot-gives (roots.Two x y) f h = three
+  withRoot-gives (roots.Refused n) f h = three
 
-  orNoSystem-gives : (s : Eigensystem) (f : Matrix3 → Vector3 → Traced Answer) → ((m : Matrix3) (v : Vector3) → Gives (f m v)) → Gives (orNoSystem s f)
-  unfolding orNoSystem
-  orNoSystem-gives (Found m v) f h = h m v
-  orNoSystem-gives NotFound f h = three
+  withSystem-gives : (s : Eigensystem) (f : Matrix3 → Vector3 → Traced Answer)
+      → ((m : Matrix3) (v : Vector3) → Gives (f m v))
+      → Gives (withSystem s stopped f)
+  withSystem-gives (Found m v) f h = h m v
+  withSystem-gives NotFound f h = three
 
-  orNoRatio-gives : (r : Ratio) (f : Float → Traced Answer) → ((x : Float) → Gives (f x)) → Gives (orNoRatio r f)
-  unfolding orNoRatio
-  orNoRatio-gives (Real x) f h = h x
-  orNoRatio-gives NotReal f h = three
+  withRatio-gives : (r : Ratio) (f : Float → Traced Answer) → ((x : Float) → Gives (f x)) → Gives (withRatio r stopped f)
+  withRatio-gives (Real x) f h = h x
+  withRatio-gives NotReal f h = three
 
-  orSingular-gives : (b : Basis) (f : Matrix3 → Traced Answer) → ((m : Matrix3) → Gives (f m)) → Gives (orSingular b f)
-  unfolding orSingular
-  orSingular-gives (Inverse m) f h = h m
-  orSingular-gives Singular f h = three
+  withInverse-gives : (b : Basis) (f : Matrix3 → Traced Answer) → ((m : Matrix3) → Gives (f m)) → Gives (withInverse b stopped f)
+  withInverse-gives (Inverse m) f h = h m
+  withInverse-gives Singular f h = three
 
   module _ (input : P3pInput) (measured : Measured) where
     solveCandidates-gives : (c : Candidates) → Gives (solveCandidates input measured c)
     unfolding solveCandidates
-    solveCandidates-gives c = orSingular-gives _ _ (λ m. ifKept-so P three found _ (poses-kept input measured m c))
+    solveCandidates-gives c =
+        withInverse-gives (worldBasisInverse (measured .d01) (measured .d02) .value)
+        (λ (m : Matrix3). poses input measured m c >>= λ solutions. pure (ifKept solutions))
+        (λ m. ifKept-so P three found _ (poses-kept input measured m c))
 
     solveRoot-gives : (g : Float) → Gives (solveRoot input measured g)
     unfolding solveRoot
-    solveRoot-gives g = orNoSystem-gives _ _ (λ m v. orNoRatio-gives _ _ (λ x. solveCandidates-gives _))
+    solveRoot-gives g =
+        let matrix = singularMatrix (measured .squares) (measured .factors) g .value in
+        let after : Matrix3 → Float → Traced Answer
+        = λ e x. candidates (measured .squares) (measured .factors) e x >>= λ found. solveCandidates input measured found in
+        withSystem-gives (eigWithKnownZero matrix .value)
+        (λ (e : Matrix3) (v : Vector3). ratioOf (v .x) (v .y) >>= λ ratio. withRatio ratio stopped (after e))
+        (λ e v. withRatio-gives (ratioOf (v .x) (v .y) .value) (after e) (λ x. solveCandidates-gives _))
 
     solveCubic-gives : (c : Coefficients) → Gives (solveCubic input measured c)
     unfolding solveCubic
-    solveCubic-gives c = orNoRoot-gives _ _ solveRoot-gives
+    solveCubic-gives c =
+        let over : Float → Float = λ x. (! x ⊘ ! (c .cubic3)) .value in
+        withRoot-gives (polishedCubicRoot (over (c .cubic2)) (over (c .cubic1)) (over (c .cubic0)) .value) (solveRoot input measured) solveRoot-gives
 
 -- ---- question 2: the given ordering, or else the best of the others
 module _ (input : P3pInput) (finite : T (inputFinite input)) where

@@ -8,7 +8,7 @@ use Rattle.theorems.specs.ScalingRule.{TimesWorld, DoubleWorld, Alike, S
 use lib.Ieee.{fits, ofBits, size}
 use lib.Ieee.Fits.{and-l, and-r}
 use Rattle.lambdatwist.specs.Solve.{solve}
-use Rattle.theorems.proofs.Evaluation.{evaluated}
+use Rattle.lambdatwist.proofs.Evaluated.{evaluated}
 use Rattle.theorems.proofs.ScalingRule.{scaling-rule}
 use Rattle.theorems.specs.Plates.{plateInMetres, plateInCounts, plateTooSmall, plateBearings}
 

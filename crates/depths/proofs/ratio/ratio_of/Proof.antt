@@ -1,29 +1,42 @@
 -- `depths::ratio::ratio_of` meets its contract. Assumes nothing.
 use borrow.Author.Needs.{needs}
-use Rattle.depths.specs.RatioOf.{ratioOf}
+use mathlib.Core.Path.{_≡_, refl}
+use mathlib.Core.Bool.{Bool, true, false, not, _||_}
+use lib.Ieee.{Float, lt}
+use lib.Ieee.Scale.{finite}
+use Rattle.ieee754.specs.Literal.{sixtyFour, epsilon}
+use Rattle.ieee754.specs.Traced.{Traced, pure, if_then_else_, _⊗_, !_, ⊝_}
+use Rattle.depths.specs.RatioOf.{isNotReal, ratioOf}
 use Rattle.depths.proofs.ratio.ratio_of.Statement.{statement}
 use Rattle.depths.proofs.ratio.ratio_of.Tie as tie
 
+-- a test that ends at its left side where that holds, by its value
+or-value : (a : Bool) (m : Traced Bool) → (if a then pure true else m) .value ≡ a || m .value
+or-value true m = refl
+or-value false m = refl
+
+not-real-value : (x : Float)
+    → isNotReal x .value ≡ not (finite x) || lt x ((⊝ ! epsilon ⊗ ! sixtyFour) .value)
+unfolding isNotReal
+not-real-value x = or-value (not (finite x)) _
+
 returns : tie.Need-returns
 unfolding ratioOf
-returns c = rw (← c .before .is-finite .ensures, c .if1 .taken)
+returns c = rw (not-real-value _, ← c .before .is-finite .ensures, c .if1 .taken)
 
 returns-2 : tie.Need-returns-2
 unfolding ratioOf
-returns-2 c = rw (← c .before .before .is-finite .ensures, c .before .if1 .left, c .if2 .taken)
-
-returns-3 : tie.Need-returns-3
-unfolding ratioOf
-returns-3 c =
-    let above = c .before .before in
+returns-2 c =
+    let is-finite = c .before .before .before in
     rw (
-      ← above .before .before .is-finite .ensures,
-      above .before .if1 .left,
-      above .if2 .left,
+      not-real-value _,
+      ← is-finite .is-finite .ensures,
+      c .before .before .if1 .left,
       ← c .before .max .ensures,
       ← c .sqrt .ensures,
     )
 
 pub ratio-of-spec : {M : Type 1} → statement M
 ratio-of-spec =
-    tie.close (tie.spec (λ c _. search needs) returns returns-2 (λ c _. search needs) (λ c _. search needs) returns-3)
+    tie.close (tie.spec (λ c _. search needs) returns (λ c _. search needs) (λ c _. search needs)
+    returns-2)

@@ -1,12 +1,12 @@
 -- `lambdatwist::solve::solve_candidates` meets its contract. Assumes nothing.
 use borrow.Author.Needs.{needs}
 use Rattle.lambdatwist.proofs.KeptPoses.{poses-kept}
-use Rattle.lambdatwist.specs.Solve.{solveCandidates, orSingular}
+use Rattle.lambdatwist.specs.Solve.{solveCandidates}
 use Rattle.lambdatwist.proofs.solve.solve_candidates.Statement.{statement}
 use Rattle.lambdatwist.proofs.solve.solve_candidates.Tie as tie
 
 returns : tie.Need-returns
-unfolding solveCandidates orSingular
+unfolding solveCandidates
 returns c =
     let told = c .before in
     rw (← told .before .before .world-basis-inverse .ensures, told .enum-told .given .1, ← c .refused .ensures)
@@ -15,7 +15,7 @@ if-kept-requires : tie.Need-if-kept-requires
 if-kept-requires c κs = rw (c .poses .ensures) (poses-kept _ _ _ _ .few)
 
 returns-2 : tie.Need-returns-2
-unfolding solveCandidates orSingular
+unfolding solveCandidates
 returns-2 c =
     let told = c .before .before .before in
     rw (

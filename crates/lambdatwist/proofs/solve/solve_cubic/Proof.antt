@@ -1,18 +1,18 @@
 -- `lambdatwist::solve::solve_cubic` meets its contract. Assumes nothing.
 use borrow.Author.Needs.{needs}
-use Rattle.lambdatwist.proofs.NoRoot.{no-root}
-use Rattle.lambdatwist.specs.Solve.{solveCubic, orNoRoot}
+use Rattle.polynomial.proofs.RootTags.{no-root}
+use Rattle.lambdatwist.specs.Solve.{stopped, solveCubic}
 use Rattle.lambdatwist.proofs.solve.solve_cubic.Statement.{statement}
 use Rattle.lambdatwist.proofs.solve.solve_cubic.Tie as tie
 
 returns : tie.Need-returns
-unfolding solveCubic orNoRoot
+unfolding solveCubic
 returns c =
     let root = c .before .before in
-    rw (← root .polished-cubic-root .ensures, c .refused .ensures) (no-root (root .polished-cubic-root .result) _ (c .before .match .keys2))
+    rw (← root .polished-cubic-root .ensures, c .refused .ensures) (no-root stopped _ (root .polished-cubic-root .result) (c .before .match .keys2))
 
 returns-2 : tie.Need-returns-2
-unfolding solveCubic orNoRoot
+unfolding solveCubic
 returns-2 c =
     let told = c .before .before in
     rw (← told .before .before .polished-cubic-root .ensures, told .g .given .1, ← c .solve-root .ensures)

@@ -1,11 +1,11 @@
 -- `lambdatwist::solve::solve_root` meets its contract. Assumes nothing.
 use borrow.Author.Needs.{needs}
-use Rattle.lambdatwist.specs.Solve.{solveRoot, orNoSystem, orNoRatio}
+use Rattle.lambdatwist.specs.Solve.{solveRoot}
 use Rattle.lambdatwist.proofs.solve.solve_root.Statement.{statement}
 use Rattle.lambdatwist.proofs.solve.solve_root.Tie as tie
 
 returns : tie.Need-returns
-unfolding solveRoot orNoSystem
+unfolding solveRoot
 returns c =
     let system = c .before .before .before in
     rw (
@@ -16,7 +16,7 @@ returns c =
     )
 
 returns-2 : tie.Need-returns-2
-unfolding solveRoot orNoSystem orNoRatio
+unfolding solveRoot
 returns-2 c =
     let ratio = c .before .before .before in
     let found = ratio .before .before in
@@ -31,7 +31,7 @@ returns-2 c =
     )
 
 returns-3 : tie.Need-returns-3
-unfolding solveRoot orNoSystem orNoRatio
+unfolding solveRoot
 returns-3 c =
     let real = c .before .before .before in
     let ratio = real .before .before in
