@@ -73,7 +73,8 @@ module _ {k : ℤ} where
         ⊝ trace-scales M >>= λ _ _ traceCoefficient.
         pairCoefficient-scales >>= λ _ _ pairTerm.
         quadratic-scales traceCoefficient pairTerm >>= λ _ _ roots.
-        withPair-scales roots (pure no-pair) (λ _ _ _ _ first second. pure (byMagnitude-at first second))
+        withPair-scales roots (pure no-pair) (λ _ _ _ _ first second.
+        pure (byMagnitude-at first second))
 
   -- ---- the ratio
   isNotReal-same : {x x' : Float}
