@@ -40,7 +40,8 @@ module _ {k : ℤ} where
       → AtVector k n r r'
       → AtVector k n (lastGreatest o l r) (lastGreatest o' l' r')
   unfolding lastGreatest
-  lastGreatest-at {n} {o} {l = l} {l'} {r} {r'} e L R = subst (λ (p : Order). AtVector k n (lastGreatest o l r) (lastGreatest p l' r')) e (go o)
+  lastGreatest-at {n} {o} {l = l} {l'} {r} {r'} e L R =
+      subst (λ (p : Order). AtVector k n (lastGreatest o l r) (lastGreatest p l' r')) e (go o)
     where
       go : (o : Order) → AtVector k n (lastGreatest o l r) (lastGreatest o l' r')
       go Less = R
@@ -64,7 +65,8 @@ module _ {k : ℤ} where
   unitVector-same {v} {v'} h =
       norm-at {n = pos 4} (normSquared-scales h) (squared-normal v) (squared-normal v') >>= λ _ _ length.
       vecDiv-scales h (length .0) >>= λ _ _ unit.
-      pure (choose _≡_ (λ i. (length .1) i && finite-same (length .0) i) (ap Unit (vector-at-zero unit)) (refl {a = Missing}))
+      let valid = ap₂ _&&_ (length .1) (finite-same (length .0)) in
+      pure (choose _≡_ valid (ap Unit (vector-at-zero unit)) (refl {a = Missing}))
 
   module _ {m m' : Matrix3} (M : AtMatrix k (pos 2) m m') where
     pub rowCrosses-same : {e e' : Float}

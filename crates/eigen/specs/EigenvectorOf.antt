@@ -25,7 +25,8 @@ precompute m offDiagonalSquared = do
 --     - eigenvalue * eigenvalue + off_diagonal_squared
 unfoldable pub eigenDenominator : Matrix3 → Precomputed → Float → Traced Float
 eigenDenominator m p eigenvalue =
-    ! eigenvalue ⊗ (! (m .m00) ⊕ ! (m .m11)) ⊕ ! (p .product) ⊖ ! eigenvalue ⊗ ! eigenvalue ⊕ ! (p .square)
+    ! eigenvalue ⊗ (! (m .m00) ⊕ ! (m .m11)) ⊕ ! (p .product)
+    ⊖ ! eigenvalue ⊗ ! eigenvalue ⊕ ! (p .square)
 
 -- (eigenvalue * (matrix[(0, 0)] + matrix[(1, 1)])).abs() + product00_11.abs()
 --     + eigenvalue * eigenvalue + off_diagonal_squared

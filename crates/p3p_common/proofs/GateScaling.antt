@@ -66,4 +66,5 @@ module _ {k : ℤ} where
     unfolding gate
     gate-scales =
         alike {m = hasNearOrthonormalColumns raw} >>= λ _ _ near.
-        if near then pure (ifValid-scales Passed (λ _ _ p. passed-at p) (turned-alike raw t-at)) else projectedGate-scales
+        if near then pure (ifValid-scales Passed (λ _ _ p. passed-at p) (turned-alike raw t-at))
+        else projectedGate-scales

@@ -95,7 +95,8 @@ module _ {k : ℤ} (cosines : Cosines) where
     depthStep-scales depths =
         depthResidual-scales depths edges-at >>= λ _ _ residual.
         absSum-scales residual >>= λ _ _ residualNorm.
-        if lt-same residualNorm tolerance-at then pure stop-at else depthUpdate-scales depths residual
+        if lt-same residualNorm tolerance-at then pure stop-at
+        else depthUpdate-scales depths residual
 
     refineTurns-scales : (n u : ℕ) {depths depths' : Vector3}
         → AtVector k (pos 1) depths depths'

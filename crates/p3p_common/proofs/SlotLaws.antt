@@ -11,13 +11,13 @@ use lib.Dec.{T, ltb, ltb→lt}
 use lib.ListN.{getD, set, length-set}
 use lib.Seq.{getD-set-same, getD-set-other}
 use lib.Ieee.{Float}
-use Rattle.ieee754.specs.Traced.{pure}
+use Rattle.ieee754.specs.Traced.{Traced, pure}
 use Rattle.ieee754.proofs.Tests.{either-way}
 use Rattle.ieee754_laws.proofs.Entries.{replicate-entry}
 use Rattle.linalg.specs.Vectors.{allFinite}
 use Rattle.linalg.specs.Matrices.{matFinite}
 use Rattle.frames.specs.Poses.{zeroPose}
-use Rattle.p3p_common.specs.Types.{Vector3, Matrix3, Pose, SquaredEdges, Cosines, P3pInput, Gated, Passed, Projected, Dropped, Solutions, Step, Next, Stop}
+use Rattle.p3p_common.specs.Types.{Vector3, Matrix3, Pose, SquaredEdges, Cosines, P3pInput, Gated, Passed, Projected, Dropped, Solutions, Step, Next, Stop, Refined}
 use Rattle.p3p_common.specs.RefineDepths.{depthStep, afterStep, refineTurns, refineDepths}
 use Rattle.p3p_common.specs.Gate.{gate}
 use Rattle.p3p_common.specs.Slots.{empty, push}
@@ -28,13 +28,21 @@ use Rattle.p3p_common.proofs.FiniteGate.{FiniteGated, gate-finite}
 -- ---- a list of slots
 module _ {A : Type 0} where
   pub none-filled : (Holds : A → Type 0) (d : A) → Filled Holds d 0 (d ∷ d ∷ d ∷ d ∷ [])
-  none-filled Holds d = record { four = refl; held = λ i h. absurd (not-suc-le-zero h); rest = λ i h. replicate-entry 4 i d }
+  none-filled Holds d = record {
+    four = refl;
+    held = λ i h. absurd (not-suc-le-zero h);
+    rest = λ i h. replicate-entry 4 i d;
+  }
 
   -- the next slot is filled
   module _ (Holds : A → Type 0) (d : A) (n : ℕ) (l : List A) (a : A) (room : n < 4) (s : Filled Holds d n l) where
     held-at : Holds a → (i : ℕ) → (i ≡ n) ⊎ (i < n) → Holds (getD (set l n a) i d)
-    held-at h i (inl e) = subst⁻¹ (λ (j : ℕ). Holds (getD (set l n a) j d)) e (subst⁻¹ Holds (getD-set-same l n a d (subst⁻¹ (λ (k : ℕ). n < k) (s .four) room)) h)
-    held-at h i (inr below) = subst⁻¹ Holds (getD-set-other l n i a d (λ e. omega arith)) (s .held i below)
+    held-at h i (inl e) =
+        let within = subst⁻¹ (λ (k : ℕ). n < k) (s .four) room in
+        let here = subst⁻¹ Holds (getD-set-same l n a d within) h in
+        subst⁻¹ (λ (j : ℕ). Holds (getD (set l n a) j d)) e here
+    held-at h i (inr below) =
+        subst⁻¹ Holds (getD-set-other l n i a d (λ e. omega arith)) (s .held i below)
 
     pub next-filled : Holds a → Filled Holds d (n + 1) (set l n a)
     next-filled h = record {
@@ -49,7 +57,11 @@ Kept s = PoseSlots (s .count) (s .poses) (s .updates)
 
 pub empty-kept : Kept empty
 unfolding empty
-empty-kept = record { few = omega arith; poses = none-filled FinitePose zeroPose; updates = none-filled (λ (n : ℕ). n ≤ 5) 0 }
+empty-kept = record {
+  few = omega arith;
+  poses = none-filled FinitePose zeroPose;
+  updates = none-filled (λ (n : ℕ). n ≤ 5) 0;
+}
 
 push-kept : (s : Solutions) (p : Pose) (u : ℕ) → FinitePose p → u ≤ 5 → Kept s → Kept (push s p u)
 unfolding push
@@ -78,7 +90,8 @@ pub pushPose-kept : (input : P3pInput) (s : Solutions) (r : Matrix3) (t : Vector
     → Kept s
     → Kept (pushPose input s r t u .value)
 unfolding pushPose
-pushPose-kept input s r t u whole h k = pushGated-kept s (gate input r t .value) u (gate-finite input r t whole) h k
+pushPose-kept input s r t u whole h k =
+    pushGated-kept s (gate input r t .value) u (gate-finite input r t whole) h k
 
 -- ---- the updates of a refinement
 module _ (edges : SquaredEdges) (cosines : Cosines) where
@@ -86,14 +99,20 @@ module _ (edges : SquaredEdges) (cosines : Cosines) where
       → refineTurns n d edges cosines tolerance u .value .updates ≤ u + n
   unfolding refineTurns
   turns-few zero d tolerance u = omega arith
-  turns-few (suc n) d tolerance u = go (depthStep d edges cosines tolerance .value) (λ v. turns-few n v tolerance (u + 1))
+  turns-few (suc n) d tolerance u =
+      go (depthStep d edges cosines tolerance .value) (λ v. turns-few n v tolerance (u + 1))
     where
+      rest-from : Vector3 → Traced Refined
+      rest-from v = refineTurns n v edges cosines tolerance (u + 1)
+
       go : (step : Step)
-          → ((v : Vector3) → refineTurns n v edges cosines tolerance (u + 1) .value .updates ≤ u + 1 + n)
-          → afterStep step (pure (record { depths = d; updates = u })) (λ v. refineTurns n v edges cosines tolerance (u + 1)) .value .updates ≤ u + suc n
+          → ((v : Vector3) → rest-from v .value .updates ≤ u + 1 + n)
+          → afterStep step (pure (record { depths = d; updates = u })) rest-from .value .updates ≤ u + suc n
       go Stop rest = omega arith
       go (Next v) rest = let r = rest v in omega arith
 
   pub updates-few : (d : Vector3) (n : ℕ) → refineDepths d edges cosines n .value .updates ≤ n
   unfolding refineDepths
-  updates-few d n = let h : refineDepths d edges cosines n .value .updates ≤ 0 + n = turns-few n d _ 0 in omega arith
+  updates-few d n =
+      let h : refineDepths d edges cosines n .value .updates ≤ 0 + n = turns-few n d _ 0 in
+      omega arith

@@ -27,7 +27,9 @@ unfoldable pub hasBits : Float → ℕ → Bool
 hasBits x w = eqb (toBits binary64 x) w
 
 unfoldable pub refinedTo : Refined → ℕ → ℕ → Bool
-refinedTo r w n = hasBits (r .depths .x) w && hasBits (r .depths .y) w && hasBits (r .depths .z) w && eqb (r .updates) n
+refinedTo r w n =
+    hasBits (r .depths .x) w && hasBits (r .depths .y) w && hasBits (r .depths .z) w
+    && eqb (r .updates) n
 
 unfoldable pub poseCaseHolds : PoseCase → Bool
 poseCaseHolds (refinement depth edge cosine iterations after updates) =

@@ -19,7 +19,8 @@ ifValid gated pose = if not (allFinite (pose .translation)) then Dropped else ga
 unfoldable pub keepPoint0 : P3pInput → Matrix3 → Vector3 → Matrix3 → Traced Gated
 keepPoint0 input rawRotation translation rotation = do
   -- let camera0 = raw_rotation * self.world[0] + translation;
-  camera0 ← cameraPoint (record { rotation = rawRotation; translation = translation }) (input .world .p0)
+  let raw : Pose = record { rotation = rawRotation; translation = translation }
+  camera0 ← cameraPoint raw (input .world .p0)
   -- let translation = camera0 - rotation * self.world[0];
   turned ← matVec rotation (input .world .p0)
   kept ← vecSub camera0 turned

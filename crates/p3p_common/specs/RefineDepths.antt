@@ -61,7 +61,8 @@ unfoldable pub depthStep : Vector3 → SquaredEdges → Cosines → Float → Tr
 depthStep depths squaredEdges bearingCosines residualTolerance = do
   residual ← depthResidual depths squaredEdges bearingCosines
   residualNorm ← absSum residual
-  if lt residualNorm residualTolerance then pure Stop else depthUpdate depths bearingCosines residual
+  if lt residualNorm residualTolerance then pure Stop
+      else depthUpdate depths bearingCosines residual
 
 -- the loop: at most n turns more, after `updates`
 unfoldable pub refineTurns : ℕ → Vector3 → SquaredEdges → Cosines → Float → ℕ → Traced Refined

@@ -9,5 +9,4 @@ unfolding denominatorScale
 returns c = cc
 
 pub denominator-scale-spec : {M : Type 1} → statement M
-denominator-scale-spec =
-    tie.close (tie.spec (λ c _. search needs) (λ c _. search needs) returns)
+denominator-scale-spec = tie.close (tie.spec (λ c _. search needs) (λ c _. search needs) returns)

@@ -10,5 +10,5 @@ returns c = cc
 
 pub eigenvector-from-row-crosses-spec : {M : Type 1} → statement M
 eigenvector-from-row-crosses-spec =
-    tie.close (tie.spec (λ c _. search needs) (λ c _. search needs) (λ c _. search needs) (λ c _. search needs)
-    (λ c _. search needs) (λ c _. search needs) returns)
+    tie.close (tie.spec (λ c _. search needs) (λ c _. search needs) (λ c _. search needs)
+    (λ c _. search needs) (λ c _. search needs) (λ c _. search needs) returns)

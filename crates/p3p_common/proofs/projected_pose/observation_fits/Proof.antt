@@ -9,5 +9,4 @@ unfolding observationFits
 returns c = cc
 
 pub observation-fits-spec : {M : Type 1} → statement M
-observation-fits-spec =
-    tie.close (tie.spec (λ c _. search needs) (λ c _. search needs) returns)
+observation-fits-spec = tie.close (tie.spec (λ c _. search needs) (λ c _. search needs) returns)

@@ -33,5 +33,4 @@ unfolding cbrtStart
 returns c = refl
 
 pub cbrt-start-spec : {M : Type 1} → statement M
-cbrt-start-spec =
-    tie.close (tie.spec (λ c. search needs) add-result float-from-bits-result returns)
+cbrt-start-spec = tie.close (tie.spec (λ c. search needs) add-result float-from-bits-result returns)

@@ -9,5 +9,4 @@ unfolding empty
 returns c = cc
 
 pub empty-spec : {M : Type 1} → statement M
-empty-spec =
-    tie.close (tie.spec (λ c _. search needs) returns)
+empty-spec = tie.close (tie.spec (λ c _. search needs) returns)
