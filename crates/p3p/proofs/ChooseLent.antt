@@ -8,8 +8,15 @@ use Rattle.p3p.specs.Types.{Vector3, Pose, Choice}
 use Rattle.frames.specs.Lent.{vectorAt}
 use Rattle.p3p.specs.ChooseLent.{poseAt, chosen}
 
-pub as-chosen : (poses : List Float) (count : ℕ) (target bearing : List Float) {p0 p1 p2 p3 : Pose} {t b : Vector3} {a : Choice}
-    → p0 ≡ poseAt poses 0 → p1 ≡ poseAt poses 12 → p2 ≡ poseAt poses 24 → p3 ≡ poseAt poses 36 → t ≡ vectorAt target 0 → b ≡ vectorAt bearing 0
-    → a ≡ choose (p0 ∷ p1 ∷ p2 ∷ p3 ∷ []) count t b .value → a ≡ chosen poses count target bearing
-unfolding chosen
-as-chosen poses count target bearing h0 h1 h2 h3 ht hb e = rw (h0, h1, h2, h3, ht, hb) at e
+module _ (poses : List Float) (count : ℕ) (target bearing : List Float) where
+  pub as-chosen : {p0 p1 p2 p3 : Pose} {t b : Vector3} {a : Choice}
+      → p0 ≡ poseAt poses 0
+      → p1 ≡ poseAt poses 12
+      → p2 ≡ poseAt poses 24
+      → p3 ≡ poseAt poses 36
+      → t ≡ vectorAt target 0
+      → b ≡ vectorAt bearing 0
+      → a ≡ choose (p0 ∷ p1 ∷ p2 ∷ p3 ∷ []) count t b .value
+      → a ≡ chosen poses count target bearing
+  unfolding chosen
+  as-chosen h0 h1 h2 h3 ht hb e = rw (h0, h1, h2, h3, ht, hb) at e

@@ -1,6 +1,7 @@
--- The solve over lent arrays: its answer, what is held where it refuses and where it does not, and the four slots one after another. Assumes nothing.
+-- The solve over lent arrays: its answer, what is held where it refuses and where it does not, and
+-- the four slots one after another. Assumes nothing.
 use Prim.Native.Nat.{ℕ}
-use mathlib.Core.Path.{_≡_, refl, sym, ap, _∙_}
+use mathlib.Core.Path.{_≡_, refl, sym, ap}
 use mathlib.Core.Bool.{Bool}
 use mathlib.Core.List.{List, [], _∷_, _++_}
 use native.Mathlib.Omega.{arith}
@@ -14,9 +15,13 @@ use Rattle.lambdatwist.specs.Solve.{solve}
 use Rattle.p3p.specs.Types.{Pose, World, Bearings, Answer}
 use Rattle.p3p.specs.SolveLent.{solved, entries, allEntries}
 
-pub as-solved : (input : List Float) {w : World} {b : Bearings} {a : Answer} → w ≡ worldAt input 0 → b ≡ bearingsAt input 9 → a ≡ solve w b .value → a ≡ solved input
+pub as-solved : (input : List Float) {w : World} {b : Bearings} {a : Answer}
+    → w ≡ worldAt input 0
+    → b ≡ bearingsAt input 9
+    → a ≡ solve w b .value
+    → a ≡ solved input
 unfolding solved
-as-solved input {w} {b} p q r = r ∙ ap (λ (v : World). solve v b .value) p ∙ ap (λ (v : Bearings). solve (worldAt input 0) v .value) q
+as-solved input p q r = rw (p, q) at r
 
 -- ---- by the refusal number
 module _ {A : Type 0} {n : ℕ} (new held : A) where
@@ -27,7 +32,11 @@ module _ {A : Type 0} {n : ℕ} (new held : A) where
   when-refused h = sym (ap (λ (b : Bool). if b then new else held) (ne-eqb n 0 h))
 
 -- ---- the four slots one after another
-pub four-entries : (ps : List Pose) (d : Pose) → length ps ≡ 4 → entries (getD ps 0 d) ++ entries (getD ps 1 d) ++ entries (getD ps 2 d) ++ entries (getD ps 3 d) ≡ allEntries ps
+pub four-entries : (ps : List Pose) (d : Pose)
+    → length ps ≡ 4
+    → entries (getD ps 0 d) ++ entries (getD ps 1 d)
+    ++ entries (getD ps 2 d) ++ entries (getD ps 3 d)
+    ≡ allEntries ps
 unfolding entries allEntries
 four-entries [] d h = absurd (omega arith)
 four-entries (p ∷ []) d h = absurd (omega arith)

@@ -1,4 +1,5 @@
--- Answers as C and Rust get them, where a crate below has a type of its own: as include/p3p.h declares them.
+-- Answers as C and Rust get them, where a crate below has a type of its own: as include/p3p.h
+-- declares them.
 use lib.IntN.{ℤ, pos, negsuc}
 use Rattle.p3p.specs.Types.{Order, Less, Equal, Greater}
 

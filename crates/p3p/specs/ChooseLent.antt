@@ -1,4 +1,5 @@
--- The choice over lent arrays: the poses that are read, and what is returned and held after it. A refused choice leaves the best as it was: document 01, "Questions, in order".
+-- The choice over lent arrays: the poses that are read, and what is returned and held after it. A
+-- refused choice leaves the best as it was: document 01, "Questions, in order".
 use Prim.Native.Nat.{ℕ, _+_}
 use mathlib.Core.List.{List, [], _∷_}
 use lib.Ieee.{Float}

@@ -1,4 +1,5 @@
--- What the doubles that are lent to a root finder hold when it returns: a root, or what they held before where there is none to write: document 01, "Questions, in order".
+-- What the doubles that are lent to a root finder hold when it returns: a root, or what they held
+-- before where there is none to write: document 01, "Questions, in order".
 use lib.Ieee.{Float}
 use Rattle.p3p.specs.Types.{Roots, Two, One, Refused}
 

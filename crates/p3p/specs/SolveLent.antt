@@ -1,4 +1,5 @@
--- The solve over lent arrays: the eighteen doubles that are read, and what the other arrays hold when it returns. A refused solve leaves them as they were: document 01, "Questions, in order".
+-- The solve over lent arrays: the eighteen doubles that are read, and what the other arrays hold
+-- when it returns. A refused solve leaves them as they were: document 01, "Questions, in order".
 use Prim.Native.Nat.{ℕ}
 use mathlib.Core.List.{List, [], _∷_, _++_}
 use lib.Dec.{eqb}

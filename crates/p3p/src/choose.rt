@@ -24,7 +24,8 @@ fn pose_at(poses: &[f64; 48], at: usize) -> Pose
     }
 }
 
-// The number from 1 of the pose under which the target lies nearest to its bearing. Returns 0, or the refusal number with nothing written.
+// The number from 1 of the pose under which the target lies nearest to its bearing. Returns 0, or
+// the refusal number with nothing written.
 #[no_mangle]
 pub extern "C" fn p3p_choose(
     poses: &[f64; 48],

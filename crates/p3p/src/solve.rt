@@ -70,7 +70,8 @@ fn all_entries(p0: Pose, p1: Pose, p2: Pose, p3: Pose) -> [f64; 48]
     ]
 }
 
-// The poses of three world points and the bearings to them. Returns 0, or the refusal number with nothing written.
+// The poses of three world points and the bearings to them. Returns 0, or the refusal number with
+// nothing written.
 #[no_mangle]
 pub extern "C" fn p3p_solve(
     input: &[f64; 18],

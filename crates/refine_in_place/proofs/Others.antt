@@ -1,9 +1,13 @@
--- The parameters after the depths, which both functions of this crate and the form by value below them take alike: the squared edges, the cosines and the allowance, all by value.
---     Others, of      three arguments that have their types' values, and how a function has them from its own arguments
+-- The parameters after the depths, which both functions of this crate and the form by value below
+-- them take alike: the squared edges, the cosines and the allowance, all by value.
+--     Others, of      three arguments that have their types' values, and how a function has them
+--                     from its own arguments
 --     args, vals      what they are in the logic, and their machine values
---     stayed, gone    at exit they are still owned, plain data of which nothing is said: what a walk's end asks of them, for any number of lifetimes
+--     stayed, gone    at exit they are still owned, plain data of which nothing is said: what a
+--                     walk's end asks of them, for any number of lifetimes
 --     spelt, tells    their machine values are those of `vals`
---     had-others      what they own is had for nothing, since it is plain data: so a walk never carries it, and makes it where it is asked
+--     had-others      what they own is had for nothing, since it is plain data: so a walk never
+--                     carries it, and makes it where it is asked
 use mathlib.Core.Path.{refl}
 use Prim.Native.Nat.{ℕ, _<_, _^_}
 use mathlib.Core.List.{List, [], _∷_}
@@ -42,7 +46,9 @@ Args = SquaredEdges × (Cosines × (ℕ × Unit {0}))
 abbrev pub args : Others → Args
 args p = (p .edges, (p .cosines, (p .iterations, tt)))
 
-abbrev pub of : (x : Args) → Fit EdgesS (x .0) × (Fit CosinesS (x .1 .0) × (Is u32 (x .1 .1 .0) (vint w32 (x .1 .1 .0) ∷ []) × Unit {0})) → Others
+abbrev pub of : (x : Args)
+    → Fit EdgesS (x .0) × (Fit CosinesS (x .1 .0) × (Is u32 (x .1 .1 .0) (vint w32 (x .1 .1 .0) ∷ []) × Unit {0}))
+    → Others
 of x are = record { edges = x .0; cosines = x .1 .0; iterations = x .1 .1 .0; edges-fit = are .0; cosines-fit = are .1 .0; iterations-fit = are .1 .1 .0 .1 }
 
 abbrev pub vals : Others → List Val × (List Val × (List Val × Unit {0}))
@@ -64,7 +70,8 @@ module _ (n : ℕ) where
   abbrev pub stayed : Stays slots (all yes slots)
   stayed = (stay-none (λ _. Row EdgesS) yes, (stay-none (λ _. Row CosinesS) yes, (stay-none (λ _. u32) yes, tt)))
 
-  pub gone : {M : Type 1} (𝓤 : URA M) (H : Heap 𝓤) (A : Atoms 𝓤) (W : Given 𝓤 H A) → AllGo 𝓤 H A W n slots (all yes slots) stayed
+  pub gone : {M : Type 1} (𝓤 : URA M) (H : Heap 𝓤) (A : Atoms 𝓤) (W : Given 𝓤 H A)
+      → AllGo 𝓤 H A W n slots (all yes slots) stayed
   gone 𝓤 H A W = (
     goes-none 𝓤 H A W n (λ _. Row EdgesS) yes (λ κs x f. refl),
     (goes-none 𝓤 H A W n (λ _. Row CosinesS) yes (λ κs x f. refl), (goes-none 𝓤 H A W n (λ _. u32) yes (λ κs x f. refl), tt)),

@@ -1,4 +1,5 @@
--- The structs of the two functions' signatures, for the steps of Loan, and what is known of the fields of a `Refined`. All are declared in other crates, whose laws are cited.
+-- The structs of the two functions' signatures, for the steps of Loan, and what is known of the
+-- fields of a `Refined`. All are declared in other crates, whose laws are cited.
 use mathlib.Core.Path.{refl}
 use Prim.Native.Nat.{_<_, _^_}
 use mathlib.Core.List.{[], _∷_}

@@ -1,6 +1,7 @@
-// The refinement of depths in place: the triple is lent by `&mut` and altered there, as in refine_depths of pose/p3p/common.rs (document
-// 01, "What must change shape"). A thin layer over the form by value, p3p_common::refine_depths, which does the work. The prover covers
-// no reference to a struct, so the proofs of both functions walk through their statements by hand.
+// The refinement of depths in place: the triple is lent by `&mut` and altered there, as in
+// refine_depths of pose/p3p/common.rs (document 01, "What must change shape"). A thin layer over the
+// form by value, p3p_common::refine_depths, which does the work. The prover covers no reference to a
+// struct, so the proofs of both functions walk through their statements by hand.
 ghost use mathlib.Core.Path.{_≡_};
 ghost use Prim.Native.Nat.{ℕ};
 ghost use Rattle.p3p_common.specs.RefineDepths.{refineDepths};
@@ -10,7 +11,8 @@ use linalg::vector3::Vector3;
 use p3p_common::refine_depths::Refined;
 use p3p_common::refine_depths::refine_depths;
 
-// At exit the triple holds the definition's depths, all three entries, and the answer is the definition's count of updates.
+// At exit the triple holds the definition's depths, all three entries, and the answer is the
+// definition's count of updates.
 pub fn refine_depths_in_place(
     depths: &mut Vector3,
     squared_edges: SquaredEdges,

@@ -1,5 +1,5 @@
-// The choice: the count, four slots of twelve words (the rotation, the translation), the target and the bearing, then the
-// refusal number, 0 where nothing is refused, the place from 1 and the score.
+// The choice: the count, four slots of twelve words (the rotation, the translation), the target and
+// the bearing, then the refusal number, 0 where nothing is refused, the place from 1 and the score.
 ghost use Prim.Native.Nat.{_≤_};
 use crate::record::matrix_at;
 use crate::record::narrow;
@@ -34,7 +34,7 @@ pub fn holds(s: &[u8; 632]) -> bool {
     let answer = choose(poses, narrow(word(s, 0)), target, bearing);
     match answer {
         Choice::Best(place, score) => {
-            number == 0 && word(s, 448) == place as u64 && agrees(score, word(s, 456))
+            (number == 0) & (word(s, 448) == place as u64) & agrees(score, word(s, 456))
         }
         Choice::Refused(n) => number == n as u64,
     }

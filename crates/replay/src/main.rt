@@ -1,6 +1,7 @@
-// Runs the functions on the vectors in data/ and says of each file how many answers differ from the stored bits: data/exact has
-// the answers of exact arithmetic to the single operations (tests/ieee754), data/rust the Rust's (reference/). A file holds
-// records of words: the arguments, then the answer.
+// Runs the functions on the records in data/ and says of each file how many answers differ from the
+// stored bits: data/exact has the answers of exact arithmetic to the single operations
+// (tests/ieee754), data/rust the Rust's (reference/). A file holds records of words: the arguments,
+// then the answer.
 mod chosen;
 mod operations;
 mod pieces;
@@ -23,7 +24,8 @@ pub enum Subject {
     Chosen,
 }
 
-// What a step through a file found: a record that agrees, one that differs or is cut short, or none.
+// What a step through a file found: a record that agrees, one that differs or is cut short, or
+// none.
 pub enum Found {
     Same,
     Different,
@@ -72,7 +74,8 @@ fn step(fd: i32, subject: Subject) -> Found {
     }
 }
 
-// Steps through a file. A proved loop has to end, and nothing says that a file does, so the count of records bounds it.
+// Steps through a file. A proved loop has to end, and nothing says that a file does, so the count
+// of records bounds it.
 fn compare(subject: Subject, path: &[u8]) {
     let fd = os::open_read(path);
     if fd < 0 {

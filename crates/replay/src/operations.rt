@@ -1,5 +1,5 @@
-// The single operations: their arguments, then the result. The answers are those of exact whole-number arithmetic, which
-// tests/ieee754/make.py has.
+// The single operations: their arguments, then the result. The answers are those of exact
+// whole-number arithmetic, which tests/ieee754/make.py has.
 ghost use Prim.Native.Nat.{_≤_};
 use crate::record::flag;
 use ieee754::bits::from_bits;

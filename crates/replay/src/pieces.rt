@@ -1,5 +1,6 @@
-// The functions that the three-point solvers share: their arguments, then the answer, before one that may be missing a word
-// that says whether it is there; whether a pose was pushed, the count says.
+// The functions that the three-point solvers share: their arguments, then the answer, before one
+// that may be missing a word that says whether it is there; whether a pose was pushed, the count
+// says.
 ghost use Prim.Native.Nat.{_≤_};
 use crate::push::push_holds;
 use crate::record::flag;
@@ -61,7 +62,7 @@ fn refine_holds(s: &[u8; 632]) -> bool {
     };
     let refined = refine_depths(depths, edges, cosines, narrow(word(s, 72)));
     let after = refined.depths;
-    refined.updates as u64 == word(s, 80) && vector_agrees(after, s, 88)
+    (refined.updates as u64 == word(s, 80)) & vector_agrees(after, s, 88)
 }
 
 // The camera point and the bearing; whether they fit.
@@ -81,7 +82,7 @@ fn project_holds(s: &[u8; 632]) -> bool {
     let ok = word(s, 72);
     let projection = project_to_rotation(matrix_at(s, 0));
     match projection {
-        Projection::Rotation(m) => ok == 1 && matrix_agrees(m, s, 80),
+        Projection::Rotation(m) => (ok == 1) & matrix_agrees(m, s, 80),
         Projection::Refused => ok == 0,
     }
 }
@@ -93,7 +94,7 @@ fn basis_holds(s: &[u8; 632]) -> bool {
     let ok = word(s, 48);
     let basis = world_basis_inverse(first, second);
     match basis {
-        Basis::Inverse(m) => ok == 1 && matrix_agrees(m, s, 56),
+        Basis::Inverse(m) => (ok == 1) & matrix_agrees(m, s, 56),
         Basis::Singular => ok == 0,
     }
 }

@@ -1,4 +1,5 @@
-// Whether a push gives a record's answer: the count, the pose where one was pushed, and the other slots as they were.
+// Whether a push gives a record's answer: the count, the pose where one was pushed, and the other
+// slots as they were.
 ghost use Prim.Native.Nat.{_≤_};
 use crate::record::input;
 use crate::record::matrix_agrees;
@@ -27,15 +28,15 @@ fn marker(bits: u64) -> Pose {
 }
 
 fn vector_is(v: Vector3, bits: u64) -> bool {
-    agrees(v.x, bits) && agrees(v.y, bits) && agrees(v.z, bits)
+    agrees(v.x, bits) & agrees(v.y, bits) & agrees(v.z, bits)
 }
 
 fn is_marker(pose: Pose, bits: u64) -> bool {
     let m = pose.rotation;
     vector_is(m.column0(), bits)
-        && vector_is(m.column1(), bits)
-        && vector_is(m.column2(), bits)
-        && vector_is(pose.translation, bits)
+        & vector_is(m.column1(), bits)
+        & vector_is(m.column2(), bits)
+        & vector_is(pose.translation, bits)
 }
 
 // A list of so many poses, slot i marked with i + 1.
@@ -55,17 +56,16 @@ fn marked(count: usize) -> Solutions {
 fn slot_holds(s: &[u8; 632], mark: u64, pose: Pose, updates: u32) -> bool
     requires { ⌜ mark ≤ 4 ⌝ }
 {
-    if word(s, 256) == mark {
-        if word(s, 248) < mark {
-            return updates as u64 == word(s, 264)
-                && matrix_agrees(pose.rotation, s, 272)
-                && vector_agrees(pose.translation, s, 344);
-        }
+    if (word(s, 256) == mark) & (word(s, 248) < mark) {
+        return (updates as u64 == word(s, 264))
+            & matrix_agrees(pose.rotation, s, 272)
+            & vector_agrees(pose.translation, s, 344);
     }
-    updates as u64 == mark && is_marker(pose, mark)
+    (updates as u64 == mark) & is_marker(pose, mark)
 }
 
-// World points, bearings, the matrix, the translation, the updates and the count; the count, the updates and the pose.
+// World points, bearings, the matrix, the translation, the updates and the count; the count, the
+// updates and the pose.
 pub fn push_holds(s: &[u8; 632]) -> bool {
     let before = marked(narrow(word(s, 248)) as usize);
     let matrix = matrix_at(s, 144);
@@ -73,9 +73,9 @@ pub fn push_holds(s: &[u8; 632]) -> bool {
     let after = push_pose(input(s), before, matrix, translation, narrow(word(s, 240)));
     let poses = after.poses;
     let updates = after.updates;
-    after.count as u64 == word(s, 256)
-        && slot_holds(s, 1, poses[0], updates[0])
-        && slot_holds(s, 2, poses[1], updates[1])
-        && slot_holds(s, 3, poses[2], updates[2])
-        && slot_holds(s, 4, poses[3], updates[3])
+    (after.count as u64 == word(s, 256))
+        & slot_holds(s, 1, poses[0], updates[0])
+        & slot_holds(s, 2, poses[1], updates[1])
+        & slot_holds(s, 3, poses[2], updates[2])
+        & slot_holds(s, 4, poses[3], updates[3])
 }

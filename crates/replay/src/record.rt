@@ -1,4 +1,5 @@
-// What stands in a record by its place in bytes, and whether a value does. A matrix stands by its columns, a bool as 0 or 1.
+// What stands in a record by its place in bytes, and whether a value does. A matrix stands by its
+// columns, a bool as 0 or 1.
 ghost use Prim.Native.Nat.{_≤_};
 use frames::bearings::Bearings;
 use frames::world::World;
@@ -46,15 +47,15 @@ pub fn input(s: &[u8; 632]) -> P3pInput {
 pub fn vector_agrees(v: Vector3, s: &[u8; 632], at: usize) -> bool
     requires { ⌜ at ≤ 608 ⌝ }
 {
-    agrees(v.x, word(s, at)) && agrees(v.y, word(s, at + 8)) && agrees(v.z, word(s, at + 16))
+    agrees(v.x, word(s, at)) & agrees(v.y, word(s, at + 8)) & agrees(v.z, word(s, at + 16))
 }
 
 pub fn matrix_agrees(m: Matrix3, s: &[u8; 632], at: usize) -> bool
     requires { ⌜ at ≤ 560 ⌝ }
 {
     vector_agrees(m.column0(), s, at)
-        && vector_agrees(m.column1(), s, at + 24)
-        && vector_agrees(m.column2(), s, at + 48)
+        & vector_agrees(m.column1(), s, at + 24)
+        & vector_agrees(m.column2(), s, at + 48)
 }
 
 // A word as a count, the largest count for a word beyond it.

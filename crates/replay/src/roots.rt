@@ -1,5 +1,5 @@
-// The root finders: the arguments, then the refusal number, 0 where nothing is refused, and the roots; of the cube root, only
-// the root.
+// The root finders: the arguments, then the refusal number, 0 where nothing is refused, and the
+// roots; of the cube root, only the root.
 ghost use Prim.Native.Nat.{_≤_};
 use ieee754::bits::from_bits;
 use polynomial::Roots;
@@ -30,7 +30,9 @@ fn quadratic_holds(s: &[u8; 632]) -> bool {
     let number = word(s, 16);
     let answer = quadratic_real_monic(from_bits(word(s, 0)), from_bits(word(s, 8)));
     match answer {
-        Roots::Two(x, y) => number == 0 && agrees(x, word(s, 24)) && agrees(y, word(s, 32)),
+        Roots::Two(x, y) => {
+            (number == 0) & agrees(x, word(s, 24)) & agrees(y, word(s, 32))
+        }
         Roots::One(_) => false,
         Roots::Refused(n) => number == n as u64,
     }
@@ -45,7 +47,7 @@ fn cubic_holds(s: &[u8; 632]) -> bool {
     );
     match answer {
         Roots::Two(_, _) => false,
-        Roots::One(x) => number == 0 && agrees(x, word(s, 32)),
+        Roots::One(x) => (number == 0) & agrees(x, word(s, 32)),
         Roots::Refused(n) => number == n as u64,
     }
 }

@@ -40,7 +40,7 @@ fn slot_agrees(pose: Pose, updates: u32, s: &[u8; 632], at: usize) -> bool
     let counted = word(s, at) == updates as u64;
     let rotation = matrix_agrees(pose.rotation, s, at + 8);
     let translation = vector_agrees(pose.translation, s, at + 80);
-    counted && rotation && translation
+    counted & rotation & translation
 }
 
 // The choice, after the count, is another crate's.
@@ -55,7 +55,7 @@ fn frame_holds(s: &[u8; 632]) -> bool {
     let slot1 = slot_agrees(poses[1], updates[1], s, 320);
     let slot2 = slot_agrees(poses[2], updates[2], s, 424);
     let slot3 = slot_agrees(poses[3], updates[3], s, 528);
-    number && count && slot0 && slot1 && slot2 && slot3
+    number & count & slot0 & slot1 & slot2 & slot3
 }
 
 fn eig_holds(s: &[u8; 632]) -> bool {
@@ -64,7 +64,7 @@ fn eig_holds(s: &[u8; 632]) -> bool {
     };
     let columns = matrix_agrees(vectors, s, 80);
     let pair = vector_agrees(values, s, 152);
-    word(s, 72) == 1 && columns && pair
+    (word(s, 72) == 1) & columns & pair
 }
 
 fn row_crosses_holds(s: &[u8; 632]) -> bool {
@@ -73,7 +73,7 @@ fn row_crosses_holds(s: &[u8; 632]) -> bool {
         return word(s, 80) == 0;
     };
     let same = vector_agrees(vector, s, 88);
-    word(s, 80) == 1 && same
+    (word(s, 80) == 1) & same
 }
 
 fn condition_holds(s: &[u8; 632]) -> bool {

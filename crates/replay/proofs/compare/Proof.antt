@@ -7,7 +7,8 @@ use Rattle.replay.proofs.compare.Statement.{statement}
 use Rattle.replay.proofs.compare.Tie as tie
 
 abbrev Inv-loop : tie.InvT-loop
-Inv-loop subject path fd compared₀ differ₀ compared differ = (differ ≤ compared) × (compared ≤ 18446744073709551615)
+Inv-loop subject path fd compared₀ differ₀ compared differ =
+    (differ ≤ compared) × (compared ≤ 18446744073709551615)
 
 abbrev μ-loop : tie.MeasureT-loop
 μ-loop subject path fd compared₀ differ₀ compared differ = 18446744073709551615 - compared

@@ -1,4 +1,5 @@
--- `replay::step` is safe: a record is at most as long as the array that it is read into. Assumes nothing.
+-- `replay::step` is safe: a record is at most as long as the array that it is read into. Assumes
+-- nothing.
 use borrow.Author.Needs.{needs}
 use mathlib.Core.Path.{sym}
 use lib.Seq.{length-take-le}

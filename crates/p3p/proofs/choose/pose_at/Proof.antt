@@ -7,9 +7,17 @@ use Rattle.p3p.proofs.choose.pose_at.Tie as tie
 returns : tie.Need-returns
 unfolding poseAt
 returns c =
-    let third = c .before .before .before in
-    let first = third .before .before .before .before in
-    rw (c .from-columns .ensures, first .vector-at .ensures, third .before .before .vector-at2 .ensures, third .vector-at3 .ensures, c .before .vector-at4 .ensures)
+    let fourth = c .before in
+    let third = fourth .before .before in
+    let second = third .before .before in
+    let first = second .before .before in
+    rw (
+      c .from-columns .ensures,
+      first .vector-at .ensures,
+      second .vector-at2 .ensures,
+      third .vector-at3 .ensures,
+      fourth .vector-at4 .ensures,
+    )
 
 pub pose-at-spec : {M : Type 1} → statement M
 pose-at-spec =

@@ -1,4 +1,5 @@
--- `p3p::solve::p3p_solve` meets its contract: a refused solve leaves the arrays as they were, and another writes each whole. Assumes nothing.
+-- `p3p::solve::p3p_solve` meets its contract: a refused solve leaves the arrays as they were, and
+-- another writes each whole. Assumes nothing.
 use borrow.Author.Needs.{needs}
 use mathlib.Core.Path.{_≡_, refl, sym, _∙_}
 use Rattle.p3p.specs.SolveLent.{solved, posesAfter, updatesAfter, countAfter}
@@ -8,16 +9,19 @@ use Rattle.p3p.proofs.solve.p3p_solve.Statement.{statement}
 use Rattle.p3p.proofs.solve.p3p_solve.Tie as tie
 
 -- what was solved is what the definition solves
-found : (c : tie.After-solve) → c .solve .result ≡ solved (c .before .before .before .before .before .args .input .now)
+found : (c : tie.After-solve) → let world = c .before .before .before in
+    c .solve .result ≡ solved (world .before .before .args .input .now)
 found c =
-    let world = c .before .before .before in
-    as-solved (world .before .before .args .input .now) (world .world-at .ensures) (c .before .bearings-at .ensures) (c .solve .ensures)
+    let bearings = c .before in
+    let world = bearings .before .before in
+    as-solved _ (world .world-at .ensures) (bearings .bearings-at .ensures) (c .solve .ensures)
 
 returns : tie.Need-returns
 unfolding posesAfter updatesAfter countAfter
 returns c =
     let number = c .if1 .taken in
-    rw (← found (c .before)) (refl, (when-refused _ _ number, (when-refused _ _ number, when-refused _ _ number)))
+    rw (← found (c .before))
+    (refl, (when-refused _ _ number, (when-refused _ _ number, when-refused _ _ number)))
 
 returns-2 : tie.Need-returns-2
 unfolding posesAfter updatesAfter countAfter
@@ -25,8 +29,11 @@ returns-2 c =
     let accepted = c .before .before .before .before .before .before .before in
     let answer = accepted .before .solve in
     let zero = accepted .if1 .left in
-    let entered = c .before .all-entries .ensures ∙ four-entries (answer .result .poses) _ (four-poses (answer .result) (answer .ok)) in
-    rw (← found (accepted .before)) (sym zero, (entered ∙ when-answered _ _ zero, (when-answered _ _ zero, when-answered _ _ zero)))
+    let four = four-poses (answer .result) (answer .ok) in
+    let slots = four-entries (answer .result .poses) _ four in
+    let entered = c .before .all-entries .ensures ∙ slots ∙ when-answered _ _ zero in
+    rw (← found (accepted .before))
+    (sym zero, (entered, (when-answered _ _ zero, when-answered _ _ zero)))
 
 pub p3p-solve-spec : {M : Type 1} → statement M
 p3p-solve-spec =
