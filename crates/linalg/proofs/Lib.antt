@@ -1,4 +1,5 @@
--- The laws that crates above use: how the operations on vectors and matrices scale, that a regular squared length is zero or normal, and what is finite with a vector.
+-- The laws that crates above use: how the operations on vectors and matrices scale, that a regular
+-- squared length is zero or normal, and what is finite with a vector.
 pub mod VectorDegrees
 pub mod MatrixDegrees
 pub mod SquaredLength
