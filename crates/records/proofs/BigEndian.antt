@@ -17,7 +17,7 @@ unfolding bigEndian
 snoc [] b = omega arith
 snoc (a ∷ bs) b =
     let more : 256 ^ length (bs ++ (b ∷ [])) ≡ 256 ^ length bs * 256 =
-        ap (λ (n : ℕ). 256 ^ n) (simp length-append (omega arith)) ∙ pow-suc 256 (length bs) in
+    ap (λ (n : ℕ). 256 ^ n) (simp length-append (omega arith)) ∙ pow-suc 256 (length bs) in
     rw (more, snoc bs b) (omega arith)
 
 -- one byte more of a part
@@ -32,5 +32,5 @@ part-next s at i h =
 pub next-lt : (i n b : ℕ) → n < 2 ^ (8 * i) → b < 256 → n * 256 + b < 2 ^ (8 * (i + 1))
 next-lt i n b hn hb =
     let e : 2 ^ (8 * i) * 256 ≡ 2 ^ (8 * (i + 1)) =
-        sym (pow-add 2 (8 * i) 8) ∙ ap (λ (k : ℕ). 2 ^ k) (omega arith) in
+    sym (pow-add 2 (8 * i) 8) ∙ ap (λ (k : ℕ). 2 ^ k) (omega arith) in
     subst (λ (k : ℕ). n * 256 + b < k) e (digits-lt hn hb)

@@ -85,7 +85,7 @@ module _ (s before after : List ℕ) (at k : ℕ) (v : Vector3)
   y-back =
       let e : s ≡ (before ++ X) ++ (Y ++ (Z ++ after)) = split ∙ simp append-assoc in
       let put : length (before ++ X) ≡ at + 24 * k + 8 =
-          simp (length-append, length-bytes) (omega arith) in
+      simp (length-append, length-bytes) (omega arith) in
       rw e (double-back (before ++ X) (Z ++ after) _ (v .y) (doubles .y) put)
 
   z-back : doubleAt s (at + 24 * k + 16) ≡ v .z
@@ -93,7 +93,7 @@ module _ (s before after : List ℕ) (at k : ℕ) (v : Vector3)
   z-back =
       let e : s ≡ (before ++ X ++ Y) ++ (Z ++ after) = split ∙ simp append-assoc in
       let put : length (before ++ X ++ Y) ≡ at + 24 * k + 16 =
-          simp (length-append, length-bytes) (omega arith) in
+      simp (length-append, length-bytes) (omega arith) in
       rw e (double-back (before ++ X ++ Y) after _ (v .z) (doubles .z) put)
 
   vector-back : vectorAt s at k ≡ v
@@ -121,12 +121,12 @@ unfolding vectorsBytes
 vectors-back s before after at i [] d placed split doubles j h = absurd (omega arith)
 vectors-back s before after at i (v ∷ vs) d placed split doubles zero h =
     let first : s ≡ before ++ (vectorBytes v ++ (vectorsBytes vs ++ after)) =
-        split ∙ simp append-assoc in
+    split ∙ simp append-assoc in
     rw add-zero (vector-back s before (vectorsBytes vs ++ after) at i v placed first (doubles .0))
 vectors-back s before after at i (v ∷ vs) d placed split doubles (suc j) h =
     let passed = before ++ vectorBytes v in
     let place : length passed ≡ at + 24 * (i + 1) =
-        simp (length-append, length-vector) (omega arith) in
+    simp (length-append, length-vector) (omega arith) in
     let rest : s ≡ passed ++ (vectorsBytes vs ++ after) = split ∙ simp append-assoc in
     let same : i + suc j ≡ i + 1 + j = omega arith in
     let inside = le-of-suc-le-suc h in
@@ -169,9 +169,9 @@ module _ (before after : List ℕ) (f : Frame) (doubles : AllDoubles (vectors f)
       let front = before ++ bytes 2 193 ++ bytes 1 1 in
       let e : whole ≡ front ++ (body ++ after) = simp append-assoc in
       let place : length front ≡ start + 3 + 24 * 0 =
-          simp (length-append, length-bytes) (omega arith) in
+      simp (length-append, length-bytes) (omega arith) in
       rw (zero-add j) at
-          (vectors-back whole front after (start + 3) 0 (vectors f) (f .world .p0) place e doubles j h)
+      (vectors-back whole front after (start + 3) 0 (vectors f) (f .world .p0) place e doubles j h)
 
   frame-back : frameAt whole (start + 3) ≡ f
   unfolding frameAt

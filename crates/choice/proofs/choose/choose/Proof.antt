@@ -28,7 +28,7 @@ loop-again c =
     let loop = head .loop in
     let four = start .good .0 .1 .0 .1 in
     let fits : counted .at-most-four .result ≤ length (start .args .t1) =
-        omega (arith, four, counted .at-most-four .ensures) in
+    omega (arith, four, counted .at-most-four .ensures) in
     let turn = turns-go _ _ _ _ _ (loop .best) _ (test .loop-test .taken) fits in
     (search needs, rw (c .better .ensures, c .before .score .ensures) (turn ∙ loop .inv .1))
 
