@@ -30,9 +30,9 @@ module _ (l : List ℕ) (at : ℕ) (all : List ℕ) where
       let rest = drop (suc i) all in
       let first = hexadecimal i (r / 16) in
       let front : all ≡ first ++ (digit ∷ rest) =
-          left .before ∙ append-assoc first (digit ∷ []) rest in
+      left .before ∙ append-assoc first (digit ∷ []) rest in
       let taken : drop i all ≡ digit ∷ rest =
-          ap (drop i) front ∙ drop-at first (digit ∷ rest) i (length-hexadecimal i (r / 16)) in
+      ap (drop i) front ∙ drop-at first (digit ∷ rest) i (length-hexadecimal i (r / 16)) in
       let past : at + suc i ≡ suc (at + i) = omega arith in
       record {
         before = front ∙ ap (λ (x : List ℕ). first ++ x) (sym taken);
@@ -59,5 +59,5 @@ module _ (l : List ℕ) (at : ℕ) (all : List ℕ) where
 pub start : (l : List ℕ) (at k n : ℕ) → Left l at (hexadecimal k n) k n l
 start l at k n =
     let none : drop k (hexadecimal k n) ≡ [] =
-        drop-of-length-le (hexadecimal k n) {i = k} (omega (arith, length-hexadecimal k n)) in
+    drop-of-length-le (hexadecimal k n) {i = k} (omega (arith, length-hexadecimal k n)) in
     record { before = rw (none, append-nil); placed = rw none }

@@ -28,7 +28,6 @@ none l at = record { next-at = omega arith; holds = refl }
 
 -- two runs of stores, the second from where the first ends, are one
 infixl 50 _and-then_
-
 pub _and-then_ : {l l′ l″ xs ys : List ℕ} {at next end : ℕ}
     → Stored l at xs next l′
     → Stored l′ next ys end l″

@@ -21,12 +21,12 @@ returns-2 c =
     let number = first .before .before .before .before .before in
     let room = number .before .before in
     written (omega (arith, room .if1 .left, room .before .left .ensures)) (omega arith) (
-      number .put-decimal .ensures .0
-      and-then first .put-text .ensures
-      and-then count .put-decimal2 .ensures .0
-      and-then second .put-text2 .ensures
-      and-then best .put-decimal3 .ensures .0
-      and-then line .put-byte .ensures
+    number .put-decimal .ensures .0
+    and-then first .put-text .ensures
+    and-then count .put-decimal2 .ensures .0
+    and-then second .put-text2 .ensures
+    and-then best .put-decimal3 .ensures .0
+    and-then line .put-byte .ensures
     )
 
 pub put-accepted-spec : {M : Type 1} → statement M

@@ -18,9 +18,9 @@ returns-2 c =
     let word = records .before .before .before .before in
     let room = word .before .before .before in
     written (omega (arith, room .if1 .left, room .before .left .ensures)) (omega arith) (
-      word .put-text .ensures
-      and-then records .put-decimal .ensures .0
-      and-then line .put-byte .ensures
+    word .put-text .ensures
+    and-then records .put-decimal .ensures .0
+    and-then line .put-byte .ensures
     )
 
 pub put-end-spec : {M : Type 1} → statement M

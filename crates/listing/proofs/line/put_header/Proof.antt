@@ -14,9 +14,8 @@ unfolding headerLine
 returns-2 c =
     let line = c .before .before in
     let room = line .before .before .before in
-    written (omega (arith, room .if1 .left, room .before .left .ensures)) (omega arith) (
-      line .put-text .ensures
-    )
+    written (omega (arith, room .if1 .left, room .before .left .ensures)) (omega arith)
+    (line .put-text .ensures)
 
 pub put-header-spec : {M : Type 1} → statement M
 put-header-spec =

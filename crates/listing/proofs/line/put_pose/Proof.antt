@@ -22,13 +22,13 @@ returns-2 c =
     let number = dot .before .before .before .before in
     let room = number .before .before in
     written (omega (arith, room .if1 .left, room .before .left .ensures)) (omega arith) (
-      number .put-decimal .ensures .0
-      and-then dot .put-byte .ensures
-      and-then place .put-decimal2 .ensures .0
-      and-then text .put-text .ensures
-      and-then updates .put-decimal3 .ensures .0
-      and-then words .put-words .ensures .0
-      and-then line .put-byte2 .ensures
+    number .put-decimal .ensures .0
+    and-then dot .put-byte .ensures
+    and-then place .put-decimal2 .ensures .0
+    and-then text .put-text .ensures
+    and-then updates .put-decimal3 .ensures .0
+    and-then words .put-words .ensures .0
+    and-then line .put-byte2 .ensures
     )
 
 pub put-pose-spec : {M : Type 1} → statement M

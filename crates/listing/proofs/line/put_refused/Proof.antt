@@ -19,10 +19,10 @@ returns-2 c =
     let number = word .before .before .before .before .before in
     let room = number .before .before in
     written (omega (arith, room .if1 .left, room .before .left .ensures)) (omega arith) (
-      number .put-decimal .ensures .0
-      and-then word .put-text .ensures
-      and-then refusal .put-decimal2 .ensures .0
-      and-then line .put-byte .ensures
+    number .put-decimal .ensures .0
+    and-then word .put-text .ensures
+    and-then refusal .put-decimal2 .ensures .0
+    and-then line .put-byte .ensures
     )
 
 pub put-refused-spec : {M : Type 1} → statement M

@@ -20,11 +20,11 @@ returns-2 c =
     let word = refusal .before .before .before .before in
     let room = word .before .before .before in
     written (omega (arith, room .if1 .left, room .before .left .ensures)) (omega arith) (
-      word .put-text .ensures
-      and-then refusal .put-decimal .ensures .0
-      and-then place .put-text2 .ensures
-      and-then number .put-decimal2 .ensures .0
-      and-then line .put-byte .ensures
+    word .put-text .ensures
+    and-then refusal .put-decimal .ensures .0
+    and-then place .put-text2 .ensures
+    and-then number .put-decimal2 .ensures .0
+    and-then line .put-byte .ensures
     )
 
 pub put-stop-spec : {M : Type 1} → statement M

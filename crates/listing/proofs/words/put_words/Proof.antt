@@ -19,9 +19,9 @@ returns c =
     let e1 = ap wordsOf (c2 .before .column1 .ensures) in
     let e2 = ap wordsOf (c2 .column2 .ensures) in (
       stored-as e0 (v0 .put-vector .ensures .0)
-      and-then stored-as e1 (v1 .put-vector2 .ensures .0)
-      and-then stored-as e2 (v2 .put-vector3 .ensures .0)
-      and-then t .put-vector4 .ensures .0,
+          and-then stored-as e1 (v1 .put-vector2 .ensures .0)
+          and-then stored-as e2 (v2 .put-vector3 .ensures .0)
+          and-then t .put-vector4 .ensures .0,
       omega (
         arith,
         v0 .put-vector .ensures .1,
