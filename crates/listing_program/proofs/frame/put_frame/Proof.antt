@@ -26,7 +26,7 @@ returns-2 c =
     let start = room .before .before .before in
     let a = start .args in
     let lines = ap (λ (answer : Answer). answerLines (a .number) answer (a .frame .target) (a .frame .bearing))
-        (solved .solve .ensures) in
+    (solved .solve .ensures) in
     written (omega (arith, room .if1 .left, room .before .left .ensures))
     (put .put-answer .ensures .1) (stored-as lines (put .put-answer .ensures .0))
 

@@ -35,8 +35,7 @@ loop-again c =
     let most = min-le-right (start .args .count) 4 in
     let few : counted .at-most-four .result ≤ 4 = omega (arith, counted .at-most-four .ensures, most) in
     let inside : loop .place < length (start .args .t5) = omega (arith, four) in
-    let room : loop .next + 320 ≤ length (loop .out) = omega (arith, loop .inv .2, loop .inv .3) in
-    (
+    let room : loop .next + 320 ≤ length (loop .out) = omega (arith, loop .inv .2, loop .inv .3) in (
       omega arith,
       next-stored _ _ _ (loop .place) _ inside room (loop .inv .1) line,
       omega (arith, line .fits, loop .inv .2),
@@ -54,7 +53,7 @@ returns c =
     let start = counted .before .before in
     let most = min-le-right (start .args .count) 4 in
     let all : loop .place ≡ min (start .args .count) 4 =
-        omega (arith, counted .at-most-four .ensures, loop .inv .0, c .loop-test .left) in
+    omega (arith, counted .at-most-four .ensures, loop .inv .0, c .loop-test .left) in
     (rw all at (loop .inv .1), omega (arith, loop .inv .2, most))
 
 pub put-poses-spec : {M : Type 1} → statement M

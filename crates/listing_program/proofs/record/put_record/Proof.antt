@@ -12,8 +12,7 @@ use Rattle.listing_program.proofs.record.put_record.Tie as tie
 returns : tie.Need-returns
 unfolding courseOf
 returns c =
-    let left = c .before .left in
-    (
+    let left = c .before .left in (
       not-written (left .ensures) (c .if1 .taken),
       rw (← left .ensures, lt-leb 1600 (left .result) (c .if1 .taken)),
     )
@@ -35,9 +34,9 @@ returns-2 c =
     let lines = ap (turnLines (a .ended) (a .listed) (a .number)) (found .read .ensures) in
     let course = ap (turnCourse (a .ended)) (found .read .ensures) in (
       written (omega (arith, room .if1 .left, left .ensures)) (put .put-found .ensures .1 .0)
-      (stored-as lines (put .put-found .ensures .0)),
+          (stored-as lines (put .put-found .ensures .0)),
       rw (← left .ensures, le-leb 1600 (left .result) (room .if1 .left))
-      (put .put-found .ensures .1 .1 ∙ course),
+          (put .put-found .ensures .1 .1 ∙ course),
     )
 
 pub put-record-spec : {M : Type 1} → statement M
