@@ -30,9 +30,7 @@ fn quadratic_holds(s: &[u8; 632]) -> bool {
     let number = word(s, 16);
     let answer = quadratic_real_monic(from_bits(word(s, 0)), from_bits(word(s, 8)));
     match answer {
-        Roots::Two(x, y) => {
-            (number == 0) & agrees(x, word(s, 24)) & agrees(y, word(s, 32))
-        }
+        Roots::Two(x, y) => { (number == 0) & agrees(x, word(s, 24)) & agrees(y, word(s, 32)) }
         Roots::One(_) => false,
         Roots::Refused(n) => number == n as u64,
     }
