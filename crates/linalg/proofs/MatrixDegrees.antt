@@ -1,13 +1,16 @@
--- The operations on matrices scale. In a product the degrees of a column of the left and of the entry, or row, of the right that it meets add up to one degree, the same for all three. Assumes nothing.
+-- The operations on matrices scale. In a product the degrees of a column of the left and of the
+-- entry, or row, of the right that it meets add up to one degree, the same for all three. Assumes
+-- nothing.
 use mathlib.Core.Path.{_≡_}
 use mathlib.Core.Bool.{_&&_}
 use lib.IntN.{ℤ, pos, _+ℤ_}
 use Rattle.ieee754.specs.Scaling.{Both, Scales}
 use Rattle.ieee754_laws.proofs.Degrees.{same, at-zero, null, !_, _⊗_, _⊕_, degree, pure, _>>=_}
 use Rattle.linalg.specs.Types.{Vector3, Matrix3}
-use Rattle.linalg.specs.Matrices.{fromColumns, fromRows, column0, column1, column2, matVec, matMul, matNormSquared, trace, matFinite}
+use Rattle.linalg.specs.Matrices.{fromColumns, fromRows, column0, column1, column2}
+use Rattle.linalg.specs.Matrices.{matVec, matMul, matNormSquared, trace, matFinite}
 use Rattle.linalg.specs.VectorScaling.{AtEntries, AtVector, AtRows, AtColumns, AtMatrix}
-use Rattle.linalg.proofs.VectorDegrees.{normSquared-scales, allFinite-same}
+use Rattle.linalg.proofs.VectorDegrees.{entries-scale, normSquared-scales, allFinite-same}
 
 module _ {k : ℤ} where
   -- what is equal in the two runs has degree 0, and what has degree 0 is equal
@@ -64,7 +67,10 @@ module _ {k : ℤ} where
     m22 = h .c2 .z;
   }
 
-  module _ {p q r : ℤ} {a a' b b' c c' : Vector3} (a-at : AtVector k p a a') (b-at : AtVector k q b b') (c-at : AtVector k r c c') where
+  module _ {p q r : ℤ} {a a' b b' c c' : Vector3}
+      (a-at : AtVector k p a a')
+      (b-at : AtVector k q b b')
+      (c-at : AtVector k r c c') where
     pub fromColumns-at : AtColumns k p q r (fromColumns a b c) (fromColumns a' b' c')
     unfolding fromColumns
     fromColumns-at = record {
@@ -89,15 +95,27 @@ module _ {k : ℤ} where
 
   -- ---- products
   module _ {p q r p' q' r' s : ℤ} (e : p +ℤ p' ≡ s) (f : q +ℤ q' ≡ s) (g : r +ℤ r' ≡ s) where
-    pub matVec-scales : {m m' : Matrix3} {v v' : Vector3} → AtColumns k p q r m m' → AtEntries k p' q' r' v v' → Both (AtVector k s) (matVec m v) (matVec m' v')
+    pub matVec-scales : {m m' : Matrix3} {v v' : Vector3}
+        → AtColumns k p q r m m'
+        → AtEntries k p' q' r' v v'
+        → Both (AtVector k s) (matVec m v) (matVec m' v')
     unfolding matVec
     matVec-scales m v =
-        degree e (! (m .c0 .x) ⊗ ! (v .x)) ⊕ degree f (! (m .c1 .x) ⊗ ! (v .y)) ⊕ degree g (! (m .c2 .x) ⊗ ! (v .z)) >>= λ _ _ x.
-        degree e (! (m .c0 .y) ⊗ ! (v .x)) ⊕ degree f (! (m .c1 .y) ⊗ ! (v .y)) ⊕ degree g (! (m .c2 .y) ⊗ ! (v .z)) >>= λ _ _ y.
-        degree e (! (m .c0 .z) ⊗ ! (v .x)) ⊕ degree f (! (m .c1 .z) ⊗ ! (v .y)) ⊕ degree g (! (m .c2 .z) ⊗ ! (v .z)) >>= λ _ _ z.
-        pure (record { x = x; y = y; z = z })
+        entries-scale
+        (degree e (! (m .c0 .x) ⊗ ! (v .x))
+        ⊕ degree f (! (m .c1 .x) ⊗ ! (v .y))
+        ⊕ degree g (! (m .c2 .x) ⊗ ! (v .z)))
+        (degree e (! (m .c0 .y) ⊗ ! (v .x))
+        ⊕ degree f (! (m .c1 .y) ⊗ ! (v .y))
+        ⊕ degree g (! (m .c2 .y) ⊗ ! (v .z)))
+        (degree e (! (m .c0 .z) ⊗ ! (v .x))
+        ⊕ degree f (! (m .c1 .z) ⊗ ! (v .y))
+        ⊕ degree g (! (m .c2 .z) ⊗ ! (v .z)))
 
-    pub matMul-scales : {a a' b b' : Matrix3} → AtColumns k p q r a a' → AtRows k p' q' r' b b' → Both (AtMatrix k s) (matMul a b) (matMul a' b')
+    pub matMul-scales : {a a' b b' : Matrix3}
+        → AtColumns k p q r a a'
+        → AtRows k p' q' r' b b'
+        → Both (AtMatrix k s) (matMul a b) (matMul a' b')
     unfolding matMul
     matMul-scales a b =
         matVec-scales a (column0-at b) >>= λ _ _ c0.
@@ -106,14 +124,24 @@ module _ {k : ℤ} where
         pure (matrix-at (fromColumns-at c0 c1 c2))
 
   -- ---- sums, and the test for finite entries
-  pub matNormSquared-scales : {n : ℤ} {m m' : Matrix3} → AtMatrix k n m m' → Scales k (n +ℤ n) (matNormSquared m) (matNormSquared m')
+  pub matNormSquared-scales : {n : ℤ} {m m' : Matrix3}
+      → AtMatrix k n m m'
+      → Scales k (n +ℤ n) (matNormSquared m) (matNormSquared m')
   unfolding matNormSquared
-  matNormSquared-scales m = normSquared-scales (column0-at m) ⊕ normSquared-scales (column1-at m) ⊕ normSquared-scales (column2-at m)
+  matNormSquared-scales m =
+      normSquared-scales (column0-at m)
+      ⊕ normSquared-scales (column1-at m)
+      ⊕ normSquared-scales (column2-at m)
 
   pub trace-scales : {n : ℤ} {m m' : Matrix3} → AtMatrix k n m m' → Scales k n (trace m) (trace m')
   unfolding trace
   trace-scales m = ! null ⊕ ! (m .m00) ⊕ ! (m .m11) ⊕ ! (m .m22)
 
-  pub matFinite-same : {p q r : ℤ} {m m' : Matrix3} → AtRows k p q r m m' → matFinite m ≡ matFinite m'
+  pub matFinite-same : {p q r : ℤ} {m m' : Matrix3}
+      → AtRows k p q r m m'
+      → matFinite m ≡ matFinite m'
   unfolding matFinite
-  matFinite-same m = λ i. allFinite-same (column0-at m) i && allFinite-same (column1-at m) i && allFinite-same (column2-at m) i
+  matFinite-same m = λ i.
+      allFinite-same (column0-at m) i
+      && allFinite-same (column1-at m) i
+      && allFinite-same (column2-at m) i

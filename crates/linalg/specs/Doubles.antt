@@ -1,4 +1,5 @@
--- The entries of a vector are doubles: what a Vector3<f64> of the Rust is, where a definition ranges over every float.
+-- The entries of a vector are doubles: what a Vector3<f64> of the Rust is, where a definition
+-- ranges over every float.
 use lib.Dec.{T}
 use lib.Ieee.{binary64, fits}
 use Rattle.linalg.specs.Types.{Vector3}

@@ -1,4 +1,5 @@
--- nalgebra's operations on vectors and matrices of three doubles a side, each with its order of operations.
+-- nalgebra's operations on vectors and matrices of three doubles a side, each with its order of
+-- operations.
 pub mod Types
 pub mod Vectors
 pub mod Doubles

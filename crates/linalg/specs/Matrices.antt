@@ -1,4 +1,5 @@
--- nalgebra's operations on Matrix3<f64>, in document 01's reading ("Rounding and sums"): a squared length is taken column by column, matrix times vector adds columns left to right, matrix times
+-- nalgebra's operations on Matrix3<f64>, in document 01's reading ("Rounding and sums"): a squared
+-- length is taken column by column, matrix times vector adds columns left to right, matrix times
 -- matrix does so for each column, and `trace` starts from plus zero.
 use mathlib.Core.Bool.{Bool, _&&_}
 use lib.Ieee.{Float}

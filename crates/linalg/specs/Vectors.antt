@@ -1,4 +1,6 @@
--- nalgebra's operations on Vector3<f64>, in document 01's reading ("Rounding and sums"): a dot is (first + second) + third, a squared length is the dot with itself, and `sum` starts from plus zero.
+-- nalgebra's operations on Vector3<f64>, in document 01's reading ("Rounding and sums"): a dot is
+-- (first + second) + third, a squared length is the dot with itself, and `sum` starts from plus
+-- zero.
 use mathlib.Core.Bool.{Bool, _&&_}
 use lib.Ieee.{Float}
 use lib.Ieee.Scale.{finite}

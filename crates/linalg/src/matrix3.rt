@@ -1,6 +1,7 @@
 // nalgebra's Matrix3<f64>, by its entries, the row first: the operations that the solver uses.
 ghost use mathlib.Core.Path.{_≡_};
-ghost use Rattle.linalg.specs.Matrices.{fromColumns, fromRows, column0, column1, column2, matVec, matMul, matNormSquared, trace, matFinite};
+ghost use Rattle.linalg.specs.Matrices.{fromColumns, fromRows, column0, column1, column2};
+ghost use Rattle.linalg.specs.Matrices.{matVec, matMul, matNormSquared, trace, matFinite};
 use crate::vector3::Vector3;
 
 pub struct Matrix3 {

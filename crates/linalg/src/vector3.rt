@@ -1,6 +1,7 @@
 // nalgebra's Vector3<f64>: the operations that the solver uses.
 ghost use mathlib.Core.Path.{_≡_};
-ghost use Rattle.linalg.specs.Vectors.{vecSub, vecAdd, vecMul, vecDiv, dot, normSquared, norm, cross, absSum, allFinite, zeros};
+ghost use Rattle.linalg.specs.Vectors.{vecSub, vecAdd, vecMul, vecDiv, dot, normSquared};
+ghost use Rattle.linalg.specs.Vectors.{norm, cross, absSum, allFinite, zeros};
 use ieee754::abs::abs;
 use ieee754::is_finite::is_finite;
 use ieee754::sqrt::sqrt;

@@ -7,7 +7,8 @@ use crate::words::put_words;
 use frames::pose::Pose;
 ghost use mathlib.Core.Path.{_≡_};
 ghost use Prim.Native.Nat.{_-_};
-ghost use Rattle.listing.specs.Lines.{Written, headerLine, refusedLine, acceptedLine, poseLine, stopLine, endLine};
+ghost use Rattle.listing.specs.Lines.{Written, headerLine, refusedLine, acceptedLine};
+ghost use Rattle.listing.specs.Lines.{poseLine, stopLine, endLine};
 
 const LINE: usize = 320;
 

@@ -1,7 +1,7 @@
 // The refinement of depths in place: the triple is lent by `&mut` and altered there, as in
-// refine_depths of pose/p3p/common.rs (document 01, "What must change shape"). A thin layer over the
-// form by value, p3p_common::refine_depths, which does the work. The prover covers no reference to a
-// struct, so the proofs of both functions walk through their statements by hand.
+// refine_depths of pose/p3p/common.rs (document 01, "What must change shape"). A thin layer over
+// the form by value, p3p_common::refine_depths, which does the work. The prover covers no reference
+// to a struct, so the proofs of both functions walk through their statements by hand.
 ghost use mathlib.Core.Path.{_≡_};
 ghost use Prim.Native.Nat.{ℕ};
 ghost use Rattle.p3p_common.specs.RefineDepths.{refineDepths};

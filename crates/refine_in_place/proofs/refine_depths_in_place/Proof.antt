@@ -1,6 +1,6 @@
 -- `refine_depths_in_place` meets its contract: a walk through its statements.
---     fn refine_depths_in_place(_1: &mut Vector3, _2: SquaredEdges, _3: Cosines, _4: u32) -> _0: u32
---     locals: _5: Refined, _6: Vector3
+--     fn refine_depths_in_place(_1: &mut Vector3, _2: SquaredEdges, _3: Cosines, _4: u32) -> u32
+--     locals: _0, the result, _5: Refined, _6: Vector3
 --         _6 = *_1;  _5 = refine_depths(_6, _2, _3, _4);
 --         *_1 = _5.depths;  _0 = _5.updates;  return
 -- The reference is opened once, before the first statement, and shut once, after the last:

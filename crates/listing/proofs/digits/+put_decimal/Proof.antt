@@ -62,7 +62,9 @@ module _ (t : ℕ) where
       spelt-out n (stored-as digit (put .put-byte .ensures))
 
   put-decimal-requires : lts.Need-put-decimal-requires calls asked reads.Post
-  put-decimal-requires c _ = (omega (arith, c .before .before .before .pre .0), omega arith)
+  put-decimal-requires c _ =
+      let start = c .before .before .before in
+      (omega (arith, start .pre .0), omega arith)
 
   put-byte-requires-2 : lts.Need-put-byte-requires-2 calls asked reads.Post
   put-byte-requires-2 c _ =

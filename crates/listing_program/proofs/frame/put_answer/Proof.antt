@@ -24,10 +24,9 @@ abbrev entry : tie.After-put-accepted → tie.Start
 entry c = let accepted = c .before .before .before .before .before .before in accepted .before .before
 
 -- the first line is in place
-first : (c : tie.After-put-accepted)
-    → Stored (entry c .args .out .now) (entry c .args .at)
-    (acceptedLine (entry c .args .number) (entry c .args .answer .count) (c .before .before .place-of .result))
-    (c .put-accepted .result) (c .put-accepted .last .0)
+first : (c : tie.After-put-accepted) → let a = entry c .args in
+    let line = acceptedLine (a .number) (a .answer .count) (c .before .before .place-of .result) in
+    Stored (a .out .now) (a .at) line (c .put-accepted .result) (c .put-accepted .last .0)
 first c = stored (c .put-accepted .ensures) (omega (arith, entry c .pre))
 
 put-poses-requires : tie.Need-put-poses-requires

@@ -15,8 +15,8 @@ use Rattle.listing_program.proofs.run.step.Statement.{statement}
 use Rattle.listing_program.proofs.run.step.Tie as tie
 
 -- no more is listed than has been read, and no more than the buffer holds
-ready-inside : (c : tie.After-least) → let number = c .before in
-    c .least .result ≤ length (number .before .before .before .args .input .now)
+ready-inside : (c : tie.After-least) → let start = c .before .before .before .before in
+    c .least .result ≤ length (start .args .input .now)
 ready-inside c =
     let start = c .before .before .before .before in
     let most = min-le-right (start .args .state .filled) (length (start .args .input .now)) in

@@ -11,7 +11,8 @@ use Rattle.listing_program.proofs.stream.fill.Statement.{statement}
 use Rattle.listing_program.proofs.stream.fill.Tie as tie
 
 -- what is filled stays, whatever is read behind it
-kept : (c : tie.After-read) → let a = c .before .before .before .before .before .args in
+kept : (c : tie.After-read) → let room = c .before .before .before in
+    let a = room .before .before .args in
     let size = length (now (a .input)) in
     take (a .filled) (putMid (a .filled) (size - a .filled) (now (a .input)) (c .read .last .1 .0))
     ≡ take (a .filled) (now (a .input))
@@ -37,12 +38,14 @@ returns-3 c =
 returns-4 : tie.Need-returns-4
 returns-4 c =
     let failed = c .before .before .before .before in
-    (tt, kept (failed .before .before .before .before))
+    let read = failed .before .before .before .before in
+    (tt, kept read)
 
 returns-5 : tie.Need-returns-5
 returns-5 c =
     let some = c .before .before .before .before in
-    ((search needs, search needs), kept (some .before .before .before .before))
+    let read = some .before .before .before .before in
+    ((search needs, search needs), kept read)
 
 pub fill-spec : {M : Type 1} → statement M
 fill-spec =
