@@ -5,14 +5,10 @@ use mathlib.Core.Bool.{_&&_}
 use lib.IntN.{ℤ, pos, _+ℤ_, _-ℤ_}
 use lib.Ieee.{Float}
 use Rattle.ieee754.specs.Scaling.{Both, At, Scales}
-<<<<<<< HEAD
-use Rattle.ieee754_laws.proofs.Degrees.{same, at-zero, null, !_, _⊗_, _⊘_, _⊕_, _⊖_, pure, _>>=_, abs-at, finite-same}
-=======
 use Rattle.ieee754.specs.Traced as traced
 use Rattle.ieee754.specs.Traced.{Traced}
 use Rattle.ieee754_laws.proofs.Degrees.{same, at-zero, null, !_, _⊗_, _⊘_, _⊕_, _⊖_, pure, _>>=_}
 use Rattle.ieee754_laws.proofs.Degrees.{abs-at, finite-same}
->>>>>>> 1f2b95a0968f8aa5e980478794a8a8b0c337adab
 use Rattle.linalg.specs.Types.{Vector3}
 use Rattle.linalg.specs.Vectors.{vector, zeros, vecSub, vecAdd, vecMul, vecDiv, dot}
 use Rattle.linalg.specs.Vectors.{normSquared, cross, absSum, allFinite}

@@ -14,14 +14,8 @@ unfolding headerLine
 returns-2 c =
     let line = c .before .before in
     let room = line .before .before .before in
-<<<<<<< HEAD
-    written (omega (arith, room .if1 .left, room .before .left .ensures)) (omega arith) (
-    line .put-text .ensures
-    )
-=======
     written (omega (arith, room .if1 .left, room .before .left .ensures)) (omega arith)
     (line .put-text .ensures)
->>>>>>> 1f2b95a0968f8aa5e980478794a8a8b0c337adab
 
 pub put-header-spec : {M : Type 1} → statement M
 put-header-spec =
