@@ -14,7 +14,8 @@ use Rattle.choice.specs.Types.{Vector3, Pose, Choice, Best, Refused}
 -- a finite score beside the choice so far: the lower one, and the earlier on a tie
 unfoldable pub lower : Choice → ℕ → Float → Choice
 lower (Refused number) place value = Best place value
-lower (Best held lowest) place value = if lt value lowest then Best place value else Best held lowest
+lower (Best held lowest) place value =
+    if lt value lowest then Best place value else Best held lowest
 
 -- the choice so far with the pose at a place, from 1
 unfoldable pub better : Choice → ℕ → Float → Choice

@@ -9,5 +9,10 @@ use Rattle.depths.specs.Types.{Candidates}
 use Rattle.depths.proofs.candidates.Candidates as candidates
 use Rattle.depths.proofs.candidates.Candidates.Laws as candidates-laws
 
-pub four-slots : (found : Candidates) → Is (row candidates.the-type) found (struct.val candidates.the-type candidates-laws.the-laws found ∷ []) → length (found .depths) ≡ 4
-four-slots found ok = simp length-map at (struct.owed candidates.the-type candidates-laws.the-laws found (struct.val candidates.the-type candidates-laws.the-laws found ∷ []) ok .1 .0 .1 .0 .1)
+pub four-slots : (found : Candidates)
+    → Is (row candidates.the-type) found
+    (struct.val candidates.the-type candidates-laws.the-laws found ∷ [])
+    → length (found .depths) ≡ 4
+four-slots found ok =
+    simp length-map at (struct.owed candidates.the-type candidates-laws.the-laws found
+    (struct.val candidates.the-type candidates-laws.the-laws found ∷ []) ok .1 .0 .1 .0 .1)

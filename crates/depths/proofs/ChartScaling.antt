@@ -1,4 +1,5 @@
--- The charts: their quadratics have their coefficients at degree 0, and the depth candidates are at degree 1, as many in both runs. Assumes nothing.
+-- The charts: their quadratics have their coefficients at degree 0, and the depth candidates are at
+-- degree 1, as many in both runs. Assumes nothing.
 use mathlib.Core.Path.{_≡_, refl, ap, ap₂}
 use mathlib.Core.Bool.{Bool, not, _||_}
 use mathlib.Core.List.{Forall₂}
@@ -10,7 +11,9 @@ use Rattle.ieee754.specs.Literal.{one, two}
 use Rattle.ieee754.specs.Magnitude.{abs}
 use Rattle.ieee754.specs.Traced.{Traced}
 use Rattle.ieee754.specs.Scaling.{Both, At}
-use Rattle.ieee754_laws.proofs.Degrees.{same, null, !_, ⊝_, √_, _⊗_, _⊘_, _⊕_, _⊖_, pure, _>>=_, _>>≡_, if_then_else_, choose, lt-same, le-same, eq-same, finite-same, equal}
+use Rattle.ieee754_laws.proofs.Degrees.{same, null, !_, ⊝_, √_, _⊗_, _⊘_, _⊕_, _⊖_, pure, _>>=_}
+use Rattle.ieee754_laws.proofs.Degrees.{_>>≡_, if_then_else_, choose, lt-same, le-same, eq-same}
+use Rattle.ieee754_laws.proofs.Degrees.{finite-same, equal}
 use Rattle.ieee754_laws.proofs.Entries.{set-entries, four-entries}
 use Rattle.linalg.specs.VectorScaling.{AtVector}
 use Rattle.linalg.proofs.VectorDegrees.{null-vector}
@@ -19,7 +22,8 @@ use Rattle.polynomial.specs.RootScaling.{AtRoots}
 use Rattle.polynomial.proofs.RootScaling.{withPair-scales}
 use Rattle.polynomial.proofs.QuadraticScaling.{quadratic-scales}
 use Rattle.depths.specs.DepthSlots.{noCandidates, pushIfPositive}
-use Rattle.depths.specs.Charts.{forRoots, noDivisor, firstChartDepths, firstChart, secondChartDepths, weightChart, secondChart, chart}
+use Rattle.depths.specs.Charts.{forRoots, noDivisor, firstChartDepths, firstChart}
+use Rattle.depths.specs.Charts.{secondChartDepths, weightChart, secondChart, chart}
 use Rattle.depths.specs.Types.{Vector3, SquaredEdges, Roots, Factors, Candidates}
 
 pub record AtCandidates (k : ℤ) (c c' : Candidates) : Type 0 where
@@ -32,7 +36,11 @@ module _ {k : ℤ} where
   unfolding noCandidates
   noCandidates-at = record { count = refl; depths = four-entries null-vector }
 
-  pushIfPositive-at : {c c' : Candidates} {d d' : Float} {v v' : Vector3} → AtCandidates k c c' → At k (pos 1) d d' → AtVector k (pos 1) v v' → AtCandidates k (pushIfPositive c d v) (pushIfPositive c' d' v')
+  pushIfPositive-at : {c c' : Candidates} {d d' : Float} {v v' : Vector3}
+      → AtCandidates k c c'
+      → At k (pos 1) d d'
+      → AtVector k (pos 1) v v'
+      → AtCandidates k (pushIfPositive c d v) (pushIfPositive c' d' v')
   unfolding pushIfPositive
   pushIfPositive-at found depth depths =
       choose (AtCandidates k) (lt-same null depth)
@@ -44,9 +52,11 @@ module _ {k : ℤ} where
       found)
       found
 
-  forRoots-scales : {r r' : Roots} {turn turn' : Candidates → Float → Traced Candidates} {c c' : Candidates}
+  forRoots-scales : {r r' : Roots} {turn turn' : Candidates → Float → Traced Candidates}
+      {c c' : Candidates}
       → AtRoots k (pos 0) r r'
-      → ((c c' : Candidates) (t t' : Float) → AtCandidates k c c' → At k (pos 0) t t' → Both (AtCandidates k) (turn c t) (turn' c' t'))
+      → ((c c' : Candidates) (t t' : Float) → AtCandidates k c c' → At k (pos 0) t t' →
+      Both (AtCandidates k) (turn c t) (turn' c' t'))
       → AtCandidates k c c'
       → Both (AtCandidates k) (forRoots r turn c) (forRoots r' turn' c')
   unfolding forRoots
@@ -62,7 +72,12 @@ module _ {k : ℤ} where
   module _ {e e' : SquaredEdges} (factors : Factors) (E : AtEdges k e e') where
     -- ---- the chart for u0.abs() < u1.abs()
     module _ (nullVector : Vector3) where
-      firstChartDepths-scales : (c c' : Candidates) (t t' : Float) → AtCandidates k c c' → At k (pos 0) t t' → Both (AtCandidates k) (firstChartDepths e factors nullVector c t) (firstChartDepths e' factors nullVector c' t')
+      firstChartDepths-scales : (c c' : Candidates) (t t' : Float)
+          → AtCandidates k c c'
+          → At k (pos 0) t t'
+          → Both (AtCandidates k)
+          (firstChartDepths e factors nullVector c t)
+          (firstChartDepths e' factors nullVector c' t')
       unfolding firstChartDepths
       firstChartDepths-scales _ _ _ _ found tau =
           let u0 = same (nullVector .x) in
@@ -76,7 +91,11 @@ module _ {k : ℤ} where
           ⊝ (! u0 ⊗ ! depth0 ⊕ ! u2 ⊗ ! depth2) ⊘ ! u1 >>= λ _ _ depth1.
           pure (pushIfPositive-at found depth1 (record { x = depth0; y = depth1; z = depth2 })))
 
-      firstChart-scales : {c c' : Candidates} → AtCandidates k c c' → Both (AtCandidates k) (firstChart e factors nullVector c) (firstChart e' factors nullVector c')
+      firstChart-scales : {c c' : Candidates}
+          → AtCandidates k c c'
+          → Both (AtCandidates k)
+          (firstChart e factors nullVector c)
+          (firstChart e' factors nullVector c')
       unfolding firstChart
       firstChart-scales found =
           let a01 = E .a01 in
@@ -86,17 +105,25 @@ module _ {k : ℤ} where
           let u0 = same (nullVector .x) in
           let u1 = same (nullVector .y) in
           let u2 = same (nullVector .z) in
-          (! a12 ⊖ ! a01) ⊗ ! u2 ⊗ ! u2 ⊖ ! a01 ⊗ ! u1 ⊗ ! u1 ⊕ ! a01 ⊗ ! b12 ⊗ ! u1 ⊗ ! u2 >>= λ _ _ denominator.
+          (! a12 ⊖ ! a01) ⊗ ! u2 ⊗ ! u2 ⊖ ! a01 ⊗ ! u1 ⊗ ! u1 ⊕ ! a01 ⊗ ! b12 ⊗ ! u1 ⊗ ! u2 >>=
+          λ _ _ denominator.
           if noDivisor-same denominator then pure found
           else (
-          (! same two ⊗ (! a12 ⊖ ! a01) ⊗ ! u0 ⊗ ! u2 ⊕ ! a01 ⊗ ! b12 ⊗ ! u0 ⊗ ! u1 ⊖ ! a12 ⊗ ! b01 ⊗ ! u1 ⊗ ! u2) ⊘ ! denominator >>= λ _ _ quadraticB.
-          ((! a12 ⊖ ! a01) ⊗ ! u0 ⊗ ! u0 ⊕ ! a12 ⊗ ! u1 ⊗ ! u1 ⊖ ! a12 ⊗ ! b01 ⊗ ! u0 ⊗ ! u1) ⊘ ! denominator >>= λ _ _ quadraticC.
+          (! same two ⊗ (! a12 ⊖ ! a01) ⊗ ! u0 ⊗ ! u2 ⊕ ! a01 ⊗ ! b12 ⊗ ! u0 ⊗ ! u1
+          ⊖ ! a12 ⊗ ! b01 ⊗ ! u1 ⊗ ! u2) ⊘ ! denominator >>= λ _ _ quadraticB.
+          ((! a12 ⊖ ! a01) ⊗ ! u0 ⊗ ! u0 ⊕ ! a12 ⊗ ! u1 ⊗ ! u1 ⊖ ! a12 ⊗ ! b01 ⊗ ! u0 ⊗ ! u1)
+          ⊘ ! denominator >>= λ _ _ quadraticC.
           quadratic-scales quadraticB quadraticC >>= λ _ _ roots.
           forRoots-scales roots firstChartDepths-scales found)
 
     -- ---- the other chart
     module _ (w0 w1 : Float) where
-      secondChartDepths-scales : (c c' : Candidates) (t t' : Float) → AtCandidates k c c' → At k (pos 0) t t' → Both (AtCandidates k) (secondChartDepths e factors w0 w1 c t) (secondChartDepths e' factors w0 w1 c' t')
+      secondChartDepths-scales : (c c' : Candidates) (t t' : Float)
+          → AtCandidates k c c'
+          → At k (pos 0) t t'
+          → Both (AtCandidates k)
+          (secondChartDepths e factors w0 w1 c t)
+          (secondChartDepths e' factors w0 w1 c' t')
       unfolding secondChartDepths
       secondChartDepths-scales _ _ _ _ found tau =
           ! tau ⊗ (! same (factors .b12) ⊕ ! tau) ⊕ ! same one >>= λ _ _ depthDenominator.
@@ -107,7 +134,9 @@ module _ {k : ℤ} where
           ! same w0 ⊗ ! depth1 ⊕ ! same w1 ⊗ ! depth2 >>= λ _ _ depth0.
           pure (pushIfPositive-at found depth0 (record { x = depth0; y = depth1; z = depth2 })))
 
-      weightChart-scales : {c c' : Candidates} → AtCandidates k c c' → Both (AtCandidates k) (weightChart e factors w0 w1 c) (weightChart e' factors w0 w1 c')
+      weightChart-scales : {c c' : Candidates}
+          → AtCandidates k c c'
+          → Both (AtCandidates k) (weightChart e factors w0 w1 c) (weightChart e' factors w0 w1 c')
       unfolding weightChart
       weightChart-scales found =
           let a01 = E .a01 in
@@ -119,13 +148,19 @@ module _ {k : ℤ} where
           (! a02 ⊖ ! a01) ⊗ ! W1 ⊗ ! W1 ⊖ ! a01 ⊗ ! b02 ⊗ ! W1 ⊖ ! a01 >>= λ _ _ denominator.
           if noDivisor-same denominator then pure found
           else (
-          (! a02 ⊗ ! b01 ⊗ ! W1 ⊖ ! a01 ⊗ ! b02 ⊗ ! W0 ⊖ ! same two ⊗ ! W0 ⊗ ! W1 ⊗ (! a01 ⊖ ! a02)) ⊘ ! denominator >>= λ _ _ quadraticB.
-          ((! a02 ⊖ ! a01) ⊗ ! W0 ⊗ ! W0 ⊕ ! a02 ⊗ ! b01 ⊗ ! W0 ⊕ ! a02) ⊘ ! denominator >>= λ _ _ quadraticC.
+          (! a02 ⊗ ! b01 ⊗ ! W1 ⊖ ! a01 ⊗ ! b02 ⊗ ! W0 ⊖ ! same two ⊗ ! W0 ⊗ ! W1 ⊗ (! a01 ⊖ ! a02))
+          ⊘ ! denominator >>= λ _ _ quadraticB.
+          ((! a02 ⊖ ! a01) ⊗ ! W0 ⊗ ! W0 ⊕ ! a02 ⊗ ! b01 ⊗ ! W0 ⊕ ! a02) ⊘ ! denominator >>=
+          λ _ _ quadraticC.
           quadratic-scales quadraticB quadraticC >>= λ _ _ roots.
           forRoots-scales roots secondChartDepths-scales found)
 
     module _ (nullVector : Vector3) where
-      secondChart-scales : {c c' : Candidates} → AtCandidates k c c' → Both (AtCandidates k) (secondChart e factors nullVector c) (secondChart e' factors nullVector c')
+      secondChart-scales : {c c' : Candidates}
+          → AtCandidates k c c'
+          → Both (AtCandidates k)
+          (secondChart e factors nullVector c)
+          (secondChart e' factors nullVector c')
       unfolding secondChart
       secondChart-scales found =
           if refl {a = noDivisor (nullVector .x)} then pure found
@@ -135,6 +170,11 @@ module _ {k : ℤ} where
           equal {k = k} (! same (nullVector .z) ⊗ ! same inverse) >>≡ λ w1.
           weightChart-scales w0 w1 found)
 
-      pub chart-scales : {c c' : Candidates} → AtCandidates k c c' → Both (AtCandidates k) (chart e factors nullVector c) (chart e' factors nullVector c')
+      pub chart-scales : {c c' : Candidates}
+          → AtCandidates k c c'
+          → Both (AtCandidates k) (chart e factors nullVector c) (chart e' factors nullVector c')
       unfolding chart
-      chart-scales found = if refl {a = lt (abs (nullVector .x)) (abs (nullVector .y))} then firstChart-scales nullVector found else secondChart-scales found
+      chart-scales found =
+          if refl {a = lt (abs (nullVector .x)) (abs (nullVector .y))}
+          then firstChart-scales nullVector found
+          else secondChart-scales found

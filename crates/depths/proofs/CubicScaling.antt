@@ -1,11 +1,14 @@
--- The cubic's coefficients are at degree 4, so whether an ordering is usable, and its condition, are the same in the two runs. Assumes nothing.
+-- The cubic's coefficients are at degree 4, so whether an ordering is usable, and its condition,
+-- are the same in the two runs. Assumes nothing.
 use mathlib.Core.Path.{_≡_, refl, ap, ap₂}
 use mathlib.Core.Bool.{Bool, not, _||_}
 use lib.IntN.{ℤ, pos}
 use lib.Ieee.{Float}
 use Rattle.ieee754.specs.Literal.{two, sixtyFour, epsilon}
 use Rattle.ieee754.specs.Scaling.{Both, At, Scales}
-use Rattle.ieee754_laws.proofs.Degrees.{same, null, !_, _⊗_, _⊘_, _⊕_, _⊖_, pure, _>>=_, _>>≡_, if_then_else_, abs-at, max-at, le-same, eq-same, finite-same, alike, equal}
+use Rattle.ieee754_laws.proofs.Degrees.{same, null, !_, _⊗_, _⊘_, _⊕_, _⊖_, pure, _>>=_, _>>≡_}
+use Rattle.ieee754_laws.proofs.Degrees.{if_then_else_, abs-at, max-at, le-same, eq-same}
+use Rattle.ieee754_laws.proofs.Degrees.{finite-same, alike, equal}
 use Rattle.frames.specs.FrameScaling.{AtWorld, AtEdges}
 use Rattle.depths.specs.Angles.{cosines, squaredSines}
 use Rattle.depths.specs.Cubic.{cubicCoefficients, coefficientScale, isUnusable}
@@ -20,7 +23,9 @@ pub record AtCoefficients (k : ℤ) (c c' : Coefficients) : Type 0 where
   pub cubic0 : At k (pos 4) (c .cubic0) (c' .cubic0)
 
 module _ {k : ℤ} where
-  pub cubicCoefficients-scales : {e e' : SquaredEdges} (sines : SquaredSines) → AtEdges k e e' → Both (AtCoefficients k) (cubicCoefficients e sines) (cubicCoefficients e' sines)
+  pub cubicCoefficients-scales : {e e' : SquaredEdges} (sines : SquaredSines)
+      → AtEdges k e e'
+      → Both (AtCoefficients k) (cubicCoefficients e sines) (cubicCoefficients e' sines)
   unfolding cubicCoefficients
   cubicCoefficients-scales sines e =
       let a01 = e .a01 in
@@ -31,16 +36,24 @@ module _ {k : ℤ} where
       let s12 = same (sines .s12) in
       let s01 = same (sines .s01) in
       ! a02 ⊗ (! a12 ⊗ ! s20 ⊖ ! a02 ⊗ ! s12) >>= λ _ _ cubic3.
-      ! same two ⊗ ! triple ⊗ ! a12 ⊗ ! a02 ⊕ ! a02 ⊗ (! same two ⊗ ! a01 ⊕ ! a02) ⊗ ! s12 ⊕ ! a12 ⊗ (! a12 ⊖ ! a01) ⊗ ! s20 >>= λ _ _ cubic2.
-      ! a12 ⊗ (! a02 ⊖ ! a12) ⊗ ! s01 ⊖ ! a01 ⊗ ! a01 ⊗ ! s12 ⊖ ! same two ⊗ ! a01 ⊗ (! triple ⊗ ! a12 ⊕ ! a02 ⊗ ! s12) >>= λ _ _ cubic1.
+      ! same two ⊗ ! triple ⊗ ! a12 ⊗ ! a02 ⊕ ! a02 ⊗ (! same two ⊗ ! a01 ⊕ ! a02) ⊗ ! s12
+      ⊕ ! a12 ⊗ (! a12 ⊖ ! a01) ⊗ ! s20 >>= λ _ _ cubic2.
+      ! a12 ⊗ (! a02 ⊖ ! a12) ⊗ ! s01 ⊖ ! a01 ⊗ ! a01 ⊗ ! s12
+      ⊖ ! same two ⊗ ! a01 ⊗ (! triple ⊗ ! a12 ⊕ ! a02 ⊗ ! s12) >>= λ _ _ cubic1.
       ! a01 ⊗ (! a01 ⊗ ! s12 ⊖ ! a12 ⊗ ! s01) >>= λ _ _ cubic0.
       pure (record { cubic3 = cubic3; cubic2 = cubic2; cubic1 = cubic1; cubic0 = cubic0 })
 
-  coefficientScale-at : {c c' : Coefficients} → AtCoefficients k c c' → At k (pos 4) (coefficientScale c) (coefficientScale c')
+  coefficientScale-at : {c c' : Coefficients}
+      → AtCoefficients k c c'
+      → At k (pos 4) (coefficientScale c) (coefficientScale c')
   unfolding coefficientScale
-  coefficientScale-at c = max-at (max-at (max-at (abs-at (c .cubic3)) (abs-at (c .cubic2))) (abs-at (c .cubic1))) (abs-at (c .cubic0))
+  coefficientScale-at c =
+      max-at (max-at (max-at (abs-at (c .cubic3)) (abs-at (c .cubic2))) (abs-at (c .cubic1)))
+      (abs-at (c .cubic0))
 
-  pub isUnusable-same : {c c' : Coefficients} → AtCoefficients k c c' → Both {A = Bool} _≡_ (isUnusable c) (isUnusable c')
+  pub isUnusable-same : {c c' : Coefficients}
+      → AtCoefficients k c c'
+      → Both {A = Bool} _≡_ (isUnusable c) (isUnusable c')
   unfolding isUnusable
   isUnusable-same c =
       let scale = coefficientScale-at c in
@@ -50,18 +63,27 @@ module _ {k : ℤ} where
       pure (le-same (abs-at (c .cubic3)) limit))
 
   -- ---- the condition of an ordering
-  foldedScale-at : {c c' : Coefficients} → AtCoefficients k c c' → At k (pos 4) (foldedScale c) (foldedScale c')
+  foldedScale-at : {c c' : Coefficients}
+      → AtCoefficients k c c'
+      → At k (pos 4) (foldedScale c) (foldedScale c')
   unfolding foldedScale
-  foldedScale-at c = max-at (max-at (max-at (max-at null (abs-at (c .cubic3))) (abs-at (c .cubic2))) (abs-at (c .cubic1))) (abs-at (c .cubic0))
+  foldedScale-at c =
+      max-at
+      (max-at (max-at (max-at null (abs-at (c .cubic3))) (abs-at (c .cubic2))) (abs-at (c .cubic1)))
+      (abs-at (c .cubic0))
 
-  leadingShare-scales : {c c' : Coefficients} → AtCoefficients k c c' → Scales k (pos 0) (leadingShare c) (leadingShare c')
+  leadingShare-scales : {c c' : Coefficients}
+      → AtCoefficients k c c'
+      → Scales k (pos 0) (leadingShare c) (leadingShare c')
   unfolding leadingShare
   leadingShare-scales c =
       let scale = foldedScale-at c in
       if ap₂ (λ (a b : Bool). a || not b) (eq-same scale null) (finite-same scale) then pure null
       else ! abs-at (c .cubic3) ⊘ ! scale
 
-  pub leadingCubicCondition-same : {w w' : World} (bearings : Bearings) → AtWorld k w w' → Both {A = Float} _≡_ (leadingCubicCondition w bearings) (leadingCubicCondition w' bearings)
+  pub leadingCubicCondition-same : {w w' : World} (bearings : Bearings)
+      → AtWorld k w w'
+      → Both {A = Float} _≡_ (leadingCubicCondition w bearings) (leadingCubicCondition w' bearings)
   unfolding leadingCubicCondition
   leadingCubicCondition-same bearings w =
       edgeVectors-scales w >>= λ _ _ edges.

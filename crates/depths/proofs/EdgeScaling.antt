@@ -1,4 +1,5 @@
--- The edges of the world's triangle are at degree 1, and their squared lengths at 2. Assumes nothing.
+-- The edges of the world's triangle are at degree 1, and their squared lengths at 2. Assumes
+-- nothing.
 use lib.IntN.{ℤ, pos}
 use Rattle.ieee754.specs.Scaling.{Both}
 use Rattle.ieee754_laws.proofs.Degrees.{pure, _>>=_}
@@ -14,7 +15,9 @@ pub record AtEdgeVectors (k : ℤ) (v v' : EdgeVectors) : Type 0 where
   pub d12 : AtVector k (pos 1) (v .d12) (v' .d12)
 
 module _ {k : ℤ} where
-  pub edgeVectors-scales : {w w' : World} → AtWorld k w w' → Both (AtEdgeVectors k) (edgeVectors w) (edgeVectors w')
+  pub edgeVectors-scales : {w w' : World}
+      → AtWorld k w w'
+      → Both (AtEdgeVectors k) (edgeVectors w) (edgeVectors w')
   unfolding edgeVectors
   edgeVectors-scales w =
       vecSub-scales (w .p0) (w .p1) >>= λ _ _ d01.
@@ -22,7 +25,9 @@ module _ {k : ℤ} where
       vecSub-scales (w .p1) (w .p2) >>= λ _ _ d12.
       pure (record { d01 = d01; d02 = d02; d12 = d12 })
 
-  pub squaredEdges-scales : {v v' : EdgeVectors} → AtEdgeVectors k v v' → Both (AtEdges k) (squaredEdges v) (squaredEdges v')
+  pub squaredEdges-scales : {v v' : EdgeVectors}
+      → AtEdgeVectors k v v'
+      → Both (AtEdges k) (squaredEdges v) (squaredEdges v')
   unfolding squaredEdges
   squaredEdges-scales v =
       normSquared-scales (v .d01) >>= λ _ _ a01.

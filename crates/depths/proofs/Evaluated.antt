@@ -1,5 +1,5 @@
--- Every definition up to the depth candidates, opened at once: under `unfolding evaluated` they compute.
--- Assumes nothing.
+-- Every definition up to the depth candidates, opened at once: under `unfolding evaluated` they
+-- compute. Assumes nothing.
 use Rattle.linalg.proofs.Evaluated.{evaluated as vectors-evaluated}
 use Rattle.polynomial.proofs.Evaluated.{evaluated as roots-evaluated}
 use Rattle.depths.specs.Edges.{edgeVectors, squaredEdges}
@@ -17,7 +17,8 @@ use Rattle.depths.specs.Signs.{signTurn, candidates}
 unfoldable pub evaluated : Unit {0}
 unfolding vectors-evaluated roots-evaluated edgeVectors squaredEdges cosine cosines squaredSines
     bearingFactors cubicCoefficients coefficientScale isUnusable measure measuredCubic foldedScale
-    leadingShare leadingCubicCondition singularMatrix isNotReal ratioOf noCandidates pushIfPositive forRoots
+    leadingShare leadingCubicCondition singularMatrix isNotReal ratioOf noCandidates pushIfPositive
+    forRoots
     noDivisor firstChartDepths firstChart secondChartDepths weightChart secondChart chart signTurn
     candidates
 evaluated = tt

@@ -1,4 +1,5 @@
--- How many slots candidates have; the scaling laws of the stages, in the order of a solve; and the definitions that compute.
+-- How many slots candidates have; the scaling laws of the stages, in the order of a solve; and the
+-- definitions that compute.
 pub mod CandidateSlots
 pub mod EdgeScaling
 pub mod CubicScaling

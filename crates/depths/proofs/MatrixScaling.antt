@@ -10,7 +10,9 @@ use Rattle.depths.specs.Matrix.{singularMatrix}
 use Rattle.depths.specs.Types.{SquaredEdges, Factors}
 
 module _ {k : ℤ} where
-  pub singularMatrix-scales : {e e' : SquaredEdges} (factors : Factors) (g : Float) → AtEdges k e e' → Both (AtMatrix k (pos 2)) (singularMatrix e factors g) (singularMatrix e' factors g)
+  pub singularMatrix-scales : {e e' : SquaredEdges} (factors : Factors) (g : Float)
+      → AtEdges k e e'
+      → Both (AtMatrix k (pos 2)) (singularMatrix e factors g) (singularMatrix e' factors g)
   unfolding singularMatrix
   singularMatrix-scales factors g e =
       let a01 = e .a01 in
@@ -25,4 +27,14 @@ module _ {k : ℤ} where
       ! a12 ⊖ ! a01 ⊕ ! a02 ⊗ ! same g >>= λ _ _ m11.
       ! same half ⊗ ! b12 ⊗ (! a02 ⊗ ! same g ⊖ ! a01) >>= λ _ _ m12.
       ! same g ⊗ (! a02 ⊖ ! a12) ⊖ ! a01 >>= λ _ _ m22.
-      pure (record { m00 = m00; m01 = m01; m02 = m02; m10 = m01; m11 = m11; m12 = m12; m20 = m02; m21 = m12; m22 = m22 })
+      pure (record {
+        m00 = m00;
+        m01 = m01;
+        m02 = m02;
+        m10 = m01;
+        m11 = m11;
+        m12 = m12;
+        m20 = m02;
+        m21 = m12;
+        m22 = m22;
+      })

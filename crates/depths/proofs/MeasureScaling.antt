@@ -1,5 +1,6 @@
--- What is measured of two runs' frames: the first point and its edges at degree 1, squared edges at 2, and what comes of the bearings
--- equal; so the cubic's coefficients are at degree 4. Assumes nothing.
+-- What is measured of two runs' frames: the first point and its edges at degree 1, squared edges at
+-- 2, and what comes of the bearings equal; so the cubic's coefficients are at degree 4. Assumes
+-- nothing.
 use mathlib.Core.Path.{_≡_, refl}
 use lib.IntN.{ℤ, pos}
 use Rattle.ieee754.specs.Scaling.{Both}
@@ -41,7 +42,9 @@ module _ {k : ℤ} where
         factors = refl {a = factors};
       })
 
-  pub measuredCubic-scales : {m m' : Measured} → AtMeasured k m m' → Both (AtCoefficients k) (measuredCubic m) (measuredCubic m')
+  pub measuredCubic-scales : {m m' : Measured}
+      → AtMeasured k m m'
+      → Both (AtCoefficients k) (measuredCubic m) (measuredCubic m')
   unfolding measuredCubic
   measuredCubic-scales {m} M =
       rw (← M .cosines) (

@@ -1,4 +1,5 @@
--- The depth candidates of either sign of the ratio are at degree 1, as many in both runs. Assumes nothing.
+-- The depth candidates of either sign of the ratio are at degree 1, as many in both runs. Assumes
+-- nothing.
 use lib.IntN.{ℤ}
 use lib.Ieee.{Float, neg}
 use Rattle.ieee754.specs.Scaling.{Both}
@@ -12,14 +13,21 @@ use Rattle.depths.proofs.ChartScaling.{AtCandidates, noCandidates-at, c
 
 module _ {k : ℤ} where
   module _ {e e' : SquaredEdges} (factors : Factors) (E : AtEdges k e e') where
-    signTurn-scales : (eigenvectors : Matrix3) (sign : Float) {c c' : Candidates} → AtCandidates k c c' → Both (AtCandidates k) (signTurn e factors eigenvectors sign c) (signTurn e' factors eigenvectors sign c')
+    signTurn-scales : (eigenvectors : Matrix3) (sign : Float) {c c' : Candidates}
+        → AtCandidates k c c'
+        → Both (AtCandidates k)
+        (signTurn e factors eigenvectors sign c)
+        (signTurn e' factors eigenvectors sign c')
     unfolding signTurn
     signTurn-scales eigenvectors sign found =
         alike {m = vecMul (column1 eigenvectors) sign} >>≡ λ scaled.
         alike {m = vecSub (column0 eigenvectors) scaled} >>≡ λ nullVector.
         chart-scales factors E nullVector found
 
-    pub candidates-scales : (eigenvectors : Matrix3) (ratio : Float) → Both (AtCandidates k) (candidates e factors eigenvectors ratio) (candidates e' factors eigenvectors ratio)
+    pub candidates-scales : (eigenvectors : Matrix3) (ratio : Float)
+        → Both (AtCandidates k)
+        (candidates e factors eigenvectors ratio)
+        (candidates e' factors eigenvectors ratio)
     unfolding candidates
     candidates-scales eigenvectors ratio =
         signTurn-scales eigenvectors ratio noCandidates-at >>= λ _ _ once.

@@ -1,5 +1,6 @@
--- The two charts of `solve_ordered` (lambdatwist.rs): from the null vector of one sign to at most two depth candidates, one for each root of the chart's quadratic. Where the quadratic refuses, only
--- that sign's turn ends.
+-- The two charts of `solve_ordered` (lambdatwist.rs): from the null vector of one sign to at most
+-- two depth candidates, one for each root of the chart's quadratic. Where the quadratic refuses,
+-- only that sign's turn ends.
 use mathlib.Core.Bool.{Bool, not, _||_}
 use lib.Ieee.{Float, lt, le, eq}
 use lib.Ieee.Scale.{finite}
@@ -13,7 +14,8 @@ use Rattle.depths.specs.DepthSlots.{pushIfPositive}
 use Rattle.depths.specs.Types.{Vector3, SquaredEdges, Roots, Factors, Candidates}
 
 -- for tau in roots { .. }, whose body is `turn`
-unfoldable pub forRoots : Roots → (Candidates → Float → Traced Candidates) → Candidates → Traced Candidates
+unfoldable pub forRoots : Roots → (Candidates → Float → Traced Candidates) → Candidates
+    → Traced Candidates
 forRoots roots turn found =
     withPair roots (pure found) (λ first second. do
       once ← turn found first
@@ -24,7 +26,8 @@ unfoldable pub noDivisor : Float → Bool
 noDivisor denominator = eq denominator plusZero || not (finite denominator)
 
 -- ---- the chart for u0.abs() < u1.abs(): the depths of a root, then the chart
-unfoldable pub firstChartDepths : SquaredEdges → Factors → Vector3 → Candidates → Float → Traced Candidates
+unfoldable pub firstChartDepths : SquaredEdges → Factors → Vector3 → Candidates → Float
+    → Traced Candidates
 firstChartDepths squares factors nullVector found tau =
     let record { x = u0; y = u1; z = u2 } = nullVector in
     do
@@ -47,18 +50,23 @@ firstChart squares factors nullVector found =
     let record { x = u0; y = u1; z = u2 } = nullVector in
     do
       -- let denominator = (a12 - a01) * u2 * u2 - a01 * u1 * u1 + a01 * b12 * u1 * u2;
-      denominator ← (! a12 ⊖ ! a01) ⊗ ! u2 ⊗ ! u2 ⊖ ! a01 ⊗ ! u1 ⊗ ! u1 ⊕ ! a01 ⊗ ! b12 ⊗ ! u1 ⊗ ! u2
+      denominator ← (! a12 ⊖ ! a01) ⊗ ! u2 ⊗ ! u2 ⊖ ! a01 ⊗ ! u1 ⊗ ! u1
+          ⊕ ! a01 ⊗ ! b12 ⊗ ! u1 ⊗ ! u2
       if noDivisor denominator then pure found
           else do
-            -- (2.0 * (a12 - a01) * u0 * u2 + a01 * b12 * u0 * u1 - a12 * b01 * u1 * u2) / denominator
-            quadraticB ← (! two ⊗ (! a12 ⊖ ! a01) ⊗ ! u0 ⊗ ! u2 ⊕ ! a01 ⊗ ! b12 ⊗ ! u0 ⊗ ! u1 ⊖ ! a12 ⊗ ! b01 ⊗ ! u1 ⊗ ! u2) ⊘ ! denominator
+            -- (2.0 * (a12 - a01) * u0 * u2 + a01 * b12 * u0 * u1 - a12 * b01 * u1 * u2)
+            --     / denominator
+            quadraticB ← (! two ⊗ (! a12 ⊖ ! a01) ⊗ ! u0 ⊗ ! u2 ⊕ ! a01 ⊗ ! b12 ⊗ ! u0 ⊗ ! u1
+                ⊖ ! a12 ⊗ ! b01 ⊗ ! u1 ⊗ ! u2) ⊘ ! denominator
             -- ((a12 - a01) * u0 * u0 + a12 * u1 * u1 - a12 * b01 * u0 * u1) / denominator
-            quadraticC ← ((! a12 ⊖ ! a01) ⊗ ! u0 ⊗ ! u0 ⊕ ! a12 ⊗ ! u1 ⊗ ! u1 ⊖ ! a12 ⊗ ! b01 ⊗ ! u0 ⊗ ! u1) ⊘ ! denominator
+            quadraticC ← ((! a12 ⊖ ! a01) ⊗ ! u0 ⊗ ! u0 ⊕ ! a12 ⊗ ! u1 ⊗ ! u1
+                ⊖ ! a12 ⊗ ! b01 ⊗ ! u0 ⊗ ! u1) ⊘ ! denominator
             roots ← quadraticRealMonic quadraticB quadraticC
             forRoots roots (firstChartDepths squares factors nullVector) found
 
 -- ---- the other chart: the depths of a root, the chart from w0 and w1 on, and the chart
-unfoldable pub secondChartDepths : SquaredEdges → Factors → Float → Float → Candidates → Float → Traced Candidates
+unfoldable pub secondChartDepths : SquaredEdges → Factors → Float → Float → Candidates → Float
+    → Traced Candidates
 secondChartDepths squares factors w0 w1 found tau = do
   -- let depth_denominator = tau * (b12 + tau) + 1.0;
   depthDenominator ← ! tau ⊗ (! (factors .b12) ⊕ ! tau) ⊕ ! one
@@ -82,9 +90,11 @@ weightChart squares factors w0 w1 found =
       if noDivisor denominator then pure found
           else do
             -- (a02 * b01 * w1 - a01 * b02 * w0 - 2.0 * w0 * w1 * (a01 - a02)) / denominator
-            quadraticB ← (! a02 ⊗ ! b01 ⊗ ! w1 ⊖ ! a01 ⊗ ! b02 ⊗ ! w0 ⊖ ! two ⊗ ! w0 ⊗ ! w1 ⊗ (! a01 ⊖ ! a02)) ⊘ ! denominator
+            quadraticB ← (! a02 ⊗ ! b01 ⊗ ! w1 ⊖ ! a01 ⊗ ! b02 ⊗ ! w0
+                ⊖ ! two ⊗ ! w0 ⊗ ! w1 ⊗ (! a01 ⊖ ! a02)) ⊘ ! denominator
             -- ((a02 - a01) * w0 * w0 + a02 * b01 * w0 + a02) / denominator
-            quadraticC ← ((! a02 ⊖ ! a01) ⊗ ! w0 ⊗ ! w0 ⊕ ! a02 ⊗ ! b01 ⊗ ! w0 ⊕ ! a02) ⊘ ! denominator
+            quadraticC ← ((! a02 ⊖ ! a01) ⊗ ! w0 ⊗ ! w0 ⊕ ! a02 ⊗ ! b01 ⊗ ! w0 ⊕ ! a02)
+                ⊘ ! denominator
             roots ← quadraticRealMonic quadraticB quadraticC
             forRoots roots (secondChartDepths squares factors w0 w1) found
 
@@ -104,5 +114,6 @@ secondChart squares factors nullVector found =
 -- if u0.abs() < u1.abs() { .. } else { .. }
 unfoldable pub chart : SquaredEdges → Factors → Vector3 → Candidates → Traced Candidates
 chart squares factors nullVector found =
-    if lt (abs (nullVector .x)) (abs (nullVector .y)) then firstChart squares factors nullVector found
+    if lt (abs (nullVector .x)) (abs (nullVector .y))
+    then firstChart squares factors nullVector found
     else secondChart squares factors nullVector found

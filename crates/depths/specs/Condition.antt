@@ -1,5 +1,6 @@
--- `leading_cubic_condition` of lambdatwist.rs: how large the leading coefficient of the cubic is beside the largest. The Rust computes s01, s12, s20 and then triple; `squaredSines` has the order of
--- `solve_ordered`, triple first.
+-- `leading_cubic_condition` of lambdatwist.rs: how large the leading coefficient of the cubic is
+-- beside the largest. The Rust computes s01, s12, s20 and then triple; `squaredSines` has the order
+-- of `solve_ordered`, triple first.
 use mathlib.Core.Bool.{not, _||_}
 use lib.Ieee.{Float, eq}
 use lib.Ieee.Scale.{finite}
@@ -12,9 +13,12 @@ use Rattle.depths.specs.Angles.{cosines, squaredSines}
 use Rattle.depths.specs.Cubic.{cubicCoefficients}
 use Rattle.depths.specs.Types.{World, Bearings, Coefficients}
 
--- coefficients.iter().copied().map(f64::abs).fold(0.0, f64::max): it starts from plus zero, so where all are NaN the scale is zero
+-- coefficients.iter().copied().map(f64::abs).fold(0.0, f64::max): it starts from plus zero, so
+-- where all are NaN the scale is zero
 unfoldable pub foldedScale : Coefficients → Float
-foldedScale c = max (max (max (max plusZero (abs (c .cubic3))) (abs (c .cubic2))) (abs (c .cubic1))) (abs (c .cubic0))
+foldedScale c =
+    max (max (max (max plusZero (abs (c .cubic3))) (abs (c .cubic2))) (abs (c .cubic1)))
+    (abs (c .cubic0))
 
 unfoldable pub leadingShare : Coefficients → Traced Float
 leadingShare c =

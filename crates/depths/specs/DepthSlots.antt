@@ -14,10 +14,12 @@ use Rattle.depths.specs.Types.{Vector3, Candidates}
 unfoldable pub noCandidates : Candidates
 noCandidates = record { count = 0; depths = zeros ∷ zeros ∷ zeros ∷ zeros ∷ [] }
 
--- if depth1 > 0.0 && depth_count < depths.len() { depths[depth_count] = ..; depth_count += 1; }, in the other chart of depth0
+-- if depth1 > 0.0 && depth_count < depths.len() { depths[depth_count] = ..; depth_count += 1; },
+--     in the other chart of depth0
 unfoldable pub pushIfPositive : Candidates → Float → Vector3 → Candidates
 pushIfPositive found depth depths =
     if lt plusZero depth then (
-    if ltb (found .count) 4 then record { count = found .count + 1; depths = set (found .depths) (found .count) depths }
+    if ltb (found .count) 4
+    then record { count = found .count + 1; depths = set (found .depths) (found .count) depths }
     else found)
     else found

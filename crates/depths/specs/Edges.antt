@@ -1,4 +1,5 @@
--- The edges of the world's triangle and their squared lengths: the first lines of `solve_ordered` and of `leading_cubic_condition` (lambdatwist.rs).
+-- The edges of the world's triangle and their squared lengths: the first lines of `solve_ordered`
+-- and of `leading_cubic_condition` (lambdatwist.rs).
 use Rattle.ieee754.specs.Traced.{Traced, pure, _>>=_}
 use Rattle.linalg.specs.Vectors.{vecSub, normSquared}
 use Rattle.depths.specs.Types.{World, SquaredEdges, EdgeVectors}

@@ -1,4 +1,5 @@
--- The definitions that the contracts of this crate cite, in the order of a solve: what lambdatwist.rs computes up to the depth candidates, line by line.
+-- The definitions that the contracts of this crate cite, in the order of a solve: what
+-- lambdatwist.rs computes up to the depth candidates, line by line.
 pub mod Types
 pub mod Edges
 pub mod Angles

@@ -1,4 +1,5 @@
--- The matrix that is singular at the cubic's root g: `let matrix = Matrix3::new(..)` of `solve_ordered` (lambdatwist.rs).
+-- The matrix that is singular at the cubic's root g: `let matrix = Matrix3::new(..)` of
+-- `solve_ordered` (lambdatwist.rs).
 use lib.Ieee.{Float}
 use Rattle.ieee754.specs.Literal.{half, one}
 use Rattle.ieee754.specs.Traced.{Traced, pure, _>>=_, _⊗_, _⊕_, _⊖_, !_, ⊝_}
@@ -19,4 +20,14 @@ singularMatrix squares factors g =
       m11 ← ! a12 ⊖ ! a01 ⊕ ! a02 ⊗ ! g
       m12 ← ! half ⊗ ! b12 ⊗ (! a02 ⊗ ! g ⊖ ! a01)
       m22 ← ! g ⊗ (! a02 ⊖ ! a12) ⊖ ! a01
-      pure (record { m00 = m00; m01 = m01; m02 = m02; m10 = m01; m11 = m11; m12 = m12; m20 = m02; m21 = m12; m22 = m22 })
+      pure (record {
+        m00 = m00;
+        m01 = m01;
+        m02 = m02;
+        m10 = m01;
+        m11 = m11;
+        m12 = m12;
+        m20 = m02;
+        m21 = m12;
+        m22 = m22;
+      })

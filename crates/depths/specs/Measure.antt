@@ -1,5 +1,6 @@
--- What `solve_ordered` (lambdatwist.rs) measures of the points and bearings in the order in which they are solved, from `let d01`
--- to `let b12`, and the cubic's coefficients of that. (The sines stand with the coefficients, which alone need them.)
+-- What `solve_ordered` (lambdatwist.rs) measures of the points and bearings in the order in which
+-- they are solved, from `let d01` to `let b12`, and the cubic's coefficients of that. (The sines
+-- stand with the coefficients, which alone need them.)
 use Rattle.ieee754.specs.Traced.{Traced, pure, _>>=_}
 use Rattle.depths.specs.Edges.{edgeVectors, squaredEdges}
 use Rattle.depths.specs.Angles.{cosines, squaredSines, bearingFactors}

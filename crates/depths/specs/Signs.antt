@@ -1,4 +1,5 @@
--- The depth candidates of either sign of the ratio: the loop `for sign in [ratio, -ratio]` of `solve_ordered` (lambdatwist.rs).
+-- The depth candidates of either sign of the ratio: the loop `for sign in [ratio, -ratio]` of
+-- `solve_ordered` (lambdatwist.rs).
 use lib.Ieee.{Float, neg}
 use Rattle.ieee754.specs.Traced.{Traced, _>>=_}
 use Rattle.linalg.specs.Vectors.{vecSub, vecMul}
@@ -7,7 +8,8 @@ use Rattle.depths.specs.DepthSlots.{noCandidates}
 use Rattle.depths.specs.Charts.{chart}
 use Rattle.depths.specs.Types.{Matrix3, SquaredEdges, Factors, Candidates}
 
--- the turn of one sign: let null_vector = eigenvectors.column(0) - sign * eigenvectors.column(1); with the factors of the product exchanged
+-- the turn of one sign: let null_vector = eigenvectors.column(0) - sign * eigenvectors.column(1);
+-- with the factors of the product exchanged
 unfoldable pub signTurn : SquaredEdges → Factors → Matrix3 → Float → Candidates → Traced Candidates
 signTurn squares factors eigenvectors sign found = do
   scaled ← vecMul (column1 eigenvectors) sign

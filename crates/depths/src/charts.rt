@@ -1,7 +1,9 @@
-// The two charts of solve_ordered (lambdatwist.rs): from the null vector of one sign to at most two depth candidates, one for
-// each root of the chart's quadratic. Where the quadratic refuses, only that sign's turn ends.
+// The two charts of solve_ordered (lambdatwist.rs): from the null vector of one sign to at most two
+// depth candidates, one for each root of the chart's quadratic. Where the quadratic refuses, only
+// that sign's turn ends.
 ghost use mathlib.Core.Path.{_≡_};
-ghost use Rattle.depths.specs.Charts.{noDivisor, firstChartDepths, firstChart, secondChartDepths, weightChart, secondChart, chart};
+ghost use Rattle.depths.specs.Charts.{noDivisor, firstChartDepths, firstChart};
+ghost use Rattle.depths.specs.Charts.{secondChartDepths, weightChart, secondChart, chart};
 use crate::angles::Factors;
 use crate::candidates::Candidates;
 use frames::squared_edges::SquaredEdges;

@@ -1,4 +1,5 @@
-// How large the leading coefficient of the cubic is beside the largest: leading_cubic_condition of lambdatwist.rs.
+// How large the leading coefficient of the cubic is beside the largest: leading_cubic_condition of
+// lambdatwist.rs.
 ghost use mathlib.Core.Path.{_≡_};
 ghost use Rattle.depths.specs.Condition.{foldedScale, leadingShare, leadingCubicCondition};
 use crate::angles::cosines;

@@ -1,5 +1,5 @@
-// The edges of the world's triangle and their squared lengths: the first lines of solve_ordered and of
-// leading_cubic_condition (lambdatwist.rs).
+// The edges of the world's triangle and their squared lengths: the first lines of solve_ordered and
+// of leading_cubic_condition (lambdatwist.rs).
 ghost use mathlib.Core.Path.{_≡_};
 ghost use Rattle.depths.specs.Edges.{edgeVectors, squaredEdges};
 use frames::squared_edges::SquaredEdges;

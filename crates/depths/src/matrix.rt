@@ -1,5 +1,6 @@
-// The matrix that is singular at the cubic's root g: `let matrix = Matrix3::new(..)` of solve_ordered (lambdatwist.rs). It is
-// symmetric, and the Rust writes each entry off the diagonal twice.
+// The matrix that is singular at the cubic's root g: `let matrix = Matrix3::new(..)` of
+// solve_ordered (lambdatwist.rs). It is symmetric, and the Rust writes each entry off the diagonal
+// twice.
 ghost use mathlib.Core.Path.{_≡_};
 ghost use Rattle.depths.specs.Matrix.{singularMatrix};
 use crate::angles::Factors;

@@ -1,5 +1,5 @@
-// What solve_ordered (lambdatwist.rs) measures of the points and bearings in the order in which they are solved, and the cubic's
-// coefficients of that.
+// What solve_ordered (lambdatwist.rs) measures of the points and bearings in the order in which
+// they are solved, and the cubic's coefficients of that.
 ghost use mathlib.Core.Path.{_≡_};
 ghost use Rattle.depths.specs.Measure.{measure, measuredCubic};
 use crate::angles::Factors;
@@ -16,7 +16,8 @@ use frames::squared_edges::SquaredEdges;
 use frames::world::World;
 use linalg::vector3::Vector3;
 
-// The first point and the two edges from it, the squared edges, the bearings, their cosines and the factors of these.
+// The first point and the two edges from it, the squared edges, the bearings, their cosines and the
+// factors of these.
 pub struct Measured {
     pub p0: Vector3,
     pub d01: Vector3,

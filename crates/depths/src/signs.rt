@@ -1,4 +1,5 @@
-// The depth candidates of either sign of the ratio: the loop `for sign in [ratio, -ratio]` of solve_ordered (lambdatwist.rs).
+// The depth candidates of either sign of the ratio: the loop `for sign in [ratio, -ratio]` of
+// solve_ordered (lambdatwist.rs).
 ghost use mathlib.Core.Path.{_≡_};
 ghost use Rattle.depths.specs.Signs.{signTurn, candidates};
 use crate::angles::Factors;

@@ -6,7 +6,8 @@ use lib.IntN.{ℤ, pos}
 use lib.Ieee.{Float}
 use Rattle.ieee754.specs.Traced.{Traced}
 use Rattle.ieee754.specs.Scaling.{Both, At, Scales}
-use Rattle.ieee754_laws.proofs.Degrees.{null, !_, ⊝_, _⊗_, _⊕_, _⊖_, pure, _>>=_, choose, abs-at, lt-same, eq-same}
+use Rattle.ieee754_laws.proofs.Degrees.{null, !_, ⊝_, _⊗_, _⊕_, _⊖_, pure, _>>=_, choose, abs-at}
+use Rattle.ieee754_laws.proofs.Degrees.{lt-same, eq-same}
 use Rattle.linalg.specs.VectorScaling.{AtMatrix}
 use Rattle.linalg.proofs.MatrixDegrees.{trace-scales}
 use Rattle.polynomial.proofs.RootScaling.{withPair-scales}
@@ -47,13 +48,16 @@ module _ {k : ℤ} where
       → AtEigenvalues k (byMagnitude x y) (byMagnitude x' y')
   unfolding byMagnitude
   byMagnitude-at x y =
-      choose (AtEigenvalues k) (lt-same (abs-at x) (abs-at y)) (nonzeroPair-at y x) (nonzeroPair-at x y)
+      choose (AtEigenvalues k) (lt-same (abs-at x) (abs-at y)) (nonzeroPair-at y x)
+      (nonzeroPair-at x y)
 
-  module _ {m m' : Matrix3} {s s' : Float} (M : AtMatrix k (pos 2) m m') (S : At k (pos 4) s s') where
+  module _ {m m' : Matrix3} {s s' : Float} (M : AtMatrix k (pos 2) m m')
+      (S : At k (pos 4) s s') where
     pairCoefficient-scales : Scales k (pos 4) (pairCoefficient m s) (pairCoefficient m' s')
     unfolding pairCoefficient
     pairCoefficient-scales =
-        ⊝ ! S ⊖ ! (M .m02) ⊗ ! (M .m02) ⊖ ! (M .m12) ⊗ ! (M .m12) ⊕ ! (M .m00) ⊗ (! (M .m11) ⊕ ! (M .m22)) ⊕ ! (M .m11) ⊗ ! (M .m22)
+        ⊝ ! S ⊖ ! (M .m02) ⊗ ! (M .m02) ⊖ ! (M .m12) ⊗ ! (M .m12)
+        ⊕ ! (M .m00) ⊗ (! (M .m11) ⊕ ! (M .m22)) ⊕ ! (M .m11) ⊗ ! (M .m22)
 
     pub eigenvaluePair-scales : Both (AtEigenvalues k) (eigenvaluePair m s) (eigenvaluePair m' s')
     unfolding eigenvaluePair
@@ -61,4 +65,5 @@ module _ {k : ℤ} where
         ⊝ trace-scales M >>= λ _ _ traceCoefficient.
         pairCoefficient-scales >>= λ _ _ pairTerm.
         quadratic-scales traceCoefficient pairTerm >>= λ _ _ roots.
-        withPair-scales roots (pure no-pair) (λ _ _ _ _ first second. pure (byMagnitude-at first second))
+        withPair-scales roots (pure no-pair)
+        (λ _ _ _ _ first second. pure (byMagnitude-at first second))

@@ -8,7 +8,8 @@ use Rattle.ieee754.specs.Literal.{one, sixtyFour, epsilon}
 use Rattle.ieee754.specs.Traced.{Traced}
 use Rattle.ieee754.specs.Scaling.{Both, At, Scales}
 use Rattle.ieee754_laws.proofs.Degrees.{same, null, !_, ⊝_, √_, _⊗_, _⊘_, _⊕_, _⊖_, pure, _>>=_}
-use Rattle.ieee754_laws.proofs.Degrees.{if_then_else_, choose, abs-at, le-same, finite-same, total-same}
+use Rattle.ieee754_laws.proofs.Degrees.{if_then_else_, choose, abs-at, le-same, finite-same}
+use Rattle.ieee754_laws.proofs.Degrees.{total-same}
 use Rattle.ieee754_laws.proofs.MinPositive.{floored, epsilon64-small, norm-at}
 use Rattle.linalg.specs.Vectors.{norm}
 use Rattle.linalg.specs.VectorScaling.{AtVector, AtMatrix}
@@ -20,7 +21,8 @@ use Rattle.eigen.specs.RowCrosses.{eigenvectorFromRowCrosses}
 use Rattle.eigen.specs.ZeroVector.{zeroDirection, zeroVector}
 use Rattle.eigen.specs.EigenvectorOf.{precompute, eigenDenominator, denominatorScale}
 use Rattle.eigen.specs.EigenvectorOf.{ifFinite, eigenvectorByDivision, eigenvectorOf}
-use Rattle.eigen.specs.Types.{Order, Less, Equal, Greater, Vector3, Matrix3, Eigenvector, Unit, Missing, Precomputed}
+use Rattle.eigen.specs.Types.{Order, Less, Equal, Greater, Vector3, Matrix3, Eigenvector}
+use Rattle.eigen.specs.Types.{Unit, Missing, Precomputed}
 use Rattle.linalg.proofs.SquaredLength.{squared-normal}
 
 -- what follows an eigenvector that is the same in the two runs, in any relation of them
@@ -63,7 +65,8 @@ module _ {k : ℤ} where
       → Both {A = Eigenvector} _≡_ (unitVector v) (unitVector v')
   unfolding unitVector norm
   unitVector-same {v} {v'} h =
-      norm-at {n = pos 4} (normSquared-scales h) (squared-normal v) (squared-normal v') >>= λ _ _ length.
+      norm-at {n = pos 4} (normSquared-scales h) (squared-normal v) (squared-normal v') >>=
+      λ _ _ length.
       vecDiv-scales h (length .0) >>= λ _ _ unit.
       let valid = ap₂ _&&_ (length .1) (finite-same (length .0)) in
       pure (choose _≡_ valid (ap Unit (vector-at-zero unit)) (refl {a = Missing}))
@@ -71,15 +74,20 @@ module _ {k : ℤ} where
   module _ {m m' : Matrix3} (M : AtMatrix k (pos 2) m m') where
     pub rowCrosses-same : {e e' : Float}
         → At k (pos 2) e e'
-        → Both {A = Eigenvector} _≡_ (eigenvectorFromRowCrosses m e) (eigenvectorFromRowCrosses m' e')
+        → Both {A = Eigenvector} _≡_
+        (eigenvectorFromRowCrosses m e)
+        (eigenvectorFromRowCrosses m' e')
     unfolding eigenvectorFromRowCrosses
     rowCrosses-same e =
         ! (M .m00) ⊖ ! e >>= λ _ _ x0.
         ! (M .m11) ⊖ ! e >>= λ _ _ y1.
         ! (M .m22) ⊖ ! e >>= λ _ _ z2.
-        cross-scales (record { x = x0; y = M .m01; z = M .m02 }) (record { x = M .m10; y = y1; z = M .m12 }) >>= λ _ _ c01.
-        cross-scales (record { x = x0; y = M .m01; z = M .m02 }) (record { x = M .m20; y = M .m21; z = z2 }) >>= λ _ _ c02.
-        cross-scales (record { x = M .m10; y = y1; z = M .m12 }) (record { x = M .m20; y = M .m21; z = z2 }) >>= λ _ _ c12.
+        cross-scales (record { x = x0; y = M .m01; z = M .m02 })
+        (record { x = M .m10; y = y1; z = M .m12 }) >>= λ _ _ c01.
+        cross-scales (record { x = x0; y = M .m01; z = M .m02 })
+        (record { x = M .m20; y = M .m21; z = z2 }) >>= λ _ _ c02.
+        cross-scales (record { x = M .m10; y = y1; z = M .m12 })
+        (record { x = M .m20; y = M .m21; z = z2 }) >>= λ _ _ c12.
         longer-scales c01 c02 >>= λ _ _ best.
         longer-scales best c12 >>= λ _ _ longest.
         unitVector-same longest
@@ -123,12 +131,16 @@ module _ {k : ℤ} where
         ! (M .m01) ⊗ ! (M .m02) ⊖ ! (M .m00) ⊗ ! (M .m12) >>= λ _ _ pre1.
         pure (record { square = square; product = product; pre0 = pre0; pre1 = pre1 })
 
-    module _ {p p' : Precomputed} {e e' : Float} (P : AtPrecomputed p p') (E : At k (pos 2) e e') where
-      eigenDenominator-scales : Scales k (pos 4) (eigenDenominator m p e) (eigenDenominator m' p' e')
+    module _ {p p' : Precomputed} {e e' : Float} (P : AtPrecomputed p p')
+        (E : At k (pos 2) e e') where
+      eigenDenominator-scales :
+          Scales k (pos 4) (eigenDenominator m p e) (eigenDenominator m' p' e')
       unfolding eigenDenominator
-      eigenDenominator-scales = ! E ⊗ (! (M .m00) ⊕ ! (M .m11)) ⊕ ! (P .product) ⊖ ! E ⊗ ! E ⊕ ! (P .square)
+      eigenDenominator-scales =
+          ! E ⊗ (! (M .m00) ⊕ ! (M .m11)) ⊕ ! (P .product) ⊖ ! E ⊗ ! E ⊕ ! (P .square)
 
-      denominatorScale-scales : Scales k (pos 4) (denominatorScale m p e) (denominatorScale m' p' e')
+      denominatorScale-scales :
+          Scales k (pos 4) (denominatorScale m p e) (denominatorScale m' p' e')
       unfolding denominatorScale
       denominatorScale-scales =
           ! E ⊗ (! (M .m00) ⊕ ! (M .m11)) >>= λ _ _ linear.
@@ -136,17 +148,21 @@ module _ {k : ℤ} where
 
       byDivision-same : {d d' : Float}
           → At k (pos 4) d d'
-          → Both {A = Eigenvector} _≡_ (eigenvectorByDivision m p e d) (eigenvectorByDivision m' p' e' d')
+          → Both {A = Eigenvector} _≡_
+          (eigenvectorByDivision m p e d)
+          (eigenvectorByDivision m' p' e' d')
       unfolding eigenvectorByDivision ifFinite
       byDivision-same denominator =
           ⊝ (! E ⊗ ! (M .m02) ⊕ ! (P .pre0)) ⊘ ! denominator >>= λ _ _ first.
           ⊝ (! E ⊗ ! (M .m12) ⊕ ! (P .pre1)) ⊘ ! denominator >>= λ _ _ second.
-          ! same one ⊘ √_ {n = pos 0} (! first ⊗ ! first ⊕ ! second ⊗ ! second ⊕ ! same one) >>= λ _ _ inverseNorm.
+          ! same one ⊘ √_ {n = pos 0} (! first ⊗ ! first ⊕ ! second ⊗ ! second ⊕ ! same one) >>=
+          λ _ _ inverseNorm.
           ! first ⊗ ! inverseNorm >>= λ _ _ x.
           ! second ⊗ ! inverseNorm >>= λ _ _ y.
           pure (ap ifFinite (vector-at-zero (record { x = x; y = y; z = inverseNorm })))
 
-      pub eigenvectorOf-same : Both {A = Eigenvector} _≡_ (eigenvectorOf m p e) (eigenvectorOf m' p' e')
+      pub eigenvectorOf-same :
+          Both {A = Eigenvector} _≡_ (eigenvectorOf m p e) (eigenvectorOf m' p' e')
       unfolding eigenvectorOf
       eigenvectorOf-same =
           eigenDenominator-scales >>= λ _ _ denominator.

@@ -1,4 +1,5 @@
--- What the scaling rule says of two runs' points, squared edges and poses: world points and translations at degree 1, squared edges at 2, rotations equal.
+-- What the scaling rule says of two runs' points, squared edges and poses: world points and
+-- translations at degree 1, squared edges at 2, rotations equal.
 use mathlib.Core.Path.{_≡_}
 use lib.IntN.{ℤ, pos}
 use Rattle.ieee754.specs.Scaling.{At}

@@ -1,5 +1,5 @@
--- A pose of plus zeros, and the camera point of a world point under a pose: `rotation * world + translation` of pose/p3p/common.rs, and document 01,
--- module 8.
+-- A pose of plus zeros, and the camera point of a world point under a pose:
+-- `rotation * world + translation` of pose/p3p/common.rs, and document 01, module 8.
 use Rattle.ieee754.specs.Traced.{Traced, _>>=_}
 use Rattle.linalg.specs.Vectors.{zeros, vecAdd}
 use Rattle.linalg.specs.Matrices.{fromColumns, matVec}

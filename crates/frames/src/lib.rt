@@ -1,5 +1,6 @@
-// What a frame consists of, and how it is read from lent doubles: world points, bearings, the squared edges and cosines that
-// the solver takes of them, a pose, and a stored frame with its checking target.
+// What a frame consists of, and how it is read from lent doubles: world points, bearings, the
+// squared edges and cosines that the solver takes of them, a pose, and a stored frame with its
+// checking target.
 pub mod bearings;
 pub mod cosines;
 pub mod frame;

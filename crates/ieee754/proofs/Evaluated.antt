@@ -1,5 +1,5 @@
--- Every definition of a single operation, and of the scaling rule's premise of it, opened at once: under
--- `unfolding evaluated` an operation on concrete doubles computes. Assumes nothing.
+-- Every definition of a single operation, and of the scaling rule's premise of it, opened at once:
+-- under `unfolding evaluated` an operation on concrete doubles computes. Assumes nothing.
 use lib.Ieee.{ofBits, toBits, size, add, sub, mul, div, sum, round, neg, lt, le, eq, isNan}
 use Rattle.ieee754.specs.Magnitude.{abs}
 use Rattle.ieee754.specs.CopySign.{copysign}

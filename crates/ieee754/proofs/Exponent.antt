@@ -23,7 +23,8 @@ use Rattle.ieee754_parts.proofs.Reading.{times}
 digits-ge : (p n : ℕ) → 0 < p → 2 ^ 52 ≤ n → 2 ^ (p * 52) ≤ n * 2 ^ (52 * (p - 1))
 digits-ge p n P h =
     let e : p * 52 ≡ 52 + 52 * (p - 1) = omega arith in
-    le-trans (le-of-eq (ap (λ (x : ℕ). 2 ^ x) e ∙ pow-add 2 52 (52 * (p - 1)))) (mul-le-mul-right (2 ^ (52 * (p - 1))) h)
+    le-trans (le-of-eq (ap (λ (x : ℕ). 2 ^ x) e ∙ pow-add 2 52 (52 * (p - 1))))
+    (mul-le-mul-right (2 ^ (52 * (p - 1))) h)
 
 digits-lt : (p n : ℕ) → 0 < p → n < 2 ^ (52 + p) → n * 2 ^ (52 * (p - 1)) < 2 ^ (p * 53)
 digits-lt p n P h =
@@ -31,11 +32,14 @@ digits-lt p n P h =
     lt-of-lt-of-le (shl-lt (52 + p) (52 * (p - 1)) h) (le-of-eq (ap (λ (x : ℕ). 2 ^ x) e))
 
 regroup : (m a b c d h k : ℕ) → a * b ≡ c * d → m * a * (b * (h * k)) ≡ m * c * h * (k * d)
-regroup m a b c d h k e = simp (mul-assoc, mul-comm, mul-left-comm) (simp (mul-assoc, mul-comm, mul-left-comm) at (ap (λ (z : ℕ). m * (h * k) * z) e))
+regroup m a b c d h k e =
+    simp (mul-assoc, mul-comm, mul-left-comm)
+    (simp (mul-assoc, mul-comm, mul-left-comm) at (ap (λ (z : ℕ). m * (h * k) * z) e))
 
 -- The p-th root of m * 2 ^ e / 2 ^ 1126. In p-th powers of the smallest double the radicand is n
 -- times that of 2 ^ k, with n of the size above, and k the exponent, more by `bias`, divided by p.
-module _ (p bias m e : ℕ) (P : 0 < p) (gap : p * 1074 ≡ bias + (52 * (p - 1) + 1126)) (low : 2 ^ 52 ≤ m) (high : m < 2 ^ 53) where
+module _ (p bias m e : ℕ) (P : 0 < p) (gap : p * 1074 ≡ bias + (52 * (p - 1) + 1126))
+    (low : 2 ^ 52 ≤ m) (high : m < 2 ^ 53) where
   k : ℕ
   k = (e + bias) / p
 
@@ -55,13 +59,20 @@ module _ (p bias m e : ℕ) (P : 0 < p) (gap : p * 1074 ≡ bias + (52 * (p - 1)
 
   -- 2 ^ (e + bias), by its remainder and its quotient
   split : 2 ^ e * 2 ^ bias ≡ 2 ^ ((e + bias) % p) * 2 ^ (p * ((e + bias) / p))
-  split = sym (pow-add 2 e bias) ∙ ap (λ (x : ℕ). 2 ^ x) (omega (arith, div-add-mod (e + bias) p)) ∙ pow-add 2 ((e + bias) % p) (p * ((e + bias) / p))
+  split =
+      sym (pow-add 2 e bias)
+      ∙ ap (λ (x : ℕ). 2 ^ x) (omega (arith, div-add-mod (e + bias) p))
+      ∙ pow-add 2 ((e + bias) % p) (p * ((e + bias) / p))
 
   radicand : m * 2 ^ e * 2 ^ (p * 1074) ≡ n * (2 ^ 1126 * 2 ^ (p * k))
   unfolding n k
   radicand =
-      ap (λ (x : ℕ). m * 2 ^ e * x) (ap (λ (x : ℕ). 2 ^ x) gap ∙ pow-add 2 bias (52 * (p - 1) + 1126) ∙ ap (λ (x : ℕ). 2 ^ bias * x) (pow-add 2 (52 * (p - 1)) 1126))
-      ∙ regroup m (2 ^ e) (2 ^ bias) (2 ^ ((e + bias) % p)) (2 ^ (p * ((e + bias) / p))) (2 ^ (52 * (p - 1))) (2 ^ 1126) split
+      ap (λ (x : ℕ). m * 2 ^ e * x)
+      (ap (λ (x : ℕ). 2 ^ x) gap
+      ∙ pow-add 2 bias (52 * (p - 1) + 1126)
+      ∙ ap (λ (x : ℕ). 2 ^ bias * x) (pow-add 2 (52 * (p - 1)) 1126))
+      ∙ regroup m (2 ^ e) (2 ^ bias) (2 ^ ((e + bias) % p)) (2 ^ (p * ((e + bias) / p)))
+      (2 ^ (52 * (p - 1))) (2 ^ 1126) split
 
   -- the digits q of the root
   module _ (q : ℕ) (near : IsNearest p (m * 2 ^ ((e + bias) % p) * 2 ^ (52 * (p - 1))) q) where
@@ -76,12 +87,16 @@ module _ (p bias m e : ℕ) (P : 0 < p) (gap : p * 1074 ≡ bias + (52 * (p - 1)
     pub root-scaled : (s : Bool)
         → roundRoot p binary64 s (m * 2 ^ e) (2 ^ 1126) ≡ units binary64 s q ((e + bias) / p)
     unfolding n k
-    root-scaled s = roundRoot-at p binary64 s (m * 2 ^ e) (2 ^ 1126) k n q P (lit< tt) radicand ge lt near
+    root-scaled s =
+        roundRoot-at p binary64 s (m * 2 ^ e) (2 ^ 1126) k n q P (lit< tt) radicand ge lt near
 
 -- ---- the value of a double with the significand that `normalise` gives
-module _ (x : Float) (s : Bool) (sig exp : ℕ) (r : Scaled) (is : HasValue x s (sig * 2 ^ exp) (2 ^ 1074)) (h : IsNormal sig exp r) where
+module _ (x : Float) (s : Bool) (sig exp : ℕ) (r : Scaled)
+    (is : HasValue x s (sig * 2 ^ exp) (2 ^ 1074)) (h : IsNormal sig exp r) where
   pub normal-value : HasValue x s (r .sig * 2 ^ r .exp) (2 ^ 1126)
-  normal-value = subst (λ (a : ℕ). HasValue x s a (2 ^ 1126)) (sym (h .same)) (times x s (sig * 2 ^ exp) (2 ^ 1074) (2 ^ 52) is)
+  normal-value =
+      subst (λ (a : ℕ). HasValue x s a (2 ^ 1126))
+      (sym (h .same)) (times x s (sig * 2 ^ exp) (2 ^ 1074) (2 ^ 52) is)
 
   pub normal-pos : 0 < r .sig * 2 ^ r .exp
   normal-pos = mul-pos (lt-of-lt-of-le (lit< tt) (h .low)) (pow-pos (r .exp))

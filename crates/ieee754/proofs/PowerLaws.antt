@@ -20,7 +20,11 @@ mul-pow a b (suc p) = simp (pow-suc, mul-pow a b p, mul-mul-mul-comm)
 
 pub pow-mul : (b k p : ℕ) → (b ^ k) ^ p ≡ b ^ (p * k)
 pow-mul b k zero = pow-zero (b ^ k) ∙ sym (ap (λ (x : ℕ). b ^ x) (omega arith) ∙ pow-zero b)
-pow-mul b k (suc p) = pow-suc (b ^ k) p ∙ ap (λ (x : ℕ). x * b ^ k) (pow-mul b k p) ∙ sym (pow-add b (p * k) k) ∙ ap (λ (x : ℕ). b ^ x) (sym (suc-mul p k))
+pow-mul b k (suc p) =
+    pow-suc (b ^ k) p
+    ∙ ap (λ (x : ℕ). x * b ^ k) (pow-mul b k p)
+    ∙ sym (pow-add b (p * k) k)
+    ∙ ap (λ (x : ℕ). b ^ x) (sym (suc-mul p k))
 
 -- ---- powers of two among the factors
 
@@ -30,7 +34,10 @@ pow-shift p x k = ap (λ (y : ℕ). x ^ p * y) (sym (pow-mul 2 k p)) ∙ sym (mu
 
 -- with a factor c
 pub raised : (p x k c : ℕ) → x ^ p * (c * 2 ^ (p * k)) ≡ (x * 2 ^ k) ^ p * c
-raised p x k c = ap (λ (y : ℕ). x ^ p * y) (mul-comm c (2 ^ (p * k))) ∙ sym (mul-assoc (x ^ p) (2 ^ (p * k)) c) ∙ ap (λ (y : ℕ). y * c) (pow-shift p x k)
+raised p x k c =
+    ap (λ (y : ℕ). x ^ p * y) (mul-comm c (2 ^ (p * k)))
+    ∙ sym (mul-assoc (x ^ p) (2 ^ (p * k)) c)
+    ∙ ap (λ (y : ℕ). y * c) (pow-shift p x k)
 
 pub double-pow : (p x c : ℕ) → 2 ^ p * (x ^ p * c) ≡ (2 * x) ^ p * c
 double-pow p x c = sym (mul-assoc (2 ^ p) (x ^ p) c) ∙ ap (λ (y : ℕ). y * c) (sym (mul-pow 2 x p))
@@ -42,7 +49,8 @@ split-pow p a k c = simp (mul-add, pow-add, mul-assoc, mul-comm, mul-left-comm)
 -- a power of an odd number is odd
 pub odd-pow : (p w : ℕ) → (2 * w + 1) ^ p % 2 ≡ 1
 odd-pow zero w = ap (λ (x : ℕ). x % 2) (pow-zero (2 * w + 1))
-odd-pow (suc p) w = ap (λ (x : ℕ). x % 2) (pow-suc (2 * w + 1) p) ∙ step ((2 * w + 1) ^ p) (odd-pow p w)
+odd-pow (suc p) w =
+    ap (λ (x : ℕ). x % 2) (pow-suc (2 * w + 1) p) ∙ step ((2 * w + 1) ^ p) (odd-pow p w)
   where
     step : (x : ℕ) → x % 2 ≡ 1 → x * (2 * w + 1) % 2 ≡ 1
     step x h = omega arith
@@ -55,7 +63,9 @@ zero-pow (suc p) h = pow-suc 0 p ∙ omega arith
 
 pub le-pow : (p x : ℕ) → 0 < p → 0 < x → x ≤ x ^ p
 le-pow zero x P X = absurd (lt-irrefl 0 P)
-le-pow (suc p) x P X = le-trans (le-of-eq (sym (one-mul x))) (le-trans (mul-le-mul-right x (one-le-pow p x X)) (le-of-eq (sym (pow-suc x p))))
+le-pow (suc p) x P X =
+    le-trans (le-of-eq (sym (one-mul x)))
+    (le-trans (mul-le-mul-right x (one-le-pow p x X)) (le-of-eq (sym (pow-suc x p))))
 
 -- a power is below another only if its base is
 pub base-lt : (p x y : ℕ) → x ^ p < y ^ p → x < y

@@ -29,7 +29,9 @@ use Rattle.ieee754.proofs.RootLaws.{root-is, quotient-lt}
 pub kept-same : (p d n u m v : ℕ) → 0 < u → 0 < v → n * v ≡ m * u → kept p d n u ≡ kept p d m v
 kept-same p d n u m v U W e =
     let q = root p d (m / v) in
-    ap (λ (z : ℕ). nearest (root p d z) (compare (2 ^ p * n) ((2 * root p d z + 1) ^ p * u))) (div-same n u m v U W e) ∙ ap (nearest q) (compare-same (2 ^ p) ((2 * q + 1) ^ p) n u m v U W e)
+    ap (λ (z : ℕ). nearest (root p d z) (compare (2 ^ p * n) ((2 * root p d z + 1) ^ p * u)))
+    (div-same n u m v U W e)
+    ∙ ap (nearest q) (compare-same (2 ^ p) ((2 * q + 1) ^ p) n u m v U W e)
 
 pub roundRoot-same : (p : ℕ) (f : Format) (s : Bool) (a b c d : ℕ)
     → 0 < b
@@ -38,15 +40,20 @@ pub roundRoot-same : (p : ℕ) (f : Format) (s : Bool) (a b c d : ℕ)
     → roundRoot p f s a b ≡ roundRoot p f s c d
 roundRoot-same p f s a b c d B D e =
     let l = 2 ^ (p * low f) in
-    let h : a * l * d ≡ c * l * b = mul-right-comm a l d ∙ ap (λ (z : ℕ). z * l) e ∙ mul-right-comm c b l in
+    let h : a * l * d ≡ c * l * b =
+    mul-right-comm a l d ∙ ap (λ (z : ℕ). z * l) e ∙ mul-right-comm c b l in
     let k = dropped p f (c * l) d in
     let x = b * 2 ^ (p * k) in
     let y = d * 2 ^ (p * k) in
     let X : 0 < x = mul-pos B (pow-pos (p * k)) in
     let Y : 0 < y = mul-pos D (pow-pos (p * k)) in
-    let g : a * l * y ≡ c * l * x = sym (mul-assoc (a * l) d (2 ^ (p * k))) ∙ ap (λ (z : ℕ). z * 2 ^ (p * k)) h ∙ mul-assoc (c * l) b (2 ^ (p * k)) in
+    let g : a * l * y ≡ c * l * x =
+    sym (mul-assoc (a * l) d (2 ^ (p * k)))
+    ∙ ap (λ (z : ℕ). z * 2 ^ (p * k)) h
+    ∙ mul-assoc (c * l) b (2 ^ (p * k)) in
     roundRoot-is p f s a b
-    ∙ ap (λ (z : ℕ). core p f s (a * l) (b * 2 ^ (p * z)) z) (ap (λ (z : ℕ). (size z + (p - 1)) / p - prec f) (div-same (a * l) b (c * l) d B D h))
+    ∙ ap (λ (z : ℕ). core p f s (a * l) (b * 2 ^ (p * z)) z)
+    (ap (λ (z : ℕ). (size z + (p - 1)) / p - prec f) (div-same (a * l) b (c * l) d B D h))
     ∙ ap (λ (z : ℕ). units f s z k) (kept-same p (prec f) (a * l) x (c * l) y X Y g)
     ∙ sym (roundRoot-is p f s c d)
 
@@ -64,14 +71,16 @@ half-test : (n u : ℕ) → compare (2 * n) ((2 * (n / u) + 1) ^ 1 * u) ≡ comp
 half-test n u =
     let q = n / u in
     let l : 2 * n ≡ n % u * 2 + 2 * (q * u) = omega (arith, div-add-mod' n u) in
-    let r : (2 * q + 1) ^ 1 * u ≡ u + 2 * (q * u) = ap (λ (x : ℕ). x * u) (pow-one (2 * q + 1)) ∙ omega arith in
+    let r : (2 * q + 1) ^ 1 * u ≡ u + 2 * (q * u) =
+    ap (λ (x : ℕ). x * u) (pow-one (2 * q + 1)) ∙ omega arith in
     simp (l, r) (compare-add (n % u * 2) u (2 * (q * u)))
 
 core-one : (f : Format) (s : Bool) (n u k : ℕ)
     → n / u < 2 ^ (1 * prec f)
     → core 1 f s n u k ≡ units f s (nearest (n / u) (compare (n % u * 2) u)) k
 core-one f s n u k h =
-    ap (λ (q : ℕ). units f s (nearest q (compare (2 * n) ((2 * q + 1) ^ 1 * u))) k) (root-one (prec f) (n / u) h)
+    ap (λ (q : ℕ). units f s (nearest q (compare (2 * n) ((2 * q + 1) ^ 1 * u))) k)
+    (root-one (prec f) (n / u) h)
     ∙ ap (λ (o : Ordering). units f s (nearest (n / u) o) k) (half-test n u)
 
 dropped-one : (f : Format) (n den : ℕ) → dropped 1 f n den ≡ size (n / den) - prec f
@@ -84,7 +93,8 @@ roundRoot-one f s num den D =
     let n = num * 2 ^ (1 * low f) in
     let k = dropped 1 f n den in
     roundRoot-is 1 f s num den
-    ∙ core-one f s n (den * 2 ^ (1 * k)) k (quotient-lt 1 f n den k D (dropped-drops 1 f n den (zero-lt-suc 0) D .0))
+    ∙ core-one f s n (den * 2 ^ (1 * k)) k
+    (quotient-lt 1 f n den k D (dropped-drops 1 f n den (zero-lt-suc 0) D .0))
     ∙ (simp (dropped-one, one-mul) (sym (round-is f s num den)))
 
 -- ---- the root of a double, by its value
@@ -94,7 +104,8 @@ no-zero : (e : ℤ) (a c : ℕ) → 0 < a → zero * up e * c ≡ a * down e →
 no-zero e a c A h = omega (arith, h, mul-pos A (down-pos e))
 
 no-digits : (m : ℕ) (e : ℤ) (a c : ℕ) → a ≡ 0 → 0 < c → suc m * up e * c ≡ a * down e → ⊥
-no-digits m e a c A C h = omega (arith, h, ap (λ (x : ℕ). x * down e) A, mul-pos (mul-pos (zero-lt-suc m) (up-pos e)) C)
+no-digits m e a c A C h =
+    omega (arith, h, ap (λ (x : ℕ). x * down e) A, mul-pos (mul-pos (zero-lt-suc m) (up-pos e)) C)
 
 -- what gives back each zero gives back a value of 0
 by-zero : (op : Float → Float)
@@ -123,7 +134,8 @@ pub sqrt-of : (x : Float) (a c : ℕ)
 unfolding sqrt
 sqrt-of (fin true m e) a c A C v = absurd (true≢false (v .0))
 sqrt-of (fin false zero e) a c A C v = absurd (no-zero e a c A (v .1))
-sqrt-of (fin false (suc m) e) a c A C v = roundRoot-same 2 binary64 false (suc m * up e) (down e) a c (down-pos e) C (v .1)
+sqrt-of (fin false (suc m) e) a c A C v =
+    roundRoot-same 2 binary64 false (suc m * up e) (down e) a c (down-pos e) C (v .1)
 
 pub sqrt-negative : (x : Float) (a c : ℕ) → 0 < a → HasValue x true a c → sqrt x ≡ nan
 unfolding sqrt
@@ -139,7 +151,8 @@ pub cbrt-of : (x : Float) (s : Bool) (a c : ℕ)
 unfolding cbrt
 cbrt-of (fin t zero e) s a c A C v = absurd (no-zero e a c A (v .1))
 cbrt-of (fin t (suc m) e) s a c A C v =
-    roundRoot-same 3 binary64 t (suc m * up e) (down e) a c (down-pos e) C (v .1) ∙ ap (λ (b : Bool). roundRoot 3 binary64 b a c) (v .0)
+    roundRoot-same 3 binary64 t (suc m * up e) (down e) a c (down-pos e) C (v .1)
+    ∙ ap (λ (b : Bool). roundRoot 3 binary64 b a c) (v .0)
 
 -- ---- the sign goes through
 
@@ -153,7 +166,8 @@ unfolding units neg
 units-neg f s q k = go (ltb (q * 2 ^ k) (2 ^ (low f + suc (emax f))))
   where
     go : (b : Bool)
-        → cond b (odd (suc (prec f)) (not s) q k (low f)) (inf (not s)) ≡ neg (cond b (odd (suc (prec f)) s q k (low f)) (inf s))
+        → cond b (odd (suc (prec f)) (not s) q k (low f)) (inf (not s))
+        ≡ neg (cond b (odd (suc (prec f)) s q k (low f)) (inf s))
     go true = odd-neg (suc (prec f)) s q k (low f)
     go false = refl
 

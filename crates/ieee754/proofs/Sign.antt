@@ -25,7 +25,8 @@ abs-fields f s zero t = abs-odd (prec f) s t 0 (low f)
 abs-fields f s (suc x) t = go (eqb (suc x) (ones f)) (eqb t 0)
   where
     go : (a b : Bool)
-        → abs (cond a (cond b (inf s) nan) (odd (prec f) s (hid f + t) x (low f))) ≡ cond a (cond b (inf false) nan) (odd (prec f) false (hid f + t) x (low f))
+        → abs (cond a (cond b (inf s) nan) (odd (prec f) s (hid f + t) x (low f)))
+        ≡ cond a (cond b (inf false) nan) (odd (prec f) false (hid f + t) x (low f))
     go true true = refl
     go true false = refl
     go false b = abs-odd (prec f) s (hid f + t) x (low f)
@@ -55,8 +56,10 @@ unfolding ofBits
 abs-bits f x h =
     let b = toBits f x in
     let some : 0 < top f = mul-pos (pow-pos (prec f - 1)) (zero-lt-suc (ones f)) in
-    ap (λ (s : Bool). ofFields f s (b % top f % top f / hid f) (b % top f % hid f)) (lt-leb (top f) (b % top f) (mod-lt b some))
-    ∙ ap₂ (λ (y z : ℕ). ofFields f false (y / hid f) z) (mod-mod b (top f)) (mod-mod-of-dvd _ b (dvd-mul-right (hid f) (suc (ones f))))
+    ap (λ (s : Bool). ofFields f s (b % top f % top f / hid f) (b % top f % hid f))
+    (lt-leb (top f) (b % top f) (mod-lt b some))
+    ∙ ap₂ (λ (y z : ℕ). ofFields f false (y / hid f) z)
+    (mod-mod b (top f)) (mod-mod-of-dvd _ b (dvd-mul-right (hid f) (suc (ones f))))
     ∙ sym (abs-fields f (leb (top f) b) (b % top f / hid f) (b % hid f))
     ∙ ap abs (ofBits-toBits f x h)
 
@@ -68,4 +71,6 @@ unfolding ofBits
 negative-bits f x h n =
     let b = toBits f x in
     let e = ofBits-toBits f x h in
-    sym (negative-fields f (leb (top f) b) (b % top f / hid f) (b % hid f) (subst (λ (y : Float). T (not (isNan y))) (sym e) n)) ∙ ap negative e
+    sym (negative-fields f (leb (top f) b) (b % top f / hid f) (b % hid f)
+    (subst (λ (y : Float). T (not (isNan y))) (sym e) n))
+    ∙ ap negative e

@@ -5,4 +5,5 @@ use lib.Ieee.{Float, isNan, lt}
 use Rattle.ieee754.specs.CopySign.{negative}
 
 unfoldable pub max : Float → Float → Float
-max x y = cond (isNan x) y (cond (isNan y) x (cond (lt x y) y (cond (lt y x) x (cond (negative x) y x))))
+max x y =
+    cond (isNan x) y (cond (isNan y) x (cond (lt x y) y (cond (lt y x) x (cond (negative x) y x))))

@@ -42,7 +42,8 @@ addRegular nan y = true
 addRegular (inf s) y = true
 addRegular (fin s m e) nan = true
 addRegular (fin s m e) (inf t) = true
-addRegular (fin s m e) (fin t n d) = inRange 1 (magnitude s (m * up e * down d) t (n * up d * down e)) (down e * down d)
+addRegular (fin s m e) (fin t n d) =
+    inRange 1 (magnitude s (m * up e * down d) t (n * up d * down e)) (down e * down d)
 
 unfoldable pub mulRegular : Float → Float → Bool
 mulRegular nan y = true
@@ -61,7 +62,8 @@ divRegular (inf s) (inf t) = true
 divRegular (inf s) (fin t n d) = not (eqb n 0)
 divRegular (fin s m e) nan = true
 divRegular (fin s m e) (inf t) = true
-divRegular (fin s m e) (fin t n d) = not (eqb n 0) && inRange 1 (m * up e * down d) (n * up d * down e)
+divRegular (fin s m e) (fin t n d) =
+    not (eqb n 0) && inRange 1 (m * up e * down d) (n * up d * down e)
 
 unfoldable pub fmaRegular : Float → Float → Float → Bool
 fmaRegular nan y z = true
@@ -71,7 +73,9 @@ fmaRegular (fin s m e) (inf t) z = true
 fmaRegular (fin s m e) (fin t n d) nan = true
 fmaRegular (fin s m e) (fin t n d) (inf u) = true
 fmaRegular (fin s m e) (fin t n d) (fin u l g) =
-    inRange 1 (magnitude (unlike s t) (m * up e * (n * up d) * down g) u (l * up g * (down e * down d))) (down e * down d * down g)
+    inRange 1
+    (magnitude (unlike s t) (m * up e * (n * up d) * down g) u (l * up g * (down e * down d)))
+    (down e * down d * down g)
 
 -- no double fails the tests of its roots (`sqrt-regular`, `cbrt-regular` in `ieee754_laws`)
 unfoldable pub sqrtRegular : Float → Bool
@@ -93,16 +97,28 @@ abbrev pub ⊝_ : Traced Float → Traced Float
 ⊝ x = record { value = neg (x .value); regular = x .regular }
 
 abbrev pub _⊗_ : Traced Float → Traced Float → Traced Float
-x ⊗ y = record { value = mul binary64 (x .value) (y .value); regular = x .regular && y .regular && mulRegular (x .value) (y .value) }
+x ⊗ y = record {
+  value = mul binary64 (x .value) (y .value);
+  regular = x .regular && y .regular && mulRegular (x .value) (y .value);
+}
 
 abbrev pub _⊘_ : Traced Float → Traced Float → Traced Float
-x ⊘ y = record { value = div binary64 (x .value) (y .value); regular = x .regular && y .regular && divRegular (x .value) (y .value) }
+x ⊘ y = record {
+  value = div binary64 (x .value) (y .value);
+  regular = x .regular && y .regular && divRegular (x .value) (y .value);
+}
 
 abbrev pub _⊕_ : Traced Float → Traced Float → Traced Float
-x ⊕ y = record { value = add binary64 (x .value) (y .value); regular = x .regular && y .regular && addRegular (x .value) (y .value) }
+x ⊕ y = record {
+  value = add binary64 (x .value) (y .value);
+  regular = x .regular && y .regular && addRegular (x .value) (y .value);
+}
 
 abbrev pub _⊖_ : Traced Float → Traced Float → Traced Float
-x ⊖ y = record { value = sub binary64 (x .value) (y .value); regular = x .regular && y .regular && addRegular (x .value) (neg (y .value)) }
+x ⊖ y = record {
+  value = sub binary64 (x .value) (y .value);
+  regular = x .regular && y .regular && addRegular (x .value) (neg (y .value));
+}
 
 -- x.mul_add(y, z)
 abbrev pub mulAdd : Traced Float → Traced Float → Traced Float → Traced Float

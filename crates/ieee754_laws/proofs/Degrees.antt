@@ -35,32 +35,50 @@ use Rattle.ieee754_laws.proofs.ScaleLaws.{totalOrder-scale, totalCmp-sc
 
 -- ---- a lifted operation of one operand or of two, from its law on floats
 lift₁ : (op : Float → Float) (reg : Float → Bool) {k n q : ℤ}
-    → ((x : Float) → T (reg x) → T (reg (scale (n *ℤ k) x)) → op (scale (n *ℤ k) x) ≡ scale (q *ℤ k) (op x))
+    → ((x : Float) → T (reg x) → T (reg (scale (n *ℤ k) x)) →
+    op (scale (n *ℤ k) x) ≡ scale (q *ℤ k) (op x))
     → {x x' : Traced Float}
     → Scales k n x x'
-    → Scales k q (record { value = op (x .value); regular = x .regular && reg (x .value) }) (record { value = op (x' .value); regular = x' .regular && reg (x' .value) })
+    → Scales k q (record { value = op (x .value); regular = x .regular && reg (x .value) })
+    (record { value = op (x' .value); regular = x' .regular && reg (x' .value) })
 lift₁ op reg law {x} {x'} f = record {
   results = λ r r'.
-      let X = f .results (and-l (x .regular) (reg (x .value)) r) (and-l (x' .regular) (reg (x' .value)) r') .scaled in
+      let X =
+      f .results (and-l (x .regular) (reg (x .value)) r)
+      (and-l (x' .regular) (reg (x' .value)) r') .scaled in
       record {
-        scaled = ap op X ∙ law (x .value) (and-r (x .regular) (reg (x .value)) r) (subst (λ (a : Float). T (reg a)) X (and-r (x' .regular) (reg (x' .value)) r'));
+        scaled =
+            ap op X
+            ∙ law (x .value) (and-r (x .regular) (reg (x .value)) r)
+            (subst (λ (a : Float). T (reg a)) X (and-r (x' .regular) (reg (x' .value)) r'));
       };
 }
 
 lift₂ : (op : Float → Float → Float) (reg : Float → Float → Bool) {k n p q : ℤ}
-    → ((x y : Float) → T (reg x y) → T (reg (scale (n *ℤ k) x) (scale (p *ℤ k) y)) → op (scale (n *ℤ k) x) (scale (p *ℤ k) y) ≡ scale (q *ℤ k) (op x y))
+    → ((x y : Float) → T (reg x y) → T (reg (scale (n *ℤ k) x) (scale (p *ℤ k) y)) →
+    op (scale (n *ℤ k) x) (scale (p *ℤ k) y) ≡ scale (q *ℤ k) (op x y))
     → {x x' y y' : Traced Float}
     → Scales k n x x'
     → Scales k p y y'
-    → Scales k q (record { value = op (x .value) (y .value); regular = x .regular && y .regular && reg (x .value) (y .value) })
-    (record { value = op (x' .value) (y' .value); regular = x' .regular && y' .regular && reg (x' .value) (y' .value) })
+    → Scales k q (record {
+      value = op (x .value) (y .value);
+      regular = x .regular && y .regular && reg (x .value) (y .value);
+    })
+    (record {
+      value = op (x' .value) (y' .value);
+      regular = x' .regular && y' .regular && reg (x' .value) (y' .value);
+    })
 lift₂ op reg law {x} {x'} {y} {y'} f g = record {
   results = λ r r'.
       let c = three (x .regular) (y .regular) (reg (x .value) (y .value)) r in
       let c' = three (x' .regular) (y' .regular) (reg (x' .value) (y' .value)) r' in
       let X = f .results (c .0) (c' .0) .scaled in
       let Y = g .results (c .1) (c' .1) .scaled in
-      record { scaled = ap₂ op X Y ∙ law (x .value) (y .value) (c .2) (subst₂ (λ (a b : Float). T (reg a b)) X Y (c' .2)) };
+      record {
+        scaled =
+            ap₂ op X Y
+            ∙ law (x .value) (y .value) (c .2) (subst₂ (λ (a b : Float). T (reg a b)) X Y (c' .2));
+      };
 }
 
 -- a function of one operand that rounds nothing; and a test of one operand or of two, which comes
@@ -116,13 +134,17 @@ module _ {k : ℤ} where
       → Scales k n x x'
       → Scales k p y y'
       → Scales k (n +ℤ p) (traced._⊗_ x y) (traced._⊗_ x' y')
-  _⊗_ {n} {p} = lift₂ (mul binary64) mulRegular (λ a b. rw (ℤ-add-mul n p k) (mul-scale (n *ℤ k) (p *ℤ k) a b))
+  _⊗_ {n} {p} =
+      lift₂ (mul binary64) mulRegular
+      (λ a b. rw (ℤ-add-mul n p k) (mul-scale (n *ℤ k) (p *ℤ k) a b))
 
   pub _⊘_ : {n p : ℤ} {x x' y y' : Traced Float}
       → Scales k n x x'
       → Scales k p y y'
       → Scales k (n -ℤ p) (traced._⊘_ x y) (traced._⊘_ x' y')
-  _⊘_ {n} {p} = lift₂ (div binary64) divRegular (λ a b. rw (ℤ-sub-mul n p k) (div-scale (n *ℤ k) (p *ℤ k) a b))
+  _⊘_ {n} {p} =
+      lift₂ (div binary64) divRegular
+      (λ a b. rw (ℤ-sub-mul n p k) (div-scale (n *ℤ k) (p *ℤ k) a b))
 
   pub _⊕_ : {n : ℤ} {x x' y y' : Traced Float}
       → Scales k n x x'
@@ -153,12 +175,23 @@ module _ {k : ℤ} where
       → Scales k (n +ℤ p) (traced.mulAdd x y z) (traced.mulAdd x' y' z')
   mulAdd {n} {p} {x} {x'} {y} {y'} {z} {z'} f g h = record {
     results = λ r r'.
-        let c = three (x .regular && y .regular) (z .regular) (fmaRegular (x .value) (y .value) (z .value)) r in
-        let c' = three (x' .regular && y' .regular) (z' .regular) (fmaRegular (x' .value) (y' .value) (z' .value)) r' in
-        let X = f .results (and-l (x .regular) (y .regular) (c .0)) (and-l (x' .regular) (y' .regular) (c' .0)) .scaled in
-        let Y = g .results (and-r (x .regular) (y .regular) (c .0)) (and-r (x' .regular) (y' .regular) (c' .0)) .scaled in
-        let Z = h .results (c .1) (c' .1) .scaled ∙ ap (λ (t : ℤ). scale t (z .value)) (ℤ-add-mul n p k) in
-        let law = fma-scale (n *ℤ k) (p *ℤ k) (x .value) (y .value) (z .value) (c .2) (subst₃ (λ (a b d : Float). T (fmaRegular a b d)) X Y Z (c' .2)) in
+        let c =
+        three (x .regular && y .regular) (z .regular) (fmaRegular (x .value) (y .value) (z .value))
+        r in
+        let c' =
+        three (x' .regular && y' .regular) (z' .regular)
+        (fmaRegular (x' .value) (y' .value) (z' .value)) r' in
+        let X =
+        f .results (and-l (x .regular) (y .regular) (c .0))
+        (and-l (x' .regular) (y' .regular) (c' .0)) .scaled in
+        let Y =
+        g .results (and-r (x .regular) (y .regular) (c .0))
+        (and-r (x' .regular) (y' .regular) (c' .0)) .scaled in
+        let Z =
+        h .results (c .1) (c' .1) .scaled ∙ ap (λ (t : ℤ). scale t (z .value)) (ℤ-add-mul n p k) in
+        let law =
+        fma-scale (n *ℤ k) (p *ℤ k) (x .value) (y .value) (z .value) (c .2)
+        (subst₃ (λ (a b d : Float). T (fmaRegular a b d)) X Y Z (c' .2)) in
         record { scaled = rw (X, Y, Z, ℤ-add-mul n p k) law };
   }
 
@@ -177,20 +210,25 @@ module _ {k : ℤ} where
       → At k n x x'
       → At k p y y'
       → At k n (copysign x y) (copysign x' y')
-  copysign-at {n} {p} {x} {y = y} f g = record { scaled = ap₂ copysign (f .scaled) (g .scaled) ∙ copysign-scale (n *ℤ k) (p *ℤ k) x y }
+  copysign-at {n} {p} {x} {y = y} f g = record {
+    scaled = ap₂ copysign (f .scaled) (g .scaled) ∙ copysign-scale (n *ℤ k) (p *ℤ k) x y;
+  }
 
   pub max-at : {n : ℤ} {x x' y y' : Float}
       → At k n x x'
       → At k n y y'
       → At k n (max x y) (max x' y')
-  max-at {n} {x} {y = y} f g = record { scaled = ap₂ max (f .scaled) (g .scaled) ∙ max-scale (n *ℤ k) x y }
+  max-at {n} {x} {y = y} f g =
+      record { scaled = ap₂ max (f .scaled) (g .scaled) ∙ max-scale (n *ℤ k) x y }
 
   pub clamp-at : {n : ℤ} {x x' l l' h h' : Float}
       → At k n x x'
       → At k n l l'
       → At k n h h'
       → At k n (clamp x l h) (clamp x' l' h')
-  clamp-at {n} {x} {l = l} {h = h} f g i = record { scaled = (λ j. clamp (f .scaled j) (g .scaled j) (i .scaled j)) ∙ clamp-scale (n *ℤ k) x l h }
+  clamp-at {n} {x} {l = l} {h = h} f g i = record {
+    scaled = (λ j. clamp (f .scaled j) (g .scaled j) (i .scaled j)) ∙ clamp-scale (n *ℤ k) x l h;
+  }
 
   -- ---- tests
   pub lt-same : {n : ℤ} {x x' y y' : Float} → At k n x x' → At k n y y' → lt x y ≡ lt x' y'
@@ -251,8 +289,13 @@ module _ {A : Type 0} {R : A → A → Type 0} where
       → Both S (traced._>>=_ m f) (traced._>>=_ m' f')
   _>>=_ {m = m} {m' = m'} {f = f} {f' = f'} h g = record {
     results = λ r r'.
-        let x = h .results (and-l (m .regular) (f (m .value) .regular) r) (and-l (m' .regular) (f' (m' .value) .regular) r') in
-        g (m .value) (m' .value) x .results (and-r (m .regular) (f (m .value) .regular) r) (and-r (m' .regular) (f' (m' .value) .regular) r');
+        let x =
+        h .results
+        (and-l (m .regular) (f (m .value) .regular) r)
+        (and-l (m' .regular) (f' (m' .value) .regular) r') in
+        g (m .value) (m' .value) x .results
+        (and-r (m .regular) (f (m .value) .regular) r)
+        (and-r (m' .regular) (f' (m' .value) .regular) r');
   }
 
   pub if_then_else_ : {b b' : Bool} {m m' l l' : Traced A}
@@ -267,7 +310,8 @@ module _ {A : Type 0} {R : A → A → Type 0} where
       → ((x x' : A) → R x x' → S x x')
       → Both R m m'
       → Both S m m'
-  both-map {m = m} {m' = m'} f h = record { results = λ r r'. f (m .value) (m' .value) (h .results r r') }
+  both-map {m = m} {m' = m'} f h =
+      record { results = λ r r'. f (m .value) (m' .value) (h .results r r') }
 
 -- a result at degree 0 is equal in the two runs
 pub equal : {k : ℤ} {m m' : Traced Float} → Scales k (pos 0) m m' → Both {A = Float} _≡_ m m'

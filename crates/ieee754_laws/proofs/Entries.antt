@@ -23,7 +23,8 @@ module _ {A : Type 0} {R : A → A → Type 0} where
       → Forall₂ R l l'
       → R x x'
       → Forall₂ R (set l i x) (set l' i' x')
-  set-entries {i} {l = l} {l'} {x} {x'} e ys h = subst (λ (j : ℕ). Forall₂ R (set l i x) (set l' j x')) e (set-both i ys h)
+  set-entries {i} {l = l} {l'} {x} {x'} e ys h =
+      subst (λ (j : ℕ). Forall₂ R (set l i x) (set l' j x')) e (set-both i ys h)
 
   take-both : (n : ℕ) {l l' : List A} → Forall₂ R l l' → Forall₂ R (take n l) (take n l')
   take-both zero h = Forall₂·nil
@@ -34,7 +35,8 @@ module _ {A : Type 0} {R : A → A → Type 0} where
       → n ≡ n'
       → Forall₂ R l l'
       → Forall₂ R (take n l) (take n' l')
-  take-entries {n} {l = l} {l'} e ys = subst (λ (m : ℕ). Forall₂ R (take n l) (take m l')) e (take-both n ys)
+  take-entries {n} {l = l} {l'} e ys =
+      subst (λ (m : ℕ). Forall₂ R (take n l) (take m l')) e (take-both n ys)
 
   -- as a list begins that has four slots
   pub four-entries : {x x' : A} → R x x' → Forall₂ R (x ∷ x ∷ x ∷ x ∷ []) (x' ∷ x' ∷ x' ∷ x' ∷ [])

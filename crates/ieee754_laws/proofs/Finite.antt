@@ -16,7 +16,8 @@ pub add-operands : (x y : Float) → T (finite (add binary64 x y)) → T (finite
 unfolding add
 add-operands nan y h = absurd h
 add-operands (inf s) nan h = absurd h
-add-operands (inf s) (inf t) h = absurd (cond-either (λ (z : Float). T (finite z) → ⊥) (Bool·beq s t) (λ k. k) (λ k. k) h)
+add-operands (inf s) (inf t) h =
+    absurd (cond-either (λ (z : Float). T (finite z) → ⊥) (Bool·beq s t) (λ k. k) (λ k. k) h)
 add-operands (inf s) (fin t n d) h = absurd h
 add-operands (fin s m e) nan h = absurd h
 add-operands (fin s m e) (inf t) h = absurd h
@@ -27,7 +28,9 @@ unfolding mul
 mul-operands nan y h = absurd h
 mul-operands (inf s) nan h = absurd h
 mul-operands (inf s) (inf t) h = absurd h
-mul-operands (inf s) (fin t n d) h = absurd (cond-either (λ (z : Float). T (finite z) → ⊥) (eqb n 0) (λ k. k) (λ k. k) h)
+mul-operands (inf s) (fin t n d) h =
+    absurd (cond-either (λ (z : Float). T (finite z) → ⊥) (eqb n 0) (λ k. k) (λ k. k) h)
 mul-operands (fin s m e) nan h = absurd h
-mul-operands (fin s m e) (inf t) h = absurd (cond-either (λ (z : Float). T (finite z) → ⊥) (eqb m 0) (λ k. k) (λ k. k) h)
+mul-operands (fin s m e) (inf t) h =
+    absurd (cond-either (λ (z : Float). T (finite z) → ⊥) (eqb m 0) (λ k. k) (λ k. k) h)
 mul-operands (fin s m e) (fin t n d) h = (tt, tt)

@@ -54,7 +54,9 @@ odd-once m n zero zero o p h = (omega arith, refl)
 odd-once m n zero (suc b) o p h = absurd (omega (arith, ap (λ (x : ℕ). n * x) (pow-succ' 2 b)))
 odd-once m n (suc a) zero o p h = absurd (omega (arith, ap (λ (x : ℕ). m * x) (pow-succ' 2 a)))
 odd-once m n (suc a) (suc b) o p h =
-    let r = odd-once m n a b o p (omega (arith, ap (λ (x : ℕ). m * x) (pow-succ' 2 a), ap (λ (x : ℕ). n * x) (pow-succ' 2 b))) in
+    let r =
+    odd-once m n a b o p
+    (omega (arith, ap (λ (x : ℕ). m * x) (pow-succ' 2 a), ap (λ (x : ℕ). n * x) (pow-succ' 2 b))) in
     (r .0, ap suc (r .1))
 
 -- with an exponent of either sign
@@ -63,10 +65,17 @@ pub odd-unique : (m n : ℕ) (e d : ℤ)
     → n % 2 ≡ 1
     → m * up e * down d ≡ n * up d * down e
     → (m ≡ n) × (e ≡ d)
-odd-unique m n (pos a) (pos b) o p h = let r = odd-once m n a b o p (omega arith) in (r .0, ap pos (r .1))
-odd-unique m n (pos a) (negsuc b) o p h = absurd (omega (arith, ap (λ (x : ℕ). m * 2 ^ a * x) (pow-succ' 2 b)))
-odd-unique m n (negsuc a) (pos b) o p h = absurd (omega (arith, ap (λ (x : ℕ). n * 2 ^ b * x) (pow-succ' 2 a)))
-odd-unique m n (negsuc a) (negsuc b) o p h = let r = odd-once m n b a o p (omega (arith, ap (λ (x : ℕ). m * x) (pow-succ' 2 b), ap (λ (x : ℕ). n * x) (pow-succ' 2 a))) in (r .0, ap negsuc (sym (r .1)))
+odd-unique m n (pos a) (pos b) o p h =
+    let r = odd-once m n a b o p (omega arith) in (r .0, ap pos (r .1))
+odd-unique m n (pos a) (negsuc b) o p h =
+    absurd (omega (arith, ap (λ (x : ℕ). m * 2 ^ a * x) (pow-succ' 2 b)))
+odd-unique m n (negsuc a) (pos b) o p h =
+    absurd (omega (arith, ap (λ (x : ℕ). n * 2 ^ b * x) (pow-succ' 2 a)))
+odd-unique m n (negsuc a) (negsuc b) o p h =
+    let r =
+    odd-once m n b a o p
+    (omega (arith, ap (λ (x : ℕ). m * x) (pow-succ' 2 b), ap (λ (x : ℕ). n * x) (pow-succ' 2 a))) in
+    (r .0, ap negsuc (sym (r .1)))
 
 -- ---- two doubles with the same sign and size are equal: they have the same bit pattern
 pub fits-unique : (f : Format) (s : Bool) (m : ℕ) (e : ℤ) (n : ℕ) (d : ℤ)
@@ -78,20 +87,29 @@ unfolding toBits
 fits-unique f s m e n d x y h =
     let l = 2 ^ low f in
     let same : m * up e * l / down e ≡ n * up d * l / down d =
-    div-same (m * up e * l) (down e) (n * up d * l) (down d) (down-pos e) (down-pos d) (mul-right-comm (m * up e) l (down d) ∙ ap (λ (z : ℕ). z * l) h ∙ mul-right-comm (n * up d) (down e) l) in
+    div-same (m * up e * l) (down e) (n * up d * l) (down d) (down-pos e) (down-pos d)
+    (mul-right-comm (m * up e) l (down d)
+    ∙ ap (λ (z : ℕ). z * l) h
+    ∙ mul-right-comm (n * up d) (down e) l) in
     sym (ofBits-toBits f (fin s m e) x)
-    ∙ ap (λ (z : ℕ). lib.Ieee.ofBits f (cond s (top f) 0 + (size z - prec f) * hid f + z / 2 ^ (size z - prec f))) same
+    ∙ ap (λ (z : ℕ).
+    lib.Ieee.ofBits f (cond s (top f) 0 + (size z - prec f) * hid f + z / 2 ^ (size z - prec f)))
+    same
     ∙ ofBits-toBits f (fin s n d) y
 
 -- ---- roots
 units-fits : (f : Format) (s : Bool) (q k : ℕ) → q ≤ 2 ^ prec f → T (fits f (units f s q k))
 unfolding units
-units-fits f s q k a = go (ltb (q * 2 ^ k) (2 ^ (low f + suc (emax f)))) (ltb→lt (q * 2 ^ k) (2 ^ (low f + suc (emax f))))
+units-fits f s q k a =
+    go (ltb (q * 2 ^ k) (2 ^ (low f + suc (emax f))))
+    (ltb→lt (q * 2 ^ k) (2 ^ (low f + suc (emax f))))
   where
     go : (b : Bool)
         → (T b → q * 2 ^ k < 2 ^ (low f + suc (emax f)))
         → T (fits f (cond b (odd (suc (prec f)) s q k (low f)) (inf s)))
-    go true h = odd-fits f (suc (prec f)) s q k (lt-of-le-of-lt a (pow-lt (le-refl (suc (prec f))))) a (h tt)
+    go true h =
+        odd-fits f (suc (prec f)) s q k (lt-of-le-of-lt a (pow-lt (le-refl (suc (prec f))))) a
+        (h tt)
     go false h = inf-fits f s
 
 pub roundRoot-fits : (p : ℕ) (f : Format) (s : Bool) (num den : ℕ)
@@ -103,10 +121,14 @@ roundRoot-fits p f s num den P D =
     let k = dropped p f n den in
     let u = den * 2 ^ (p * k) in
     let w = root p (prec f) (n / u) in
-    let few : n / u < 2 ^ (p * prec f) = quotient-lt p f n den k D (dropped-drops p f n den P D .0) in
-    let short : w < 2 ^ prec f = base-lt p w (2 ^ prec f) (lt-of-le-of-lt (root-is p (prec f) (n / u) P few .0) (lt-of-lt-of-le few (le-of-eq (sym (pow-mul 2 (prec f) p))))) in
+    let few : n / u < 2 ^ (p * prec f) =
+    quotient-lt p f n den k D (dropped-drops p f n den P D .0) in
+    let short : w < 2 ^ prec f =
+    base-lt p w (2 ^ prec f) (lt-of-le-of-lt (root-is p (prec f) (n / u) P few .0)
+    (lt-of-lt-of-le few (le-of-eq (sym (pow-mul 2 (prec f) p))))) in
     subst (λ (x : Float). T (fits f x)) (sym (roundRoot-is p f s num den))
-    (units-fits f s (kept p (prec f) n u) k (le-trans (nearest-le w (compare (2 ^ p * n) ((2 * w + 1) ^ p * u))) short))
+    (units-fits f s (kept p (prec f) n u) k
+    (le-trans (nearest-le w (compare (2 ^ p * n) ((2 * w + 1) ^ p * u))) short))
 
 pub sqrt-fits : (x : Float) → T (fits binary64 x) → T (fits binary64 (sqrt x))
 unfolding sqrt
@@ -115,21 +137,26 @@ sqrt-fits (inf false) t = inf-fits binary64 false
 sqrt-fits (inf true) t = nan-fits binary64
 sqrt-fits (fin s zero e) t = t
 sqrt-fits (fin true (suc m) e) t = nan-fits binary64
-sqrt-fits (fin false (suc m) e) t = roundRoot-fits 2 binary64 false (suc m * up e) (down e) (zero-lt-suc 1) (down-pos e)
+sqrt-fits (fin false (suc m) e) t =
+    roundRoot-fits 2 binary64 false (suc m * up e) (down e) (zero-lt-suc 1) (down-pos e)
 
 pub cbrt-fits : (x : Float) → T (fits binary64 x) → T (fits binary64 (cbrt x))
 unfolding cbrt
 cbrt-fits nan t = nan-fits binary64
 cbrt-fits (inf s) t = inf-fits binary64 s
 cbrt-fits (fin s zero e) t = t
-cbrt-fits (fin s (suc m) e) t = roundRoot-fits 3 binary64 s (suc m * up e) (down e) (zero-lt-suc 2) (down-pos e)
+cbrt-fits (fin s (suc m) e) t =
+    roundRoot-fits 3 binary64 s (suc m * up e) (down e) (zero-lt-suc 2) (down-pos e)
 
 -- ---- fused multiply-add
 sum-fits : (f : Format) (s : Bool) (a : ℕ) (t : Bool) (b c : ℕ) → T (fits f (sum f s a t b c))
 unfolding sum
 sum-fits f s a t b c =
-    cond-fits f (Bool·beq s t) (round f s (a + b) c) (cond (ltb a b) (round f t (b - a) c) (round f (s && ltb b a) (a - b) c)) (round-fits f s (a + b) c)
-    (cond-fits f (ltb a b) (round f t (b - a) c) (round f (s && ltb b a) (a - b) c) (round-fits f t (b - a) c) (round-fits f (s && ltb b a) (a - b) c))
+    cond-fits f (Bool·beq s t) (round f s (a + b) c)
+    (cond (ltb a b) (round f t (b - a) c) (round f (s && ltb b a) (a - b) c))
+    (round-fits f s (a + b) c)
+    (cond-fits f (ltb a b) (round f t (b - a) c) (round f (s && ltb b a) (a - b) c)
+    (round-fits f t (b - a) c) (round-fits f (s && ltb b a) (a - b) c))
 
 pub fma-fits : (x y z : Float) → T (fits binary64 (fma x y z))
 unfolding fma
@@ -140,7 +167,8 @@ fma-fits (fin s m e) (inf t) z = add-fits binary64 (mul binary64 (fin s m e) (in
 fma-fits (fin s m e) (fin t n d) nan = nan-fits binary64
 fma-fits (fin s m e) (fin t n d) (inf u) = inf-fits binary64 u
 fma-fits (fin s m e) (fin t n d) (fin u k g) =
-    sum-fits binary64 (lib.Ieee.unlike s t) (m * up e * (n * up d) * down g) u (k * up g * (down e * down d)) (down e * down d * down g)
+    sum-fits binary64 (lib.Ieee.unlike s t) (m * up e * (n * up d) * down g) u
+    (k * up g * (down e * down d)) (down e * down d * down g)
 
 -- ---- what rounds nothing
 resigned : (f : Format) (s t : Bool) (m : ℕ) (e : ℤ)
@@ -165,7 +193,8 @@ copysign-fits f (fin s m e) y t = resigned f s (negative y) m e t
 pub max-fits : (f : Format) (x y : Float) → T (fits f x) → T (fits f y) → T (fits f (max x y))
 unfolding max
 max-fits f x y X Y =
-    cond-fits f (isNan x) y _ Y (cond-fits f (isNan y) x _ X (cond-fits f (lt x y) y _ Y (cond-fits f (lt y x) x _ X (cond-fits f (negative x) y x Y X))))
+    cond-fits f (isNan x) y _ Y (cond-fits f (isNan y) x _ X
+    (cond-fits f (lt x y) y _ Y (cond-fits f (lt y x) x _ X (cond-fits f (negative x) y x Y X))))
 
 pub clamp-fits : (f : Format) (x low high : Float)
     → T (fits f x)
@@ -173,4 +202,5 @@ pub clamp-fits : (f : Format) (x low high : Float)
     → T (fits f high)
     → T (fits f (clamp x low high))
 unfolding clamp
-clamp-fits f x low high X L H = cond-fits f (lt high (raised x low)) high (raised x low) H (cond-fits f (lt x low) low x L X)
+clamp-fits f x low high X L H =
+    cond-fits f (lt high (raised x low)) high (raised x low) H (cond-fits f (lt x low) low x L X)

@@ -29,7 +29,9 @@ fma-one (inf false) z = refl
 fma-one (fin s m e) nan = refl
 fma-one (fin s m e) (inf u) = refl
 fma-one (fin s m e) (fin u k g) =
-    ap (λ (b : Bool). sum binary64 b (m * up e * 1 * down g) u (k * up g * (down e * 1)) (down e * 1 * down g)) (like s)
+    ap (λ (b : Bool).
+    sum binary64 b (m * up e * 1 * down g) u (k * up g * (down e * 1)) (down e * 1 * down g))
+    (like s)
     ∙ (simp mul-one)
 
 -- ---- with a zero of the sign u as the addend, and an exact product ±a / c: the sum has the
@@ -40,9 +42,13 @@ sum-zero : (s : Bool) (a : ℕ) (u : Bool) (c : ℕ)
 unfolding sum
 sum-zero true a true c k = ap (λ (x : ℕ). round binary64 true x c) (add-zero a)
 sum-zero false a false c k = ap (λ (x : ℕ). round binary64 false x c) (add-zero a)
-sum-zero false a true c k = ap (λ (b : Bool). cond b (round binary64 true (0 - a) c) (round binary64 false (a - 0) c)) (le-ltb a 0 zero-le) ∙ ap (λ (x : ℕ). round binary64 false x c) (sub-zero a)
+sum-zero false a true c k =
+    ap (λ (b : Bool). cond b (round binary64 true (0 - a) c) (round binary64 false (a - 0) c))
+    (le-ltb a 0 zero-le)
+    ∙ ap (λ (x : ℕ). round binary64 false x c) (sub-zero a)
 sum-zero true a false c k =
-    ap (λ (b : Bool). cond b (round binary64 false (0 - a) c) (round binary64 (ltb 0 a) (a - 0) c)) (le-ltb a 0 zero-le)
+    ap (λ (b : Bool). cond b (round binary64 false (0 - a) c) (round binary64 (ltb 0 a) (a - 0) c))
+    (le-ltb a 0 zero-le)
     ∙ ap₂ (λ (b : Bool) (x : ℕ). round binary64 b x c) (positive k) (sub-zero a)
   where
     positive : (false ≡ true) ⊎ (0 < a) → ltb 0 a ≡ true
@@ -53,7 +59,10 @@ product-zero : (s : Bool) (a : ℕ) (u : Bool) (c : ℕ)
     → 0 < c
     → (u ≡ true) ⊎ (0 < a)
     → sum binary64 s (a * 1) u (0 * c) (c * 1) ≡ round binary64 s a c
-product-zero s a u c C k = ap₂ (λ (x y : ℕ). sum binary64 s x u y (c * 1)) (mul-one a) (zero-mul c) ∙ ap (λ (x : ℕ). sum binary64 s a u 0 x) (mul-one c) ∙ sum-zero s a u c k
+product-zero s a u c C k =
+    ap₂ (λ (x y : ℕ). sum binary64 s x u y (c * 1)) (mul-one a) (zero-mul c)
+    ∙ ap (λ (x : ℕ). sum binary64 s a u 0 x) (mul-one c)
+    ∙ sum-zero s a u c k
 
 -- an infinite product, or none
 special-zero : (b s u : Bool)
@@ -70,12 +79,17 @@ fma-minus-zero (inf s) (inf t) = refl
 fma-minus-zero (inf s) (fin t n d) = special-zero (eqb n 0) (unlike s t) true
 fma-minus-zero (fin s m e) nan = refl
 fma-minus-zero (fin s m e) (inf t) = special-zero (eqb m 0) (unlike s t) true
-fma-minus-zero (fin s m e) (fin t n d) = product-zero (unlike s t) (m * up e * (n * up d)) true (down e * down d) (mul-pos (down-pos e) (down-pos d)) (inl refl)
+fma-minus-zero (fin s m e) (fin t n d) =
+    product-zero (unlike s t) (m * up e * (n * up d)) true (down e * down d)
+    (mul-pos (down-pos e) (down-pos d)) (inl refl)
 
 -- a zero of either sign equals 0.0
 zero-equal : (s : Bool) (e : ℤ) → eq (fin s zero e) (double 0) ≡ true
 unfolding eq ofBits
-zero-equal s e = ap₂ (λ (a b : ℕ). level s a false b) (ap (λ (a : ℕ). a * 1) (zero-mul (up e))) (zero-mul (down e)) ∙ go s
+zero-equal s e =
+    ap₂ (λ (a b : ℕ). level s a false b)
+    (ap (λ (a : ℕ). a * 1) (zero-mul (up e))) (zero-mul (down e))
+    ∙ go s
   where
     go : (s : Bool) → level s 0 false 0 ≡ true
     go true = refl
@@ -96,5 +110,6 @@ fma-plus-zero (fin s m e) (inf t) p q = special-zero (eqb m 0) (unlike s t) fals
 fma-plus-zero (fin s zero e) (fin t n d) p q = absurd (true≢false (sym (zero-equal s e) ∙ p))
 fma-plus-zero (fin s (suc m) e) (fin t zero d) p q = absurd (true≢false (sym (zero-equal t d) ∙ q))
 fma-plus-zero (fin s (suc m) e) (fin t (suc n) d) p q =
-    product-zero (unlike s t) (suc m * up e * (suc n * up d)) false (down e * down d) (mul-pos (down-pos e) (down-pos d))
+    product-zero (unlike s t) (suc m * up e * (suc n * up d)) false (down e * down d)
+    (mul-pos (down-pos e) (down-pos d))
     (inr (mul-pos (mul-pos (zero-lt-suc m) (up-pos e)) (mul-pos (zero-lt-suc n) (up-pos d))))

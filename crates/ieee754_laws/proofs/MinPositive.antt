@@ -42,27 +42,37 @@ max-regular c x small r = go (max-either x minPositive)
   where
     go : (max x minPositive ≡ x) ⊎ (max x minPositive ≡ minPositive) → max x minPositive ≡ x
     go (inl e) = e
-    go (inr e) = absurd (T-not (mulRegular c minPositive) small (subst (λ (m : Float). T (mulRegular c m)) e r))
+    go (inr e) =
+        absurd
+        (T-not (mulRegular c minPositive) small (subst (λ (m : Float). T (mulRegular c m)) e r))
 
 -- the factor c is itself a formula that is equal in the two runs, as `64.0 * f64::EPSILON` is
 pub floored : {k n : ℤ} {c : Traced Float} {x x' : Float}
     → Scales k (pos 0) c c
     → T (not (mulRegular (c .value) minPositive))
     → At k n x x'
-    → Scales k (pos 0 +ℤ n) (traced._⊗_ c (traced.!_ (max x minPositive))) (traced._⊗_ c (traced.!_ (max x' minPositive)))
+    → Scales k (pos 0 +ℤ n)
+    (traced._⊗_ c (traced.!_ (max x minPositive)))
+    (traced._⊗_ c (traced.!_ (max x' minPositive)))
 floored {c = c} {x = x} {x' = x'} same small h = record {
   results = λ r r'.
-      let e = max-regular (c .value) x small (and-r (c .regular && true) (mulRegular (c .value) (max x minPositive)) r) in
-      let e' = max-regular (c .value) x' small (and-r (c .regular && true) (mulRegular (c .value) (max x' minPositive)) r') in
+      let e =
+      max-regular (c .value) x small
+      (and-r (c .regular && true) (mulRegular (c .value) (max x minPositive)) r) in
+      let e' =
+      max-regular (c .value) x' small
+      (and-r (c .regular && true) (mulRegular (c .value) (max x' minPositive)) r') in
       rw (e, e') ((same ⊗ ! h) .results (rw e at r) (rw e' at r'));
 }
 
 -- 32.0 * f64::EPSILON and 64.0 * f64::EPSILON are small enough
-pub epsilon32-small : T (not (mulRegular (mul binary64 (double 0x4040_0000_0000_0000) epsilon) minPositive))
+pub epsilon32-small :
+    T (not (mulRegular (mul binary64 (double 0x4040_0000_0000_0000) epsilon) minPositive))
 unfolding mulRegular inRange mul round ofBits
 epsilon32-small = tt
 
-pub epsilon64-small : T (not (mulRegular (mul binary64 (double 0x4050_0000_0000_0000) epsilon) minPositive))
+pub epsilon64-small :
+    T (not (mulRegular (mul binary64 (double 0x4050_0000_0000_0000) epsilon) minPositive))
 unfolding mulRegular inRange mul round ofBits
 epsilon64-small = tt
 
@@ -80,7 +90,8 @@ pub norm-at : {k n : ℤ} {m m' : Traced Float}
     → Scales k (n +ℤ n) m m'
     → (T (m .regular) → T (zeroOrNormal (m .value)))
     → (T (m' .regular) → T (zeroOrNormal (m' .value)))
-    → Both (λ r r'. At k n r r' × (lt minPositive r ≡ lt minPositive r')) (traced.√_ m) (traced.√_ m')
+    → Both (λ r r'. At k n r r' × (lt minPositive r ≡ lt minPositive r'))
+    (traced.√_ m) (traced.√_ m')
 norm-at {m = m} {m' = m'} h s s' = record {
   results = λ r r'.
       let a = and-l (m .regular) (sqrtRegular (m .value)) r in

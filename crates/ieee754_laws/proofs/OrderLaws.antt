@@ -44,13 +44,18 @@ asked-is false a false b = go (compare a b) (compared a b)
     go Ordering·gt h = ap (λ (x : Bool). x || false) (le-ltb a b (le-of-lt h))
 asked-is false a true b = and-false (eqb a b && eqb a 0)
 asked-is true zero false zero = refl
-asked-is true zero false (suc b) = ap (λ (x : Bool). x || (eqb zero (suc b) && eqb zero 0 && true)) (lt-ltb 0 (0 + suc b) (omega arith))
-asked-is true (suc a) false b = ap (λ (x : Bool). x || (eqb (suc a) b && eqb (suc a) 0 && true)) (lt-ltb 0 (suc a + b) (omega arith))
+asked-is true zero false (suc b) =
+    ap (λ (x : Bool). x || (eqb zero (suc b) && eqb zero 0 && true))
+    (lt-ltb 0 (0 + suc b) (omega arith))
+asked-is true (suc a) false b =
+    ap (λ (x : Bool). x || (eqb (suc a) b && eqb (suc a) 0 && true))
+    (lt-ltb 0 (suc a + b) (omega arith))
 asked-is true a true b = go (compare a b) (compared a b)
   where
     go : (o : Ordering) → Compared o a b → ltb b a || (isEq o && true && true) ≡ leb b a
     go Ordering·lt h = ap (λ (x : Bool). x || false) (le-ltb b a (le-of-lt h)) ∙ sym (lt-leb b a h)
-    go Ordering·eq h = ap (λ (x : Bool). x || true) (le-ltb b a (le-of-eq h)) ∙ sym (le-leb b a (le-of-eq (sym h)))
+    go Ordering·eq h =
+        ap (λ (x : Bool). x || true) (le-ltb b a (le-of-eq h)) ∙ sym (le-leb b a (le-of-eq (sym h)))
     go Ordering·gt h = ap (λ (x : Bool). x || false) (lt-ltb b a h) ∙ sym (le-leb b a (le-of-lt h))
 
 order-fin : (s : Bool) (m : ℕ) (e : ℤ) (t : Bool) (n : ℕ) (d : ℤ)
@@ -61,7 +66,10 @@ order-fin s m e t n d = asked-is s (m * up e * down d) t (n * up d * down e)
 -- ---- total
 -- of one sign: of two negative values the test is that of the two numbers in the other order
 leb-total : (a b : ℕ) → T (leb a b || leb b a)
-leb-total a b = ⊎-elim (λ (l : a < b). or-left (leb a b) (leb b a) (le→leb a b (le-of-lt l))) (λ (g : b ≤ a). or-right (leb a b) (leb b a) (le→leb b a g)) (lt-or-ge a b)
+leb-total a b =
+    ⊎-elim (λ (l : a < b). or-left (leb a b) (leb b a) (le→leb a b (le-of-lt l)))
+    (λ (g : b ≤ a). or-right (leb a b) (leb b a) (le→leb b a g))
+    (lt-or-ge a b)
 
 signed-total : (s : Bool) (a : ℕ) (t : Bool) (b : ℕ) → T (signed s a t b || signed t b s a)
 signed-total false a false b = leb-total a b
@@ -94,7 +102,9 @@ leb-through : (a p b q c r : ℕ)
     → T (leb (a * q) (b * p))
     → T (leb (b * r) (c * q))
     → T (leb (a * r) (c * p))
-leb-through a p b q c r Q h k = le→leb (a * r) (c * p) (through a b c p q r Q (leb→le (a * q) (b * p) h) (leb→le (b * r) (c * q) k))
+leb-through a p b q c r Q h k =
+    le→leb (a * r) (c * p)
+    (through a b c p q r Q (leb→le (a * q) (b * p) h) (leb→le (b * r) (c * q) k))
 
 signed-trans : (s : Bool) (a p : ℕ) (t : Bool) (b q : ℕ) (u : Bool) (c r : ℕ)
     → 0 < q
@@ -138,7 +148,8 @@ order-trans (fin s m e) (fin t n d) (inf true) h k = absurd k
 order-trans (fin s m e) (fin t n d) (inf false) h k = tt
 order-trans (fin s m e) (fin t n d) (fin u l g) h k =
     subst T (sym (order-fin s m e u l g))
-    (signed-trans s (m * up e) (down e) t (n * up d) (down d) u (l * up g) (down g) (down-pos d) (subst T (order-fin s m e t n d) h) (subst T (order-fin t n d u l g) k))
+    (signed-trans s (m * up e) (down e) t (n * up d) (down d) u (l * up g) (down g) (down-pos d)
+    (subst T (order-fin s m e t n d) h) (subst T (order-fin t n d u l g) k))
 
 -- ---- antisymmetric
 signed-antisym : (s : Bool) (a : ℕ) (t : Bool) (b : ℕ)
@@ -171,8 +182,12 @@ order-antisym (inf false) (fin t n d) X Y h k = absurd h
 order-antisym (fin s m e) (inf true) X Y h k = absurd h
 order-antisym (fin s m e) (inf false) X Y h k = absurd k
 order-antisym (fin s m e) (fin t n d) X Y h k =
-    let a = signed-antisym s (m * up e * down d) t (n * up d * down e) (subst T (order-fin s m e t n d) h) (subst T (order-fin t n d s m e) k) in
-    let Y' : T (fits binary64 (fin s n d)) = subst (λ (b : Bool). T (fits binary64 (fin b n d))) (sym (a .0)) Y in
+    let a =
+    signed-antisym s (m * up e * down d) t (n * up d * down e)
+    (subst T (order-fin s m e t n d) h)
+    (subst T (order-fin t n d s m e) k) in
+    let Y' : T (fits binary64 (fin s n d)) =
+    subst (λ (b : Bool). T (fits binary64 (fin b n d))) (sym (a .0)) Y in
     fits-unique binary64 s m e n d X Y' (a .1) ∙ ap (λ (b : Bool). fin b n d) (a .0)
 
 -- ---- it agrees with `lt`
@@ -202,10 +217,13 @@ lt-order-not (inf false) (fin t n d) h = absurd h
 lt-order-not (fin s m e) nan h = absurd h
 lt-order-not (fin s m e) (inf true) h = absurd h
 lt-order-not (fin s m e) (inf false) h = tt
-lt-order-not (fin s m e) (fin t n d) h = subst (λ (b : Bool). T (not b)) (sym (order-fin t n d s m e)) (signed-lt s (m * up e * down d) t (n * up d * down e) h)
+lt-order-not (fin s m e) (fin t n d) h =
+    subst (λ (b : Bool). T (not b)) (sym (order-fin t n d s m e))
+    (signed-lt s (m * up e * down d) t (n * up d * down e) h)
 
 -- ---- zeros and NaN: -0.0 and 0.0
-pub order-zeros : T (totalOrder (double 0x8000_0000_0000_0000) (double 0)) × T (not (totalOrder (double 0) (double 0x8000_0000_0000_0000)))
+pub order-zeros : T (totalOrder (double 0x8000_0000_0000_0000) (double 0))
+    × T (not (totalOrder (double 0) (double 0x8000_0000_0000_0000)))
 unfolding totalOrder lt eq isNan ofBits
 order-zeros = (tt, tt)
 

@@ -43,7 +43,13 @@ whole-above : (p j n c k w : ℕ)
     → 2 ^ (p * j) * c ≤ n
     → 2 ^ p * n < (2 * suc w) ^ p * (c * 2 ^ (p * k))
     → 2 ^ j < suc w * 2 ^ k
-whole-above p j n c k w h l = omega (arith, pow-back p c (2 * 2 ^ j) (2 * suc w * 2 ^ k) (lt-of-le-of-lt (le-trans (le-of-eq powers) (mul-le-mul-left (2 ^ p) h)) (lt-of-lt-of-le l (le-of-eq (raised p (2 * suc w) k c)))))
+whole-above p j n c k w h l =
+    omega (
+      arith,
+      pow-back p c (2 * 2 ^ j) (2 * suc w * 2 ^ k) (lt-of-le-of-lt
+          (le-trans (le-of-eq powers) (mul-le-mul-left (2 ^ p) h))
+          (lt-of-lt-of-le l (le-of-eq (raised p (2 * suc w) k c)))),
+    )
   where
     powers : (2 * 2 ^ j) ^ p * c ≡ 2 ^ p * (2 ^ (p * j) * c)
     powers = ap (λ (x : ℕ). x * c) (sym (pow-shift p 2 j)) ∙ mul-assoc (2 ^ p) (2 ^ (p * j)) c
@@ -57,15 +63,19 @@ module _ (p : ℕ) (P : 0 < p) (a c : ℕ) (C : 0 < c) (least : c ≤ a * 2 ^ (p
   reach j h =
       let n = a * 2 ^ (p * 1074) in
       let k = drop p a c in
-      whole-above p j n c k (part p a c) h (root-whole p binary64 n c k P C (dropped-drops p binary64 n c P C .0) .1)
+      whole-above p j n c k (part p a c) h
+      (root-whole p binary64 n c k P C (dropped-drops p binary64 n c P C .0) .1)
 
   -- it has 53 digits, and so has what is kept, which is no less
   pub whole-least : 2 ^ 52 ≤ part p a c
   whole-least =
       let n = a * 2 ^ (p * 1074) in
       let k = drop p a c in
-      let all : 2 ^ (52 + k) < suc (part p a c) * 2 ^ k = reach (52 + k) (drops-least p binary64 n c k (least-units p a c least) (dropped-drops p binary64 n c P C .1)) in
-      let cut : 2 ^ 52 * 2 ^ k < suc (part p a c) * 2 ^ k = lt-of-le-of-lt (le-of-eq (sym (pow-add 2 52 k))) all in
+      let all : 2 ^ (52 + k) < suc (part p a c) * 2 ^ k =
+      reach (52 + k) (drops-least p binary64 n c k (least-units p a c least)
+      (dropped-drops p binary64 n c P C .1)) in
+      let cut : 2 ^ 52 * 2 ^ k < suc (part p a c) * 2 ^ k =
+      lt-of-le-of-lt (le-of-eq (sym (pow-add 2 52 k))) all in
       omega (arith, lt-of-mul-lt-mul-right (2 ^ k) cut)
 
   keep-ge : part p a c ≤ keep p a c
@@ -80,10 +90,12 @@ module _ (p : ℕ) (P : 0 < p) (a c : ℕ) (C : 0 < c) (least : c ≤ a * 2 ^ (p
 -- ---- a finite value of w units, w being z at least or more than that, where l is y * z: its
 -- magnitude is 1 / y at least or more than that
 value-ge : (d m y z l w : ℕ) → 0 < z → y * z ≡ l → m * l ≡ w * d → z ≤ w → d ≤ m * y
-value-ge d m y z l w Z e v h = le-of-mul-le-mul-right (omega (arith, mul-le-mul-right d h, ap (λ (x : ℕ). m * x) e)) Z
+value-ge d m y z l w Z e v h =
+    le-of-mul-le-mul-right (omega (arith, mul-le-mul-right d h, ap (λ (x : ℕ). m * x) e)) Z
 
 value-gt : (d m y z l w : ℕ) → 0 < d → y * z ≡ l → m * l ≡ w * d → z < w → d < m * y
-value-gt d m y z l w D e v h = lt-of-mul-lt-mul-right z (omega (arith, mul-lt-mul-of-pos-right h D, ap (λ (x : ℕ). m * x) e))
+value-gt d m y z l w D e v h =
+    lt-of-mul-lt-mul-right z (omega (arith, mul-lt-mul-of-pos-right h D, ap (λ (x : ℕ). m * x) e))
 
 value-normal : (x : Float) (s : Bool) (w : ℕ)
     → HasValue x s w (2 ^ 1074)
@@ -92,7 +104,8 @@ value-normal : (x : Float) (s : Bool) (w : ℕ)
 value-normal nan s w v h = tt
 value-normal (inf t) s w v h = tt
 value-normal (fin t m e) s w v h =
-    or-right (eqb m 0) (leb (down e) (m * up e * 2 ^ 1022)) (le→leb (down e) (m * up e * 2 ^ 1022) (value-ge (down e) (m * up e) (2 ^ 1022) (2 ^ 52) (2 ^ 1074) w (pow-pos 52) refl (v .1) h))
+    or-right (eqb m 0) (leb (down e) (m * up e * 2 ^ 1022)) (le→leb (down e) (m * up e * 2 ^ 1022)
+    (value-ge (down e) (m * up e) (2 ^ 1022) (2 ^ 52) (2 ^ 1074) w (pow-pos 52) refl (v .1) h))
 
 pub roundRoot-normal : (p : ℕ) (s : Bool) (a c : ℕ)
     → 0 < p
@@ -106,13 +119,16 @@ roundRoot-normal p s a c P C r = go (zero-or-normal p a c r)
     go (inr N) =
         let q = keep p a c in
         let k = drop p a c in
-        value-normal (roundRoot p binary64 s a c) s (q * 2 ^ k) (roundRoot-value p P s a c C N) (le-trans (keep-least p P a c C (N .least)) (le-mul-of-pos-right q (pow-pos k)))
+        value-normal (roundRoot p binary64 s a c) s (q * 2 ^ k) (roundRoot-value p P s a c C N)
+        (le-trans (keep-least p P a c C (N .least)) (le-mul-of-pos-right q (pow-pos k)))
 
 pub round-normal : (s : Bool) (a c : ℕ)
     → 0 < c
     → T (inRange 1 a c)
     → T (zeroOrNormal (round binary64 s a c))
-round-normal s a c C r = subst (λ (x : Float). T (zeroOrNormal x)) (roundRoot-one binary64 s a c C) (roundRoot-normal 1 s a c (zero-lt-suc 0) C r)
+round-normal s a c C r =
+    subst (λ (x : Float). T (zeroOrNormal x))
+    (roundRoot-one binary64 s a c C) (roundRoot-normal 1 s a c (zero-lt-suc 0) C r)
 
 -- ---- the operations
 pub mul-normal : (x y : Float) → T (mulRegular x y) → T (zeroOrNormal (mul binary64 x y))
@@ -135,7 +151,8 @@ div-normal (fin s m e) nan r = tt
 div-normal (fin s m e) (inf t) r = tt
 div-normal (fin s m e) (fin t zero d) r = absurd r
 div-normal (fin s m e) (fin t (suc n) d) r =
-    rw (eqb·suc-zero n) (round-normal _ _ _ (mul-pos (mul-pos (zero-lt-suc n) (up-pos d)) (down-pos e)) (rw (eqb·suc-zero n) at r))
+    rw (eqb·suc-zero n) (round-normal _ _ _
+    (mul-pos (mul-pos (zero-lt-suc n) (up-pos d)) (down-pos e)) (rw (eqb·suc-zero n) at r))
 
 sum-normal : (s : Bool) (a : ℕ) (t : Bool) (b c : ℕ)
     → 0 < c
@@ -146,7 +163,8 @@ sum-normal s a t b c C = go (Bool·beq s t) (ltb a b)
   where
     go : (x y : Bool)
         → T (inRange 1 (cond x (a + b) (cond y (b - a) (a - b))) c)
-        → T (zeroOrNormal (cond x (round binary64 s (a + b) c) (cond y (round binary64 t (b - a) c) (round binary64 (s && ltb b a) (a - b) c))))
+        → T (zeroOrNormal (cond x (round binary64 s (a + b) c)
+        (cond y (round binary64 t (b - a) c) (round binary64 (s && ltb b a) (a - b) c))))
     go true y = round-normal _ _ c C
     go false true = round-normal _ _ c C
     go false false = round-normal _ _ c C
@@ -168,7 +186,8 @@ sub-normal x y r = add-normal x (neg y) r
 -- a product with an infinity, as a term of a sum
 special-normal : (b s : Bool) (z : Float) → T (zeroOrNormal (add binary64 (cond b nan (inf s)) z))
 unfolding add addRegular
-special-normal b s z = cond-either (λ (p : Float). T (zeroOrNormal (add binary64 p z))) b tt (add-normal (inf s) z tt)
+special-normal b s z =
+    cond-either (λ (p : Float). T (zeroOrNormal (add binary64 p z))) b tt (add-normal (inf s) z tt)
 
 pub fma-normal : (x y z : Float) → T (fmaRegular x y z) → T (zeroOrNormal (fma x y z))
 unfolding fma fmaRegular mul add
@@ -207,7 +226,9 @@ above-min : (x : Float) (w : ℕ)
 unfolding lt ofBits
 above-min (fin true m e) w v h = absurd (true≢false (v .0))
 above-min (fin false m e) w v h =
-    let more : 1 * down e < m * up e * 2 ^ 1022 = lt-of-le-of-lt (le-of-eq (one-mul (down e))) (value-gt (down e) (m * up e) (2 ^ 1022) (2 ^ 52) (2 ^ 1074) w (down-pos e) refl (v .1) h) in
+    let more : 1 * down e < m * up e * 2 ^ 1022 =
+    lt-of-le-of-lt (le-of-eq (one-mul (down e)))
+    (value-gt (down e) (m * up e) (2 ^ 1022) (2 ^ 52) (2 ^ 1074) w (down-pos e) refl (v .1) h) in
     lt-ltb (1 * down e) (m * up e * 2 ^ 1022) more
 
 units-above : (q k : ℕ) → 2 ^ 52 < q * 2 ^ k → lt minPositive (units binary64 false q k) ≡ true
@@ -231,7 +252,8 @@ unfolding lt sqrt ofBits
 sqrt-above nan r = refl
 sqrt-above (inf false) r = refl
 sqrt-above (inf true) r = refl
-sqrt-above (fin false zero e) r = none (1 * down e) (up e) (2 ^ 1022) ∙ sym (none (0 * down e) (up e) 1)
+sqrt-above (fin false zero e) r =
+    none (1 * down e) (up e) (2 ^ 1022) ∙ sym (none (0 * down e) (up e) 1)
 sqrt-above (fin true zero e) r = refl
 sqrt-above (fin true (suc m) e) r = refl
 sqrt-above (fin false (suc m) e) r =
@@ -240,11 +262,17 @@ sqrt-above (fin false (suc m) e) r =
     let q = keep 2 a c in
     let k = drop 2 a c in
     let least : c ≤ a * 2 ^ 1022 = leb→le c (a * 2 ^ 1022) (rw (eqb·suc-zero m) at r) in
-    let least2 : c ≤ a * 2 ^ (2 * 1022) = le-trans least (mul-le-mul-left a (pow-mono {i = 1022} {j = 2044} (lit≤ tt))) in
-    let far : 2 ^ 563 < suc (part 2 a c) * 2 ^ k = reach 2 (zero-lt-suc 1) a c (down-pos e) least2 563 (times c a (2 ^ 1022) (2 ^ 1126) (2 ^ 2148) refl least) in
-    let one : 1 ≤ q = le-trans (pow-pos 52) (keep-least 2 (zero-lt-suc 1) a c (down-pos e) least2) in
+    let least2 : c ≤ a * 2 ^ (2 * 1022) =
+    le-trans least (mul-le-mul-left a (pow-mono {i = 1022} {j = 2044} (lit≤ tt))) in
+    let far : 2 ^ 563 < suc (part 2 a c) * 2 ^ k =
+    reach 2 (zero-lt-suc 1) a c (down-pos e) least2 563
+    (times c a (2 ^ 1022) (2 ^ 1126) (2 ^ 2148) refl least) in
+    let one : 1 ≤ q =
+    le-trans (pow-pos 52) (keep-least 2 (zero-lt-suc 1) a c (down-pos e) least2) in
     let root : lt minPositive (roundRoot 2 binary64 false a c) ≡ true =
-    ap (λ (x : Float). lt minPositive x) (roundRoot-is 2 binary64 false a c) ∙ units-above q k (enough (part 2 a c) q (2 ^ k) (2 ^ 563) (2 ^ 52) far (keep-ge 2 (zero-lt-suc 1) a c (down-pos e) least2) one (lit≤ tt)) in
+    ap (λ (x : Float). lt minPositive x) (roundRoot-is 2 binary64 false a c)
+    ∙ units-above q k (enough (part 2 a c) q (2 ^ k) (2 ^ 563) (2 ^ 52) far
+    (keep-ge 2 (zero-lt-suc 1) a c (down-pos e) least2) one (lit≤ tt)) in
     root ∙ sym (lt-ltb (0 * down e) (a * 1) (some (down e) a (mul-pos (zero-lt-suc m) (up-pos e))))
   where
     times : (c a x y z : ℕ) → x * y ≡ z → c ≤ a * x → y * c ≤ a * z
@@ -255,4 +283,6 @@ sqrt-above (fin false (suc m) e) r =
 
 -- ---- the same of a lifted sum
 pub ⊕-normal : (x y : Traced Float) → T ((x ⊕ y) .regular) → T (zeroOrNormal ((x ⊕ y) .value))
-⊕-normal x y r = add-normal (x .value) (y .value) (and-r (x .regular && y .regular) (addRegular (x .value) (y .value)) r)
+⊕-normal x y r =
+    add-normal (x .value) (y .value)
+    (and-r (x .regular && y .regular) (addRegular (x .value) (y .value)) r)

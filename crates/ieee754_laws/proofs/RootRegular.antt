@@ -26,9 +26,15 @@ root-regular p lo hi s (suc m) e t =
     let h = fits-parts s m e t in
     let a = suc m * up e in
     let c = down e in
-    let least : c ≤ a * 2 ^ (p * 1022) = le-trans (le-trans (h .lowest) lo) (le-trans (le-mul-of-pos-right (2 ^ (p * 1022)) (mul-pos (zero-lt-suc m) (up-pos e))) (le-of-eq (mul-comm (2 ^ (p * 1022)) a))) in
-    let most : a < c * (2 ^ 1024 - 2 ^ 970) ^ p = lt-of-lt-of-le (h .highest) (le-trans (le-of-eq (mul-comm (2 ^ 1024) c)) (mul-le-mul-left c hi)) in
-    or-right (eqb a 0) _ (and-i (leb c (a * 2 ^ (p * 1022))) (ltb a (c * (2 ^ 1024 - 2 ^ 970) ^ p)) (le→leb c (a * 2 ^ (p * 1022)) least) (lt→ltb a (c * (2 ^ 1024 - 2 ^ 970) ^ p) most))
+    let least : c ≤ a * 2 ^ (p * 1022) =
+    le-trans (le-trans (h .lowest) lo) (le-trans
+    (le-mul-of-pos-right (2 ^ (p * 1022)) (mul-pos (zero-lt-suc m) (up-pos e)))
+    (le-of-eq (mul-comm (2 ^ (p * 1022)) a))) in
+    let most : a < c * (2 ^ 1024 - 2 ^ 970) ^ p =
+    lt-of-lt-of-le (h .highest)
+    (le-trans (le-of-eq (mul-comm (2 ^ 1024) c)) (mul-le-mul-left c hi)) in
+    or-right (eqb a 0) _ (and-i (leb c (a * 2 ^ (p * 1022))) (ltb a (c * (2 ^ 1024 - 2 ^ 970) ^ p))
+    (le→leb c (a * 2 ^ (p * 1022)) least) (lt→ltb a (c * (2 ^ 1024 - 2 ^ 970) ^ p) most))
 
 pub sqrt-regular : (x : Float) → T (fits binary64 x) → T (sqrtRegular x)
 unfolding sqrtRegular

@@ -80,10 +80,15 @@ unfolding scale mul mulRegular
 mul-scale t u nan y r r' = refl
 mul-scale t u (inf s) nan r r' = refl
 mul-scale t u (inf s) (inf s') r r' = refl
-mul-scale t u (inf s) (fin s' n d) r r' = pick (t +ℤ u) (eqb n 0) nan (inf (unlike s s')) (nan-scale (t +ℤ u)) (inf-scale (t +ℤ u) (unlike s s'))
+mul-scale t u (inf s) (fin s' n d) r r' =
+    pick (t +ℤ u) (eqb n 0) nan (inf (unlike s s')) (nan-scale (t +ℤ u))
+    (inf-scale (t +ℤ u) (unlike s s'))
 mul-scale t u (fin s m e) nan r r' = refl
-mul-scale t u (fin s m e) (inf s') r r' = pick (t +ℤ u) (eqb m 0) nan (inf (unlike s s')) (nan-scale (t +ℤ u)) (inf-scale (t +ℤ u) (unlike s s'))
-mul-scale t u (fin s m e) (fin s' n d) r r' = round-scale (unlike s s') (ratio-mul (moved-ratio t m e) (moved-ratio u n d)) r r'
+mul-scale t u (fin s m e) (inf s') r r' =
+    pick (t +ℤ u) (eqb m 0) nan (inf (unlike s s')) (nan-scale (t +ℤ u))
+    (inf-scale (t +ℤ u) (unlike s s'))
+mul-scale t u (fin s m e) (fin s' n d) r r' =
+    round-scale (unlike s s') (ratio-mul (moved-ratio t m e) (moved-ratio u n d)) r r'
 
 pub div-scale : (t u : ℤ) (x y : Float)
     → T (divRegular x y)
@@ -99,15 +104,18 @@ div-scale t u (fin s m e) (inf s') r r' = refl
 div-scale t u (fin s m e) (fin s' zero d) r r' = absurd r
 div-scale t u (fin s m e) (fin s' (suc n) d) r r' =
     rw (eqb·suc-zero n)
-    (round-scale (unlike s s') (ratio-div (mul-pos (zero-lt-suc n) (up-pos d)) (mul-pos (zero-lt-suc n) (up-pos (d +ℤ u))) (moved-ratio t m e) (moved-ratio u (suc n) d))
+    (round-scale (unlike s s') (ratio-div (mul-pos (zero-lt-suc n) (up-pos d))
+    (mul-pos (zero-lt-suc n) (up-pos (d +ℤ u))) (moved-ratio t m e) (moved-ratio u (suc n) d))
     (rw (eqb·suc-zero n) at r) (rw (eqb·suc-zero n) at r'))
 
 -- ---- sums: ±a / c + ±b / c
-module _ (s s' : Bool) {t : ℤ} {a b c a' b' c' : ℕ} (p : Ratio t a c a' c') (q : Ratio t b c b' c') where
+module _ (s s' : Bool) {t : ℤ} {a b c a' b' c' : ℕ} (p : Ratio t a c a' c')
+    (q : Ratio t b c b' c') where
   unlike-scale : (x y : Bool)
       → T (inRange 1 (cond x (b - a) (a - b)) c)
       → T (inRange 1 (cond x (b' - a') (a' - b')) c')
-      → cond x (round binary64 s' (b' - a') c') (round binary64 (s && y) (a' - b') c') ≡ scale t (cond x (round binary64 s' (b - a) c) (round binary64 (s && y) (a - b) c))
+      → cond x (round binary64 s' (b' - a') c') (round binary64 (s && y) (a' - b') c')
+      ≡ scale t (cond x (round binary64 s' (b - a) c) (round binary64 (s && y) (a - b) c))
   unlike-scale true y = round-scale s' (ratio-sub q p)
   unlike-scale false y = round-scale (s && y) (ratio-sub p q)
 
@@ -120,8 +128,10 @@ module _ (s s' : Bool) {t : ℤ} {a b c a' b' c' : ℕ} (p : Ratio t a c a' c') 
       signs : (x : Bool)
           → T (inRange 1 (cond x (a + b) (cond (ltb a b) (b - a) (a - b))) c)
           → T (inRange 1 (cond x (a' + b') (cond (ltb a' b') (b' - a') (a' - b'))) c')
-          → cond x (round binary64 s (a' + b') c') (cond (ltb a' b') (round binary64 s' (b' - a') c') (round binary64 (s && ltb b' a') (a' - b') c'))
-          ≡ scale t (cond x (round binary64 s (a + b) c) (cond (ltb a b) (round binary64 s' (b - a) c) (round binary64 (s && ltb b a) (a - b) c)))
+          → cond x (round binary64 s (a' + b') c') (cond (ltb a' b')
+          (round binary64 s' (b' - a') c') (round binary64 (s && ltb b' a') (a' - b') c'))
+          ≡ scale t (cond x (round binary64 s (a + b) c)
+          (cond (ltb a b) (round binary64 s' (b - a) c) (round binary64 (s && ltb b a) (a - b) c)))
       signs true r r' = round-scale s (ratio-add p q) r r'
       signs false r r' =
           rw (
@@ -156,7 +166,9 @@ sub-scale t x y r r' = rw (neg-scale t y) (add-scale t x (neg y) r (rw (neg-scal
 special-scale : (t : ℤ) (b s : Bool) (z : Float)
     → add binary64 (cond b nan (inf s)) (scale t z) ≡ scale t (add binary64 (cond b nan (inf s)) z)
 unfolding scale add addRegular
-special-scale t b s z = cond-either (λ (p : Float). add binary64 p (scale t z) ≡ scale t (add binary64 p z)) b refl (add-scale t (inf s) z tt tt)
+special-scale t b s z =
+    cond-either (λ (p : Float). add binary64 p (scale t z) ≡ scale t (add binary64 p z)) b refl
+    (add-scale t (inf s) z tt tt)
 
 pub fma-scale : (t u : ℤ) (x y z : Float)
     → T (fmaRegular x y z)
@@ -177,8 +189,13 @@ fma-scale t u (fin s m e) (fin s' n d) (fin s'' l g) r r' =
     sum-scale (unlike s s') s'' (ratio-left p q) (ratio-right p q) r r'
 
 -- ---- roots
-root-scale : (p : ℕ) (t : ℤ) (s : Bool) (m : ℕ) (e : ℤ) → 0 < p → let e' = moved (pos p *ℤ t) m e in
-    T (inRange p (m * up e) (down e)) → T (inRange p (m * up e') (down e')) → roundRoot p binary64 s (m * up e') (down e') ≡ scale t (roundRoot p binary64 s (m * up e) (down e))
+root-scale : (p : ℕ) (t : ℤ) (s : Bool) (m : ℕ) (e : ℤ)
+    → 0 < p
+    → let e' = moved (pos p *ℤ t) m e in
+    T (inRange p (m * up e) (down e))
+    → T (inRange p (m * up e') (down e'))
+    → roundRoot p binary64 s (m * up e') (down e')
+    ≡ scale t (roundRoot p binary64 s (m * up e) (down e))
 root-scale p t s m e P = roundRoot-scale p P s t (moved-ratio (pos p *ℤ t) m e)
 
 pub sqrt-scale : (t : ℤ) (x : Float)
@@ -277,7 +294,8 @@ max-scale t x y =
       lt-scale t y x,
       negative-scale t x,
     )
-    (pick t (isNan x) y _ refl (pick t (isNan y) x _ refl (pick t (lt x y) y _ refl (pick t (lt y x) x _ refl (pick t (negative x) y x refl refl)))))
+    (pick t (isNan x) y _ refl (pick t (isNan y) x _ refl
+    (pick t (lt x y) y _ refl (pick t (lt y x) x _ refl (pick t (negative x) y x refl refl)))))
 
 raised-scale : (t : ℤ) (x low : Float) → raised (scale t x) (scale t low) ≡ scale t (raised x low)
 raised-scale t x low = rw (lt-scale t x low) (pick t (lt x low) low x refl refl)
@@ -287,5 +305,6 @@ pub clamp-scale : (t : ℤ) (x low high : Float)
 unfolding clamp
 clamp-scale t x low high =
     ap (λ (y : Float). cond (lt (scale t high) y) (scale t high) y) (raised-scale t x low)
-    ∙ ap (λ (b : Bool). cond b (scale t high) (scale t (raised x low))) (lt-scale t high (raised x low))
+    ∙ ap (λ (b : Bool). cond b (scale t high) (scale t (raised x low)))
+    (lt-scale t high (raised x low))
     ∙ pick t (lt high (raised x low)) high (raised x low) refl refl

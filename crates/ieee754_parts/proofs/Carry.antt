@@ -37,23 +37,36 @@ module _ (w a b : ℕ) (ha : a < 2 ^ w) (hb : b < 2 ^ w) where
     pub not-carried : b ≤ r → 0 * 2 ^ w + r ≡ a + b
     not-carried l =
         ⊎-elim (λ (h : a + b < 2 ^ w). omega (arith, mod-eq-of-lt h))
-        (λ (h : 2 ^ w ≤ a + b). absurd (let k = carry-iff .1 h in omega arith)) (lt-or-ge (a + b) (2 ^ w))
+        (λ (h : 2 ^ w ≤ a + b). absurd (let k = carry-iff .1 h in omega arith))
+        (lt-or-ge (a + b) (2 ^ w))
 
 -- ---- the order of two-word numbers
 
 pub high-le : (w a₁ a b₁ b : ℕ) → a < 2 ^ w → b₁ * 2 ^ w + b ≤ a₁ * 2 ^ w + a → b₁ ≤ a₁
-high-le w a₁ a b₁ b ha h = ⊎-elim (λ (l : a₁ < b₁). absurd (let m = mul-le-mul-right (2 ^ w) l in omega (arith, suc-mul a₁ (2 ^ w)))) (λ g. g) (lt-or-ge a₁ b₁)
+high-le w a₁ a b₁ b ha h =
+    ⊎-elim (λ (l : a₁ < b₁).
+    absurd (let m = mul-le-mul-right (2 ^ w) l in omega (arith, suc-mul a₁ (2 ^ w))))
+    (λ g. g)
+    (lt-or-ge a₁ b₁)
 
 pub high-lt : (w a₁ a b₁ b : ℕ) → a < b → b₁ * 2 ^ w + b ≤ a₁ * 2 ^ w + a → b₁ < a₁
-high-lt w a₁ a b₁ b l h = ⊎-elim (λ x. x) (λ (g : a₁ ≤ b₁). absurd (let m = mul-le-mul-right (2 ^ w) g in omega arith)) (lt-or-ge b₁ a₁)
+high-lt w a₁ a b₁ b l h =
+    ⊎-elim (λ x. x)
+    (λ (g : a₁ ≤ b₁). absurd (let m = mul-le-mul-right (2 ^ w) g in omega arith))
+    (lt-or-ge b₁ a₁)
 
 -- the high word of a number below 2 ^ (i + w)
 pub high-below : (i w h l n : ℕ) → h * 2 ^ w + l ≡ n → n < 2 ^ (i + w) → h < 2 ^ i
-high-below i w h l n e b = lt-of-mul-lt-mul-right (2 ^ w) (lt-of-le-of-lt (le-trans (le-add-right (h * 2 ^ w) l) (le-of-eq e)) (lt-of-lt-of-le b (le-of-eq (pow-add 2 i w))))
+high-below i w h l n e b =
+    lt-of-mul-lt-mul-right (2 ^ w) (lt-of-le-of-lt
+    (le-trans (le-add-right (h * 2 ^ w) l) (le-of-eq e))
+    (lt-of-lt-of-le b (le-of-eq (pow-add 2 i w))))
 
 -- by the low words where the high ones are equal, and by the high ones elsewhere
 pub less-low : (w a₁ a b₁ b : ℕ) → a₁ ≡ b₁ → ltb a b ≡ ltb (a₁ * 2 ^ w + a) (b₁ * 2 ^ w + b)
-less-low w a₁ a b₁ b e = let f = ap (λ (x : ℕ). x * 2 ^ w) e in same-test a b (a₁ * 2 ^ w + a) (b₁ * 2 ^ w + b) (λ h. omega arith, λ h. omega arith)
+less-low w a₁ a b₁ b e =
+    let f = ap (λ (x : ℕ). x * 2 ^ w) e in
+    same-test a b (a₁ * 2 ^ w + a) (b₁ * 2 ^ w + b) (λ h. omega arith, λ h. omega arith)
 
 pub less-high : (w a₁ a b₁ b : ℕ)
     → a < 2 ^ w
@@ -63,7 +76,8 @@ pub less-high : (w a₁ a b₁ b : ℕ)
 less-high w a₁ a b₁ b ha hb n =
     same-test a₁ b₁ (a₁ * 2 ^ w + a) (b₁ * 2 ^ w + b) (
       λ (h : a₁ < b₁). let m = mul-le-mul-right (2 ^ w) h in omega (arith, suc-mul a₁ (2 ^ w)),
-      λ (h : a₁ * 2 ^ w + a < b₁ * 2 ^ w + b). let m : a₁ ≤ b₁ = high-le w b₁ b a₁ a hb (le-of-lt h) in omega arith,
+      λ (h : a₁ * 2 ^ w + a < b₁ * 2 ^ w + b).
+          let m : a₁ ≤ b₁ = high-le w b₁ b a₁ a hb (le-of-lt h) in omega arith,
     )
 
 -- ---- a difference of two words, r: the word that b added to wraps back to a
@@ -71,11 +85,15 @@ less-high w a₁ a b₁ b ha hb n =
 module _ (w a b r : ℕ) (hb : b < 2 ^ w) (hr : r < 2 ^ w) (e : (r + b) % 2 ^ w ≡ a) where
   pub borrowed : a < b → r + b ≡ a + 2 ^ w
   borrowed l =
-      ⊎-elim (λ h. omega (arith, mod-eq-of-lt h)) (λ h. omega (arith, wrapped w r b hr hb h)) (lt-or-ge (r + b) (2 ^ w))
+      ⊎-elim (λ h. omega (arith, mod-eq-of-lt h))
+      (λ h. omega (arith, wrapped w r b hr hb h))
+      (lt-or-ge (r + b) (2 ^ w))
 
   pub not-borrowed : b ≤ a → r + b ≡ a
   not-borrowed l =
-      ⊎-elim (λ h. omega (arith, mod-eq-of-lt h)) (λ h. omega (arith, wrapped w r b hr hb h)) (lt-or-ge (r + b) (2 ^ w))
+      ⊎-elim (λ h. omega (arith, mod-eq-of-lt h))
+      (λ h. omega (arith, wrapped w r b hr hb h))
+      (lt-or-ge (r + b) (2 ^ w))
 
   -- and of two-word numbers, with d the difference of the high words
   module _ (a₁ b₁ : ℕ) where
@@ -95,7 +113,8 @@ module _ (w a b r : ℕ) (hb : b < 2 ^ w) (hr : r < 2 ^ w) (e : (r + b) % 2 ^ w 
 
 -- ---- a product of two words, each of two halves of h digits
 
-ruleset sorted = (mul-add, add-mul, mul-assoc, mul-comm, mul-left-comm, add-assoc, add-comm, add-left-comm)
+ruleset sorted =
+    (mul-add, add-mul, mul-assoc, mul-comm, mul-left-comm, add-assoc, add-comm, add-left-comm)
 
 -- the middle column's upper digits c go to the high word, and its lower ones d, moved up by a half,
 -- to the low word
@@ -103,8 +122,12 @@ columns : (H a₁ a₀ b₁ b₀ c d : ℕ)
     → a₁ * b₀ + a₀ * b₁ ≡ c * H + d
     → (a₁ * H + a₀) * (b₁ * H + b₀) ≡ (a₁ * b₁ + c) * (H * H) + (a₀ * b₀ + d * H)
 columns H a₁ a₀ b₁ b₀ c d e =
-    let open₁ : (a₁ * H + a₀) * (b₁ * H + b₀) ≡ a₁ * b₁ * (H * H) + (a₁ * b₀ + a₀ * b₁) * H + a₀ * b₀ = simp sorted in
-    let open₂ : a₁ * b₁ * (H * H) + (c * H + d) * H + a₀ * b₀ ≡ (a₁ * b₁ + c) * (H * H) + (a₀ * b₀ + d * H) = simp sorted in
+    let open₁ :
+    (a₁ * H + a₀) * (b₁ * H + b₀) ≡ a₁ * b₁ * (H * H) + (a₁ * b₀ + a₀ * b₁) * H + a₀ * b₀ =
+    simp sorted in
+    let open₂ :
+    a₁ * b₁ * (H * H) + (c * H + d) * H + a₀ * b₀ ≡ (a₁ * b₁ + c) * (H * H) + (a₀ * b₀ + d * H) =
+    simp sorted in
     open₁ ∙ rw e open₂
 
 -- the middle column of the product
@@ -112,7 +135,9 @@ abbrev pub middle : ℕ → ℕ → ℕ → ℕ
 middle h a b = a / 2 ^ h * (b % 2 ^ h) + a % 2 ^ h * (b / 2 ^ h)
 
 product-of-halves : (h a b : ℕ)
-    → (a / 2 ^ h * (b / 2 ^ h) + middle h a b / 2 ^ h) * 2 ^ (h + h) + (a % 2 ^ h * (b % 2 ^ h) + middle h a b * 2 ^ h % 2 ^ (h + h)) ≡ a * b
+    → (a / 2 ^ h * (b / 2 ^ h) + middle h a b / 2 ^ h) * 2 ^ (h + h)
+    + (a % 2 ^ h * (b % 2 ^ h) + middle h a b * 2 ^ h % 2 ^ (h + h))
+    ≡ a * b
 product-of-halves h a b =
     let H = 2 ^ h in
     let m = middle h a b in
@@ -126,7 +151,10 @@ pub product-of-words : (h a b c l : ℕ)
     → (a / 2 ^ h * (b / 2 ^ h) + middle h a b / 2 ^ h + c) * 2 ^ (h + h) + l ≡ a * b
 product-of-words h a b c l e =
     let u = a / 2 ^ h * (b / 2 ^ h) + middle h a b / 2 ^ h in
-    ap (λ (x : ℕ). x + l) (add-mul u c (2 ^ (h + h))) ∙ add-assoc (u * 2 ^ (h + h)) (c * 2 ^ (h + h)) l ∙ ap (λ (x : ℕ). u * 2 ^ (h + h) + x) e ∙ product-of-halves h a b
+    ap (λ (x : ℕ). x + l) (add-mul u c (2 ^ (h + h)))
+    ∙ add-assoc (u * 2 ^ (h + h)) (c * 2 ^ (h + h)) l
+    ∙ ap (λ (x : ℕ). u * 2 ^ (h + h) + x) e
+    ∙ product-of-halves h a b
 
 -- a product of a number of i digits and one of j has at most i + j
 pub product-lt : (i j : ℕ) {a b : ℕ} → a < 2 ^ i → b < 2 ^ j → a * b < 2 ^ (i + j)
@@ -143,9 +171,12 @@ module _ (w k h l : ℕ) (K : k ≤ w) (H : h < 2 ^ k) (L : l < 2 ^ w) where
       let a = h * 2 ^ (w - k) in
       let kept : a % 2 ^ w ≡ a = shl-exact k (w - k) w H (le-of-eq width) in
       let whole : h * 2 ^ w ≡ a * 2 ^ k = sym (shl-shl h (w - k) k w (omega (arith, width))) in
-      ap (λ (x : ℕ). x + l / 2 ^ k) kept ∙ sym (mul-add-div-right (pow-pos k) a l) ∙ ap (λ (x : ℕ). (x + l) / 2 ^ k) (sym whole)
+      ap (λ (x : ℕ). x + l / 2 ^ k) kept
+      ∙ sym (mul-add-div-right (pow-pos k) a l)
+      ∙ ap (λ (x : ℕ). (x + l) / 2 ^ k) (sym whole)
 
   pub shifted-lt : h * 2 ^ (w - k) % 2 ^ w + l / 2 ^ k < 2 ^ w
   shifted-lt =
       subst (λ (x : ℕ). x < 2 ^ w) (sym shifted)
-      (shr-lt w k (lt-of-lt-of-le (digits-lt H L) (le-of-eq (mul-comm (2 ^ k) (2 ^ w) ∙ sym (pow-add 2 w k)))))
+      (shr-lt w k
+      (lt-of-lt-of-le (digits-lt H L) (le-of-eq (mul-comm (2 ^ k) (2 ^ w) ∙ sym (pow-add 2 w k)))))

@@ -23,7 +23,9 @@ Compared Ordering·eq a b = a ≡ b
 Compared Ordering·gt a b = b < a
 
 pub compared : (a b : ℕ) → Compared (compare a b) a b
-compared a b = go (compare a b) (leb→le a b) (nleb→lt a b) (eqb→eq a b) (λ (e : a ≡ b). subst (λ (x : ℕ). T (eqb a x)) e (eqb-refl a))
+compared a b =
+    go (compare a b) (leb→le a b) (nleb→lt a b) (eqb→eq a b)
+    (λ (e : a ≡ b). subst (λ (x : ℕ). T (eqb a x)) e (eqb-refl a))
   where
     go : (o : Ordering)
         → (T (isLe o) → a ≤ b)
@@ -66,7 +68,8 @@ pub compare-same : (t x n b m d : ℕ)
     → compare (t * n) (x * b) ≡ compare (t * m) (x * d)
 compare-same t x n b m d B D e =
     sym (compare-mul (t * n) (x * b) d D)
-    ∙ ap (λ (z : ℕ). compare z (x * b * d)) (mul-assoc t n d ∙ ap (λ (z : ℕ). t * z) e ∙ sym (mul-assoc t m b))
+    ∙ ap (λ (z : ℕ). compare z (x * b * d))
+    (mul-assoc t n d ∙ ap (λ (z : ℕ). t * z) e ∙ sym (mul-assoc t m b))
     ∙ ap (λ (z : ℕ). compare (t * m * b) z) (mul-right-comm x b d)
     ∙ compare-mul (t * m) (x * d) b B
 
@@ -90,33 +93,49 @@ unit i g = 2 ^ i * 2 ^ g * 2
 
 block : (i g h r : ℕ)
     → r < 2 ^ g
-    → closest (h * 2 ^ g + r) (2 ^ (suc i + g)) ≡ nearest (h / 2 ^ suc i) (compare (rest i g h r) (unit i g))
+    → closest (h * 2 ^ g + r) (2 ^ (suc i + g))
+    ≡ nearest (h / 2 ^ suc i) (compare (rest i g h r) (unit i g))
 block i g h r l =
     let n = h * 2 ^ g + r in
-    let up : n / 2 ^ (suc i + g) ≡ h / 2 ^ suc i = ap (λ (e : ℕ). n / 2 ^ e) (add-comm (suc i) g) ∙ sym (shr-shr n g (suc i)) ∙ ap (λ (x : ℕ). x / 2 ^ suc i) (high h g l) in
-    let down : n % 2 ^ (suc i + g) ≡ h % 2 ^ suc i * 2 ^ g + r = mod-pow-add n (suc i) g ∙ ap₂ (λ (x y : ℕ). x % 2 ^ suc i * 2 ^ g + y) (high h g l) (low h g l) in
-    let all : 2 ^ (suc i + g) ≡ unit i g = pow-add 2 (suc i) g ∙ ap (λ (x : ℕ). x * 2 ^ g) (pow-suc 2 i) ∙ mul-right-comm (2 ^ i) 2 (2 ^ g) in
-    ap₂ (λ (x y : ℕ). nearest x (compare (y * 2) (2 ^ (suc i + g)))) up down ∙ ap (λ (x : ℕ). nearest (h / 2 ^ suc i) (compare (rest i g h r) x)) all
+    let up : n / 2 ^ (suc i + g) ≡ h / 2 ^ suc i =
+    ap (λ (e : ℕ). n / 2 ^ e) (add-comm (suc i) g)
+    ∙ sym (shr-shr n g (suc i))
+    ∙ ap (λ (x : ℕ). x / 2 ^ suc i) (high h g l) in
+    let down : n % 2 ^ (suc i + g) ≡ h % 2 ^ suc i * 2 ^ g + r =
+    mod-pow-add n (suc i) g
+    ∙ ap₂ (λ (x y : ℕ). x % 2 ^ suc i * 2 ^ g + y) (high h g l) (low h g l) in
+    let all : 2 ^ (suc i + g) ≡ unit i g =
+    pow-add 2 (suc i) g
+    ∙ ap (λ (x : ℕ). x * 2 ^ g) (pow-suc 2 i)
+    ∙ mul-right-comm (2 ^ i) 2 (2 ^ g) in
+    ap₂ (λ (x y : ℕ). nearest x (compare (y * 2) (2 ^ (suc i + g)))) up down
+    ∙ ap (λ (x : ℕ). nearest (h / 2 ^ suc i) (compare (rest i g h r) x)) all
 
 -- what `closest` does with it goes by h, and by whether r is 0
 below : (i g h r : ℕ)
     → r < 2 ^ g
     → h % 2 ^ suc i < 2 ^ i
     → closest (h * 2 ^ g + r) (2 ^ (suc i + g)) ≡ h / 2 ^ suc i
-below i g h r l c = block i g h r l ∙ nearest-below (h / 2 ^ suc i) (rest i g h r) (unit i g) (omega (arith, digits-lt c l))
+below i g h r l c =
+    block i g h r l
+    ∙ nearest-below (h / 2 ^ suc i) (rest i g h r) (unit i g) (omega (arith, digits-lt c l))
 
 tie : (i g h r : ℕ)
     → r < 2 ^ g
     → h % 2 ^ suc i ≡ 2 ^ i
     → r ≡ 0
     → closest (h * 2 ^ g + r) (2 ^ (suc i + g)) ≡ h / 2 ^ suc i + h / 2 ^ suc i % 2
-tie i g h r l c z = block i g h r l ∙ nearest-tie (h / 2 ^ suc i) (rest i g h r) (unit i g) (omega (arith, ap (λ (x : ℕ). x * 2 ^ g) c))
+tie i g h r l c z =
+    block i g h r l
+    ∙ nearest-tie (h / 2 ^ suc i) (rest i g h r) (unit i g)
+    (omega (arith, ap (λ (x : ℕ). x * 2 ^ g) c))
 
 above : (i g h r : ℕ)
     → r < 2 ^ g
     → 2 ^ i * 2 ^ g < h % 2 ^ suc i * 2 ^ g + r
     → closest (h * 2 ^ g + r) (2 ^ (suc i + g)) ≡ suc (h / 2 ^ suc i)
-above i g h r l c = block i g h r l ∙ nearest-above (h / 2 ^ suc i) (rest i g h r) (unit i g) (omega arith)
+above i g h r l c =
+    block i g h r l ∙ nearest-above (h / 2 ^ suc i) (rest i g h r) (unit i g) (omega arith)
 
 pub closest-sees : (i g h r t : ℕ)
     → r < 2 ^ g
@@ -131,8 +150,12 @@ closest-sees i g h r t l m z =
     (λ (y : c ≤ 2 ^ i).
     let e : c ≡ 2 ^ i = omega arith in
     let f : c * 2 ^ g ≡ 2 ^ i * 2 ^ g = ap (λ (u : ℕ). u * 2 ^ g) e in
-    ⊎-elim (λ (w : r < 1). let r0 = lt-one w in tie i g h r l e r0 ∙ sym (tie i g h t m e (z .0 r0)))
-    (λ (w : 1 ≤ r). above i g h r l (omega arith) ∙ sym (above i g h t m (nonzero f (λ (t0 : t ≡ 0). let r0 = z .1 t0 in omega arith)))) (lt-or-ge r 1))
+    ⊎-elim
+    (λ (w : r < 1). let r0 = lt-one w in tie i g h r l e r0 ∙ sym (tie i g h t m e (z .0 r0)))
+    (λ (w : 1 ≤ r).
+    above i g h r l (omega arith)
+    ∙ sym (above i g h t m (nonzero f (λ (t0 : t ≡ 0). let r0 = z .1 t0 in omega arith))))
+    (lt-or-ge r 1))
     (lt-or-ge (2 ^ i) c))
     (lt-or-ge c (2 ^ i))
   where

@@ -31,12 +31,15 @@ higher-field : (f : Format) (s : Bool) (x t : ℕ)
     → T (finite (ofFields f s (suc x) t))
     → HasValue (ofFields f s (suc x) t) s ((hid f + t) * 2 ^ x) (2 ^ low f) × (suc x ≡ ones f → ⊥)
 unfolding ofFields
-higher-field f s x t = go (eqb (suc x) (ones f)) (eqb t 0) (λ (e : suc x ≡ ones f). eq-eqb (suc x) (ones f) e)
+higher-field f s x t =
+    go (eqb (suc x) (ones f)) (eqb t 0) (λ (e : suc x ≡ ones f). eq-eqb (suc x) (ones f) e)
   where
     go : (a b : Bool)
         → (suc x ≡ ones f → a ≡ true)
         → T (finite (cond a (cond b (inf s) nan) (odd (prec f) s (hid f + t) x (low f))))
-        → HasValue (cond a (cond b (inf s) nan) (odd (prec f) s (hid f + t) x (low f))) s ((hid f + t) * 2 ^ x) (2 ^ low f) × (suc x ≡ ones f → ⊥)
+        → HasValue (cond a (cond b (inf s) nan) (odd (prec f) s (hid f + t) x (low f))) s
+        ((hid f + t) * 2 ^ x) (2 ^ low f)
+        × (suc x ≡ ones f → ⊥)
     go true true k h = absurd h
     go true false k h = absurd h
     go false b k h = (odd-sign (prec f) s (hid f + t) x (low f), λ e. true≢false (sym (k e)))
@@ -47,10 +50,13 @@ field-range b = (omega arith, omega arith)
 
 -- ---- the value x by its pattern, of which e is the exponent's field
 
-module _ (f : Format) (x : Float) (h : T (fits f x)) (e : ℕ) (is : toBits f x % top f / hid f ≡ e) where
+module _ (f : Format) (x : Float) (h : T (fits f x)) (e : ℕ)
+    (is : toBits f x % top f / hid f ≡ e) where
   by-fields : let b = toBits f x in x ≡ ofFields f (leb (top f) b) e (b % hid f)
   unfolding ofBits
-  by-fields = let b = toBits f x in sym (ofBits-toBits f x h) ∙ ap (λ (y : ℕ). ofFields f (leb (top f) b) y (b % hid f)) is
+  by-fields =
+      let b = toBits f x in
+      sym (ofBits-toBits f x h) ∙ ap (λ (y : ℕ). ofFields f (leb (top f) b) y (b % hid f)) is
 
   -- a subnormal value, or zero
   pub read-lowest : let b = toBits f x in e ≡ 0
@@ -59,34 +65,48 @@ module _ (f : Format) (x : Float) (h : T (fits f x)) (e : ℕ) (is : toBits f x 
       let b = toBits f x in
       let s = leb (top f) b in
       let t = b % hid f in
-      subst (λ (y : Float). HasValue y s (t * 2 ^ 0) (2 ^ low f)) (sym (by-fields ∙ ap (λ (y : ℕ). ofFields f s y t) z)) (lowest-field f s t)
+      subst (λ (y : Float). HasValue y s (t * 2 ^ 0) (2 ^ low f))
+      (sym (by-fields ∙ ap (λ (y : ℕ). ofFields f s y t) z)) (lowest-field f s t)
 
   -- a normal value
-  pub read-higher : let b = toBits f x in T (finite x)
+  pub read-higher :
+      let b = toBits f x in
+      T (finite x)
       → (e ≡ 0 → ⊥)
-      → HasValue x (leb (top f) b) ((hid f + b % hid f) * 2 ^ (e - 1)) (2 ^ low f) × (e ≡ ones f → ⊥)
+      → HasValue x (leb (top f) b) ((hid f + b % hid f) * 2 ^ (e - 1)) (2 ^ low f)
+      × (e ≡ ones f → ⊥)
   read-higher g z =
       let b = toBits f x in
       let s = leb (top f) b in
       let t = b % hid f in
       let next : e ≡ suc (e - 1) = omega arith in
-      let p : x ≡ ofFields f s (suc (e - 1)) t = by-fields ∙ ap (λ (y : ℕ). ofFields f s y t) next in
-      let v = higher-field f s (e - 1) t (subst (λ (y : Float). T (finite y)) p g) in
-      (subst (λ (y : Float). HasValue y s ((hid f + t) * 2 ^ (e - 1)) (2 ^ low f)) (sym p) (v .0), λ o. v .1 (sym next ∙ o))
+      let p : x ≡ ofFields f s (suc (e - 1)) t =
+      by-fields ∙ ap (λ (y : ℕ). ofFields f s y t) next in
+      let v = higher-field f s (e - 1) t (subst (λ (y : Float). T (finite y)) p g) in (
+        subst (λ (y : Float). HasValue y s ((hid f + t) * 2 ^ (e - 1)) (2 ^ low f)) (sym p) (v .0),
+        λ o. v .1 (sym next ∙ o),
+      )
 
 -- a fraction with both its parts times k is the same value
 pub times : (x : Float) (s : Bool) (a c k : ℕ) → HasValue x s a c → HasValue x s (a * k) (c * k)
 times nan s a c k v = v
 times (inf t) s a c k v = v
-times (fin t m e) s a c k v = (v .0, sym (mul-assoc (m * up e) c k) ∙ ap (λ (x : ℕ). x * k) (v .1) ∙ mul-right-comm a (down e) k)
+times (fin t m e) s a c k v = (
+  v .0,
+  sym (mul-assoc (m * up e) c k) ∙ ap (λ (x : ℕ). x * k) (v .1) ∙ mul-right-comm a (down e) k,
+)
 
 -- ---- patterns that are no NaN's: without the sign at most the infinity's
 
 not-nan-bits : (f : Format) (b : ℕ) → b % top f ≤ ones f * hid f → T (not (nanBits f b))
-not-nan-bits f b h = subst (λ (t : Bool). T (not t)) (sym (nanBits-above f b)) (le→nltb (ones f * hid f) (b % top f) h)
+not-nan-bits f b h =
+    subst (λ (t : Bool). T (not t)) (sym (nanBits-above f b))
+    (le→nltb (ones f * hid f) (b % top f) h)
 
 under-top : (f : Format) (b : ℕ) → b ≤ ones f * hid f → b % top f ≡ b
-under-top f b h = mod-eq-of-lt (subst (λ (t : ℕ). suc b ≤ t) (mul-comm (suc (ones f)) (hid f)) (lt-of-le-of-lt h (mul-lt-mul-of-pos-right (lt-suc-self (ones f)) (pow-pos (prec f - 1)))))
+under-top f b h =
+    mod-eq-of-lt (subst (λ (t : ℕ). suc b ≤ t) (mul-comm (suc (ones f)) (hid f))
+    (lt-of-le-of-lt h (mul-lt-mul-of-pos-right (lt-suc-self (ones f)) (pow-pos (prec f - 1)))))
 
 pub no-nan : (f : Format) (b : ℕ) → b ≤ ones f * hid f → T (not (nanBits f b))
 no-nan f b h = not-nan-bits f b (subst (λ (r : ℕ). r ≤ ones f * hid f) (sym (under-top f b h)) h)
@@ -94,8 +114,11 @@ no-nan f b h = not-nan-bits f b (subst (λ (r : ℕ). r ≤ ones f * hid f) (sym
 pub no-nan-signed : (f : Format) (s : Bool) (b : ℕ)
     → b ≤ ones f * hid f
     → T (not (nanBits f (cond s (top f) 0 + b)))
-no-nan-signed f true b h = not-nan-bits f (top f + b) (subst (λ (r : ℕ). r ≤ ones f * hid f) (sym (add-mod-left (top f) b ∙ under-top f b h)) h)
-no-nan-signed f false b h = subst (λ (x : ℕ). T (not (nanBits f x))) (sym (zero-add b)) (no-nan f b h)
+no-nan-signed f true b h =
+    not-nan-bits f (top f + b)
+    (subst (λ (r : ℕ). r ≤ ones f * hid f) (sym (add-mod-left (top f) b ∙ under-top f b h)) h)
+no-nan-signed f false b h =
+    subst (λ (x : ℕ). T (not (nanBits f x))) (sym (zero-add b)) (no-nan f b h)
 
 -- so is the pattern of a value that is none
 pub in-range : (f : Format) (x : Float)
@@ -104,7 +127,10 @@ pub in-range : (f : Format) (x : Float)
     → toBits f x % top f ≤ ones f * hid f
 in-range f x h n =
     nltb→le (ones f * hid f) (toBits f x % top f)
-    (subst (λ (t : Bool). T (not t)) (ap isNan (sym (ofBits-toBits f x h)) ∙ sym (nanBits-is f (toBits f x)) ∙ nanBits-above f (toBits f x)) n)
+    (subst (λ (t : Bool). T (not t))
+    (ap isNan (sym (ofBits-toBits f x h))
+    ∙ sym (nanBits-is f (toBits f x))
+    ∙ nanBits-above f (toBits f x)) n)
 
 -- ---- values that are a NaN, or none
 
@@ -117,7 +143,8 @@ pub ne-self : (x : Float) → ne x x ≡ isNan x
 unfolding isNan
 ne-self nan = nan-differs
 ne-self (inf s) = number (inf s) (ne (inf s) (inf s)) refl (differs-from-itself (inf s))
-ne-self (fin s m e) = number (fin s m e) (ne (fin s m e) (fin s m e)) refl (differs-from-itself (fin s m e))
+ne-self (fin s m e) =
+    number (fin s m e) (ne (fin s m e) (fin s m e)) refl (differs-from-itself (fin s m e))
 
 pub nan-of : (x : Float) → ne x x ≡ true → x ≡ nan
 nan-of x h = differs-from-itself x (subst T (sym h) tt)

@@ -16,11 +16,17 @@ lt-or-ge a b = by-cases (decLt a b) inl (λ (n : ¬ (a < b)). inr (omega arith))
 pub same-test : (a b c d : ℕ) → ((a < b) ↔ (c < d)) → ltb a b ≡ ltb c d
 same-test a b c d h =
     ⊎-elim (λ (l : a < b). lt-ltb a b l ∙ sym (lt-ltb c d (h .0 l)))
-    (λ (g : b ≤ a). le-ltb a b g ∙ sym (le-ltb c d (⊎-elim (λ (l : c < d). let m : a < b = h .1 l in omega arith) (λ (k : d ≤ c). k) (lt-or-ge c d)))) (lt-or-ge a b)
+    (λ (g : b ≤ a).
+    le-ltb a b g
+    ∙ sym (le-ltb c d (⊎-elim (λ (l : c < d). let m : a < b = h .1 l in omega arith)
+    (λ (k : d ≤ c). k)
+    (lt-or-ge c d)))) (lt-or-ge a b)
 
 -- two products by one number compare as the factors do
 pub scaled-test : (a b c : ℕ) → 0 < c → ltb (a * c) (b * c) ≡ ltb a b
-scaled-test a b c C = same-test (a * c) (b * c) a b (lt-of-mul-lt-mul-right c, λ (l : a < b). mul-lt-mul-of-pos-right l C)
+scaled-test a b c C =
+    same-test (a * c) (b * c) a b
+    (lt-of-mul-lt-mul-right c, λ (l : a < b). mul-lt-mul-of-pos-right l C)
 
 -- so a / c and b / c compare as a' / c' and b' / c' that equal them, by this test or by any of
 -- which as much is known

@@ -14,4 +14,7 @@ pub record Settles (n exp : ℕ) (r : Scaled) : Type 0 where
   pub full : 2 ^ 52 ≤ r .sig
   pub short : r .sig < 2 ^ 53
   pub within : r .exp < 4000
-  pub alike : (s : Bool) (v : ℕ) → (n - 1) * 2 ^ exp ≤ v → v ≤ (n + 2) * 2 ^ exp → rounded s v ≡ units binary64 s (r .sig) (r .exp)
+  pub alike : (s : Bool) (v : ℕ)
+      → (n - 1) * 2 ^ exp ≤ v
+      → v ≤ (n + 2) * 2 ^ exp
+      → rounded s v ≡ units binary64 s (r .sig) (r .exp)

@@ -60,7 +60,8 @@ fn signed_sum(same: bool, a: u64, b: u64) -> u64
 // no such or it has more than 53 digits.
 fn nearest_to_all(w: u64, m: u64) -> u64
     requires { ⌜ (w < 2 ^ 63) × (m < 2 ^ 9) ⌝ }
-    ensures { λ r. ⌜ (0 < r → (r < 2 ^ 53) × (r * 2 ^ 10 < w + 2 ^ 9) × (w + m < r * 2 ^ 10 + 2 ^ 9)) ⌝ }
+    ensures { λ r.
+        ⌜ (0 < r → (r < 2 ^ 53) × (r * 2 ^ 10 < w + 2 ^ 9) × (w + m < r * 2 ^ 10 + 2 ^ 9)) ⌝ }
 {
     let q = (w + m + 0x200) / 0x400;
     if ((w + 0x1ff) / 0x400 == q) & (q < PAST) {
@@ -94,7 +95,9 @@ fn settle(sum: u64, exp: u64) -> Scaled
 // other is cut short to it.
 pub fn add_leading(negative: bool, p: Wide, p_exp: u64, c: Unpacked) -> f64
     requires { ⌜ IsProduct (value p) «p_exp» × IsSignificand (c .sig) (c .exp) ⌝ }
-    ensures { λ r. ⌜ r ≡ summed negative (value p * 2 ^ «p_exp») (c .negative) (c .sig * 2 ^ c .exp * 2 ^ 1092) ⌝ }
+    ensures { λ r.
+        ⌜ r
+        ≡ summed negative (value p * 2 ^ «p_exp») (c .negative) (c .sig * 2 ^ c .exp * 2 ^ 1092) ⌝ }
 {
     let a = shift_right(p, 62);
     let b = c.sig * 512;

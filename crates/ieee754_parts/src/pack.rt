@@ -32,7 +32,9 @@ fn capped(bits: u64) -> u64
 // ±sig * 2^exp / 2^1074, which is finite. The pattern has exp for the exponent's field, to which
 // the leading digit of sig adds one, and so does a sig of 2^53, which a rounding up leaves.
 pub fn pack_finite(negative: bool, sig: u64, exp: u64) -> f64
-    requires { ⌜ (sig ≤ 2 ^ 53) × (0 < exp → 2 ^ 52 ≤ sig) × (exp * 2 ^ 52 + sig < 0x7ff0_0000_0000_0000) ⌝ }
+    requires { ⌜ (sig ≤ 2 ^ 53)
+        × (0 < exp → 2 ^ 52 ≤ sig)
+        × (exp * 2 ^ 52 + sig < 0x7ff0_0000_0000_0000) ⌝ }
     ensures { λ r. ⌜ r ≡ units binary64 negative sig exp ⌝ }
 {
     with_sign(negative, exp * LEADING + sig)

@@ -16,7 +16,8 @@ use crate::wide::sub_wide;
 // negative.
 fn sum_aligned(a_negative: bool, a: Wide, b_negative: bool, b: Wide, exp: u64) -> f64
     requires { ⌜ (a .hi + b .hi + 1 < 2 ^ 64) × (64 ≤ exp) × (exp < 4900) ⌝ }
-    ensures { λ r. ⌜ r ≡ summed «a_negative» (value a * 2 ^ exp) «b_negative» (value b * 2 ^ exp) ⌝ }
+    ensures { λ r.
+        ⌜ r ≡ summed «a_negative» (value a * 2 ^ exp) «b_negative» (value b * 2 ^ exp) ⌝ }
 {
     if a_negative == b_negative {
         round_wide(a_negative, add_wide(a, b), exp)
@@ -33,7 +34,9 @@ fn sum_aligned(a_negative: bool, a: Wide, b_negative: bool, b: Wide, exp: u64) -
 // larger by far.
 pub(crate) fn add_scaled(negative: bool, p: Wide, p_exp: u64, c: Unpacked) -> f64
     requires { ⌜ IsProduct (value p) «p_exp» × IsSignificand (c .sig) (c .exp) ⌝ }
-    ensures { λ r. ⌜ r ≡ summed negative (value p * 2 ^ «p_exp») (c .negative) (c .sig * 2 ^ c .exp * 2 ^ 1092) ⌝ }
+    ensures { λ r.
+        ⌜ r
+        ≡ summed negative (value p * 2 ^ «p_exp») (c .negative) (c .sig * 2 ^ c .exp * 2 ^ 1092) ⌝ }
 {
     let q = Wide {
         hi: c.sig * 512,

@@ -26,8 +26,12 @@ pub nearest-cube : (n q : ℕ)
     → IsNearest 3 (n * 2 ^ 104) q
 unfolding cubeTop
 nearest-cube n q l h = record {
-  above = lt-of-le-of-lt (le-of-eq (cube (2 * q - 1))) (under n (2 * q - 1) (div-lt-iff-lt-mul (lit< tt) .0 l));
-  below = lt-of-lt-of-le (odd-cube n q (le-div-iff-mul-le (lit< tt) .0 h)) (le-of-eq (sym (cube (2 * q + 1))));
+  above =
+      lt-of-le-of-lt (le-of-eq (cube (2 * q - 1)))
+      (under n (2 * q - 1) (div-lt-iff-lt-mul (lit< tt) .0 l));
+  below =
+      lt-of-lt-of-le (odd-cube n q (le-div-iff-mul-le (lit< tt) .0 h))
+      (le-of-eq (sym (cube (2 * q + 1))));
 }
 
 -- the root of a number of the right size has 53 digits

@@ -75,7 +75,8 @@ module _ {n q bit rest : ℕ} (d : Found n q bit rest) (more : 1 < bit) where
 -- ---- with the last digit, of the weight 1, the root is rounded by what is left
 
 pub last : {n q bit rest : ℕ} → Found n q bit rest → bit ≤ 1 → Found n q 1 rest
-last {n} {q} {bit} {rest} d h = subst (λ (b : ℕ). Found n q b rest) (omega (arith, pow-pos (d .power .0))) d
+last {n} {q} {bit} {rest} d h =
+    subst (λ (b : ℕ). Found n q b rest) (omega (arith, pow-pos (d .power .0))) d
 
 pub up : {n q rest : ℕ} → Found n q 1 rest → q < rest → IsNearest 2 n (q + 1)
 up {n} {q} d h = nearest-square n (q + 1) (omega arith) (omega arith)

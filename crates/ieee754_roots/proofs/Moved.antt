@@ -13,7 +13,10 @@ pub moved : (p m t : ℕ)
     → m < 2 ^ 53
     → t < p
     → (2 ^ 52 ≤ m * 2 ^ t) × (m * 2 ^ t < 2 ^ (52 + p))
-moved p m t l h o = (le-trans l (le-mul-of-pos-right m (pow-pos t)), lt-of-lt-of-le (shl-lt 53 t h) (pow-mono (omega arith)))
+moved p m t l h o = (
+  le-trans l (le-mul-of-pos-right m (pow-pos t)),
+  lt-of-lt-of-le (shl-lt 53 t h) (pow-mono (omega arith)),
+)
 
 -- so in a word it loses no digit
 module _ (p m t : ℕ) (low : 2 ^ 52 ≤ m) (high : m < 2 ^ 53) (less : t < p) (room : p ≤ 12) where
@@ -21,7 +24,8 @@ module _ (p m t : ℕ) (low : 2 ^ 52 ≤ m) (high : m < 2 ^ 53) (less : t < p) (
   exact = shl-exact 53 t 64 high (omega arith)
 
   pub moved-range : let n = m * 2 ^ t % 2 ^ 64 in (2 ^ 52 ≤ n) × (n < 2 ^ (52 + p))
-  moved-range = subst (λ (n : ℕ). (2 ^ 52 ≤ n) × (n < 2 ^ (52 + p))) (sym exact) (moved p m t low high less)
+  moved-range =
+      subst (λ (n : ℕ). (2 ^ 52 ≤ n) × (n < 2 ^ (52 + p))) (sym exact) (moved p m t low high less)
 
   pub moved-nearest : {q : ℕ}
       → IsNearest p (m * 2 ^ t % 2 ^ 64 * 2 ^ (52 * (p - 1))) q

@@ -6,7 +6,9 @@ use native.Mathlib.Omega.{arith}
 use Rattle.ieee754_roots.specs.Nearest.{IsNearest}
 
 pub square : (x : ℕ) → x ^ 2 ≡ x * x
-square x = pow-suc x 1 ∙ ap (λ (y : ℕ). y * x) (pow-suc x 0 ∙ ap (λ (y : ℕ). y * x) (pow-zero x) ∙ one-mul x)
+square x =
+    pow-suc x 1
+    ∙ ap (λ (y : ℕ). y * x) (pow-suc x 0 ∙ ap (λ (y : ℕ). y * x) (pow-zero x) ∙ one-mul x)
 
 pub nearest-square : (n q : ℕ) → q * q < n + q → n ≤ q * q + q → IsNearest 2 n q
 nearest-square n zero a b = omega arith

@@ -1,5 +1,5 @@
--- Every definition that a solve computes with, its own and those of the crates below, opened at once:
--- under `unfolding evaluated` the solve of a concrete frame computes. Assumes nothing.
+-- Every definition that a solve computes with, its own and those of the crates below, opened at
+-- once: under `unfolding evaluated` the solve of a concrete frame computes. Assumes nothing.
 use Rattle.frames.proofs.Evaluated.{evaluated as frames-evaluated}
 use Rattle.polynomial.proofs.Evaluated.{evaluated as roots-evaluated}
 use Rattle.p3p_common.proofs.Evaluated.{evaluated as gates-evaluated}

@@ -1,4 +1,5 @@
--- The poses of a solve's candidates are at most four, finite, and each after at most five updates; the slots beyond them hold plus zeros. Assumes nothing.
+-- The poses of a solve's candidates are at most four, finite, and each after at most five updates;
+-- the slots beyond them hold plus zeros. Assumes nothing.
 use mathlib.Core.Bool.{not}
 use mathlib.Core.List.{List, [], _∷_}
 use Prim.Native.Nat.{_≤_}
@@ -10,7 +11,8 @@ use Rattle.p3p_common.specs.RefineDepths.{refineDepths}
 use Rattle.p3p_common.specs.Slots.{empty}
 use Rattle.p3p_common.proofs.SlotLaws.{Kept, empty-kept, pushPose-kept, updates-few}
 use Rattle.lambdatwist.specs.Poses.{allPositive, pushDepths, poseTurn, poseTurns, poses}
-use Rattle.lambdatwist.specs.Types.{Vector3, Matrix3, P3pInput, Measured, Refined, Solutions, Candidates}
+use Rattle.lambdatwist.specs.Types.{Vector3, Matrix3, P3pInput, Measured, Refined, Solutions}
+use Rattle.lambdatwist.specs.Types.{Candidates}
 
 module _ (input : P3pInput) (measured : Measured) (inverse : Matrix3) where
   pushDepths-kept : (s : Solutions) (r : Refined)
@@ -18,9 +20,12 @@ module _ (input : P3pInput) (measured : Measured) (inverse : Matrix3) where
       → Kept s
       → Kept (pushDepths input measured inverse s r .value)
   unfolding pushDepths
-  pushDepths-kept s r h k = pushPose-kept input s _ _ (r .updates) (rotation-finite _ _ (measured .p0)) h k
+  pushDepths-kept s r h k =
+      pushPose-kept input s _ _ (r .updates) (rotation-finite _ _ (measured .p0)) h k
 
-  poseTurn-kept : (s : Solutions) (d : Vector3) → Kept s → Kept (poseTurn input measured inverse s d .value)
+  poseTurn-kept : (s : Solutions) (d : Vector3)
+      → Kept s
+      → Kept (poseTurn input measured inverse s d .value)
   unfolding poseTurn
   poseTurn-kept s d k =
       let squares = measured .squares in
@@ -30,10 +35,13 @@ module _ (input : P3pInput) (measured : Measured) (inverse : Matrix3) where
       (λ _. k)
       (λ _. pushDepths-kept s refined (updates-few squares cosines d 5) k)
 
-  poseTurns-kept : (l : List Vector3) (s : Solutions) → Kept s → Kept (poseTurns input measured inverse l s .value)
+  poseTurns-kept : (l : List Vector3) (s : Solutions)
+      → Kept s
+      → Kept (poseTurns input measured inverse l s .value)
   unfolding poseTurns
   poseTurns-kept [] s k = k
-  poseTurns-kept (d ∷ l) s k = poseTurns-kept l (poseTurn input measured inverse s d .value) (poseTurn-kept s d k)
+  poseTurns-kept (d ∷ l) s k =
+      poseTurns-kept l (poseTurn input measured inverse s d .value) (poseTurn-kept s d k)
 
   pub poses-kept : (found : Candidates) → Kept (poses input measured inverse found .value)
   unfolding poses

@@ -1,4 +1,5 @@
--- A NaN as the condition of the first permutation is kept as best, since nothing compares greater, and passes the limit, since it is not at most anything (document 01, the second of the wrong
+-- A NaN as the condition of the first permutation is kept as best, since nothing compares greater,
+-- and passes the limit, since it is not at most anything (document 01, the second of the wrong
 -- readings). No frame was found that reaches it, so it is stated of the choice. Assumes nothing.
 use mathlib.Core.Path.{_≡_, refl}
 use mathlib.Core.Bool.{false}
@@ -11,7 +12,9 @@ better-nan : (best next : Conditioned) → best .condition ≡ nan → better be
 unfolding better lt
 better-nan best next h = rw h
 
-pub nan-kept : (first : Conditioned) (rest : List Conditioned) → first .condition ≡ nan → bestOf first rest ≡ first
+pub nan-kept : (first : Conditioned) (rest : List Conditioned)
+    → first .condition ≡ nan
+    → bestOf first rest ≡ first
 unfolding bestOf
 nan-kept first [] h = refl
 nan-kept first (next ∷ rest) h = rw (better-nan first next h) (nan-kept first rest h)

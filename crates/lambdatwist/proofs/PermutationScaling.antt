@@ -30,17 +30,27 @@ module _ {k : ℤ} where
       leadingCubicCondition-same bearings w >>= λ _ _ condition.
       pure (record { condition = condition; world = w; bearings = refl {a = bearings} })
 
-  better-scales : {b b' c c' : Conditioned} → AtConditioned k b b' → AtConditioned k c c' → AtConditioned k (better b c) (better b' c')
+  better-scales : {b b' c c' : Conditioned}
+      → AtConditioned k b b'
+      → AtConditioned k c c'
+      → AtConditioned k (better b c) (better b' c')
   unfolding better
-  better-scales best next = choose (AtConditioned k) (λ i. lt (best .condition i) (next .condition i)) next best
+  better-scales best next =
+      choose (AtConditioned k) (λ i. lt (best .condition i) (next .condition i)) next best
 
-  bestOf-scales : {b b' : Conditioned} {cs cs' : List Conditioned} → AtConditioned k b b' → Forall₂ (AtConditioned k) cs cs' → AtConditioned k (bestOf b cs) (bestOf b' cs')
+  bestOf-scales : {b b' : Conditioned} {cs cs' : List Conditioned}
+      → AtConditioned k b b'
+      → Forall₂ (AtConditioned k) cs cs'
+      → AtConditioned k (bestOf b cs) (bestOf b' cs')
   unfolding bestOf
   bestOf-scales best Forall₂·nil = best
   bestOf-scales best (Forall₂·cons next rest) = bestOf-scales (better-scales best next) rest
 
-  pub bestPermutation-scales : {w w' : World} (bearings : Bearings) → AtWorld k w w'
-      → Both (AtConditioned k) (bestPermutation (record { world = w; bearings = bearings })) (bestPermutation (record { world = w'; bearings = bearings }))
+  pub bestPermutation-scales : {w w' : World} (bearings : Bearings)
+      → AtWorld k w w'
+      → Both (AtConditioned k)
+      (bestPermutation (record { world = w; bearings = bearings }))
+      (bestPermutation (record { world = w'; bearings = bearings }))
   unfolding bestPermutation
   bestPermutation-scales bearings w =
       let record { f0 = f0; f1 = f1; f2 = f2 } = bearings in
@@ -49,4 +59,5 @@ module _ {k : ℤ} where
       withCondition-scales (w .p1) (w .p2) (w .p0) f1 f2 f0 >>= λ _ _ c120.
       withCondition-scales (w .p2) (w .p0) (w .p1) f2 f0 f1 >>= λ _ _ c201.
       withCondition-scales (w .p2) (w .p1) (w .p0) f2 f1 f0 >>= λ _ _ c210.
-      pure (bestOf-scales c021 (Forall₂·cons c102 (Forall₂·cons c120 (Forall₂·cons c201 (Forall₂·cons c210 Forall₂·nil)))))
+      pure (bestOf-scales c021
+      (Forall₂·cons c102 (Forall₂·cons c120 (Forall₂·cons c201 (Forall₂·cons c210 Forall₂·nil)))))

@@ -1,5 +1,5 @@
--- From depth candidates to poses: depths at degree 1 are refined alike, and give the same rotations, with translations at degree 1.
--- Assumes nothing.
+-- From depth candidates to poses: depths at degree 1 are refined alike, and give the same
+-- rotations, with translations at degree 1. Assumes nothing.
 use mathlib.Core.Path.{_≡_, refl, ap, subst}
 use mathlib.Core.Bool.{not, _&&_}
 use mathlib.Core.List.{List, Forall₂, Forall₂·nil, Forall₂·cons}
@@ -17,14 +17,18 @@ use Rattle.p3p_common.proofs.RefineScaling.{refineDepths-scales}
 use Rattle.p3p_common.proofs.BasisScaling.{rotationFromEdges-same}
 use Rattle.p3p_common.proofs.SlotScaling.{empty-scales, pushPose-scales}
 use Rattle.lambdatwist.specs.Poses.{allPositive, pushDepths, poseTurn, poseTurns, poses}
-use Rattle.lambdatwist.specs.Types.{Vector3, Matrix3, Cosines, P3pInput, Measured, Refined, Solutions, Candidates}
+use Rattle.lambdatwist.specs.Types.{Vector3, Matrix3, Cosines, P3pInput, Measured, Refined}
+use Rattle.lambdatwist.specs.Types.{Solutions, Candidates}
 use Rattle.depths.proofs.MeasureScaling.{AtMeasured}
 use Rattle.depths.proofs.ChartScaling.{AtCandidates}
 
 module _ {k : ℤ} where
   allPositive-same : {d d' : Vector3} → AtVector k (pos 1) d d' → allPositive d ≡ allPositive d'
   unfolding allPositive
-  allPositive-same d = λ i. allFinite-same d i && (not (le-same (d .x) null i) && (not (le-same (d .y) null i) && not (le-same (d .z) null i)))
+  allPositive-same d = λ i.
+      allFinite-same d i
+      && (not (le-same (d .x) null i) &&
+      (not (le-same (d .y) null i) && not (le-same (d .z) null i)))
 
   module _ {input input' : P3pInput} {a a' : Measured} {m m' : Matrix3}
       (I : AtInput k input input')
@@ -34,7 +38,9 @@ module _ {k : ℤ} where
       pushDepths-scales : {s s' : Solutions} {depths depths' : Vector3} (updates : ℕ)
           → AtSolutions k s s'
           → AtVector k (pos 1) depths depths'
-          → Both (AtSolutions k) (pushDepths input a m s (record { depths = depths; updates = updates })) (pushDepths input' a' m' s' (record { depths = depths'; updates = updates }))
+          → Both (AtSolutions k)
+          (pushDepths input a m s (record { depths = depths; updates = updates }))
+          (pushDepths input' a' m' s' (record { depths = depths'; updates = updates }))
       unfolding pushDepths
       pushDepths-scales updates output depths =
           let bearings = a .bearings in
@@ -54,16 +60,24 @@ module _ {k : ℤ} where
           → AtRefined k r r'
           → Both (AtSolutions k) (pushDepths input a m s r) (pushDepths input' a' m' s' r')
       pushRefined-scales {s} {s'} {r} {r'} output refined =
-          subst (λ (u : ℕ). Both (AtSolutions k) (pushDepths input a m s r) (pushDepths input' a' m' s' (record { depths = r' .depths; updates = u })))
+          subst (λ (u : ℕ).
+          Both (AtSolutions k)
+          (pushDepths input a m s r)
+          (pushDepths input' a' m' s' (record { depths = r' .depths; updates = u })))
           (refined .updates)
           (pushDepths-scales (r .updates) output (refined .depths))
 
       -- the cosines are equal, so they may be taken of either run
       refined-scales : {d d' : Vector3}
           → AtVector k (pos 1) d d'
-          → Both (AtRefined k) (refineDepths d (a .squares) (a .cosines) 5) (refineDepths d' (a' .squares) (a' .cosines) 5)
+          → Both (AtRefined k)
+          (refineDepths d (a .squares) (a .cosines) 5)
+          (refineDepths d' (a' .squares) (a' .cosines) 5)
       refined-scales {d} {d'} depths =
-          subst (λ (c : Cosines). Both (AtRefined k) (refineDepths d (a .squares) (a .cosines) 5) (refineDepths d' (a' .squares) c 5))
+          subst (λ (c : Cosines).
+          Both (AtRefined k)
+          (refineDepths d (a .squares) (a .cosines) 5)
+          (refineDepths d' (a' .squares) c 5))
           (A .cosines)
           (refineDepths-scales (a .cosines) 5 depths (A .squares))
 
@@ -74,7 +88,8 @@ module _ {k : ℤ} where
       unfolding poseTurn
       poseTurn-scales output depths =
           refined-scales depths >>= λ _ _ refined.
-          if ap not (allPositive-same (refined .depths)) then pure output else pushRefined-scales output refined
+          if ap not (allPositive-same (refined .depths)) then pure output
+          else pushRefined-scales output refined
 
       poseTurns-scales : {ds ds' : List Vector3} {s s' : Solutions}
           → Forall₂ (AtVector k (pos 1)) ds ds'
@@ -90,4 +105,5 @@ module _ {k : ℤ} where
           → AtCandidates k c c'
           → Both (AtSolutions k) (poses input a m c) (poses input' a' m' c')
       unfolding poses
-      poses-scales found = poseTurns-scales (take-entries (found .count) (found .depths)) empty-scales
+      poses-scales found =
+          poseTurns-scales (take-entries (found .count) (found .depths)) empty-scales

@@ -1,4 +1,5 @@
--- The loop over the depth candidates at one slot: a turn is made there, or the candidates are at an end. Assumes nothing.
+-- The loop over the depth candidates at one slot: a turn is made there, or the candidates are at an
+-- end. Assumes nothing.
 use mathlib.Core.Path.{_≡_}
 use mathlib.Core.List.{List}
 use Prim.Native.Nat.{ℕ, _+_, _≤_, _<_, min}
@@ -21,7 +22,8 @@ module _
     abbrev turns : List Vector3 → Solutions → Solutions
     turns rest so-far = poseTurns input measured inverse rest so-far .value
 
-    pub turns-end : min count (length depths) ≤ at → output ≡ turns (drop at (take count depths)) output
+    pub turns-end : min count (length depths) ≤ at
+        → output ≡ turns (drop at (take count depths)) output
     unfolding poseTurns
     turns-end h =
         let short : length (take count depths) ≤ at = simp length-take h in
@@ -30,7 +32,8 @@ module _
     pub turns-go : (d : Vector3)
         → at < count
         → at < length depths
-        → turns (drop (at + 1) (take count depths)) (poseTurn input measured inverse output (getD depths at d) .value)
+        → turns (drop (at + 1) (take count depths))
+        (poseTurn input measured inverse output (getD depths at d) .value)
         ≡ turns (drop at (take count depths)) output
     unfolding poseTurns
     turns-go d h g =

@@ -1,4 +1,5 @@
--- The solve of two runs whose worlds are at degree 1 and whose bearings are equal: answers alike, with the rotations, counts and refusals equal and the translations at degree 1. Assumes nothing.
+-- The solve of two runs whose worlds are at degree 1 and whose bearings are equal: answers alike,
+-- with the rotations, counts and refusals equal and the translations at degree 1. Assumes nothing.
 use mathlib.Core.Path.{_≡_, refl, ap, subst}
 use mathlib.Core.Bool.{not, _&&_}
 use mathlib.Core.List.{Forall₂}
@@ -10,7 +11,8 @@ use Rattle.ieee754.specs.Literal.{sixtyFour, epsilon}
 use Rattle.ieee754.specs.Traced as traced
 use Rattle.ieee754.specs.Traced.{Traced}
 use Rattle.ieee754.specs.Scaling.{Both}
-use Rattle.ieee754_laws.proofs.Degrees.{same, at-zero, !_, _⊗_, _⊘_, pure, _>>=_, _>>≡_, if_then_else_, choose, equal}
+use Rattle.ieee754_laws.proofs.Degrees.{same, at-zero, !_, _⊗_, _⊘_, pure, _>>=_, _>>≡_}
+use Rattle.ieee754_laws.proofs.Degrees.{if_then_else_, choose, equal}
 use Rattle.linalg.specs.VectorScaling.{AtMatrix}
 use Rattle.linalg.specs.Vectors.{allFinite}
 use Rattle.linalg.proofs.VectorDegrees.{allFinite-same}
@@ -21,8 +23,11 @@ use Rattle.frames.specs.FrameScaling.{AtWorld, AtPose}
 use Rattle.p3p_common.specs.PoseScaling.{AtInput, AtSolutions}
 use Rattle.p3p_common.proofs.BasisScaling.{withInverse-scales, worldBasisInverse-scales}
 use Rattle.p3p_common.proofs.SlotScaling.{empty-scales}
-use Rattle.lambdatwist.specs.Solve.{answered, refused, ifKept, stopped, solveCandidates, solveRoot, solveCubic, orderedOr, bestOr, solveOrdered, solve}
-use Rattle.lambdatwist.specs.Types.{Matrix3, World, Bearings, P3pInput, Solutions, Factors, Measured, Coefficients, Candidates, Answer}
+use Rattle.lambdatwist.specs.Solve.{answered, refused, ifKept, stopped, solveCandidates}
+use Rattle.lambdatwist.specs.Solve.{solveRoot, solveCubic, orderedOr, bestOr, solveOrdered}
+use Rattle.lambdatwist.specs.Solve.{solve}
+use Rattle.lambdatwist.specs.Types.{Matrix3, World, Bearings, P3pInput, Solutions, Factors}
+use Rattle.lambdatwist.specs.Types.{Measured, Coefficients, Candidates, Answer}
 use Rattle.depths.proofs.CubicScaling.{AtCoefficients, isUnusable-same}
 use Rattle.depths.proofs.MeasureScaling.{AtMeasured, measure-scales, measuredCubic-scales}
 use Rattle.depths.specs.Matrix.{singularMatrix}
@@ -43,9 +48,12 @@ pub record AtAnswer (k : ℤ) (a a' : Answer) : Type 0 where
 
 module _ {k : ℤ} where
   -- ---- answers
-  answered-at : (number : ℕ) {s s' : Solutions} → AtSolutions k s s' → AtAnswer k (answered number s) (answered number s')
+  answered-at : (number : ℕ) {s s' : Solutions}
+      → AtSolutions k s s'
+      → AtAnswer k (answered number s) (answered number s')
   unfolding answered
-  answered-at number s = record { refusal = refl; count = s .count; poses = s .poses; updates = s .updates }
+  answered-at number s =
+      record { refusal = refl; count = s .count; poses = s .poses; updates = s .updates }
 
   refused-alike : (number : ℕ) → AtAnswer k (refused number) (refused number)
   unfolding refused
@@ -53,7 +61,8 @@ module _ {k : ℤ} where
 
   ifKept-at : {s s' : Solutions} → AtSolutions k s s' → AtAnswer k (ifKept s) (ifKept s')
   unfolding ifKept
-  ifKept-at s = choose (AtAnswer k) (ap (λ (n : ℕ). eqb n 0) (s .count)) (refused-alike 3) (answered-at 0 s)
+  ifKept-at s =
+      choose (AtAnswer k) (ap (λ (n : ℕ). eqb n 0) (s .count)) (refused-alike 3) (answered-at 0 s)
 
   stops : Both (AtAnswer k) stopped stopped
   stops = pure (refused-alike 3)
@@ -73,20 +82,31 @@ module _ {k : ℤ} where
 
       -- the factors are equal, so they may be taken of either run
       matrix-scales : (g : Float)
-          → Both (AtMatrix k (pos 2)) (singularMatrix (m .squares) (m .factors) g) (singularMatrix (m' .squares) (m' .factors) g)
+          → Both (AtMatrix k (pos 2))
+          (singularMatrix (m .squares) (m .factors) g)
+          (singularMatrix (m' .squares) (m' .factors) g)
       matrix-scales g =
-          subst (λ (b : Factors). Both (AtMatrix k (pos 2)) (singularMatrix (m .squares) (m .factors) g) (singularMatrix (m' .squares) b g))
+          subst (λ (b : Factors).
+          Both (AtMatrix k (pos 2))
+          (singularMatrix (m .squares) (m .factors) g)
+          (singularMatrix (m' .squares) b g))
           (M .factors)
           (singularMatrix-scales (m .factors) g (M .squares))
 
       found-scales : (e : Matrix3) (ratio : Float)
-          → Both (AtCandidates k) (candidates (m .squares) (m .factors) e ratio) (candidates (m' .squares) (m' .factors) e ratio)
+          → Both (AtCandidates k)
+          (candidates (m .squares) (m .factors) e ratio)
+          (candidates (m' .squares) (m' .factors) e ratio)
       found-scales e ratio =
-          subst (λ (b : Factors). Both (AtCandidates k) (candidates (m .squares) (m .factors) e ratio) (candidates (m' .squares) b e ratio))
+          subst (λ (b : Factors).
+          Both (AtCandidates k)
+          (candidates (m .squares) (m .factors) e ratio)
+          (candidates (m' .squares) b e ratio))
           (M .factors)
           (candidates-scales (m .factors) (M .squares) e ratio)
 
-      solveRoot-scales : (g : Float) → Both (AtAnswer k) (solveRoot input m g) (solveRoot input' m' g)
+      solveRoot-scales : (g : Float)
+          → Both (AtAnswer k) (solveRoot input m g) (solveRoot input' m' g)
       unfolding solveRoot
       solveRoot-scales g =
           matrix-scales g >>= λ _ _ matrix.
@@ -106,13 +126,17 @@ module _ {k : ℤ} where
           ! (c .cubic1) ⊘ ! (c .cubic3) >>= λ _ _ c1.
           ! (c .cubic0) ⊘ ! (c .cubic3) >>= λ _ _ c0.
           cubic-scales c2 c1 c0 >>= λ _ _ root.
-          withRoot-scales root stops (λ g g' same. subst (λ (h : Float). Both (AtAnswer k) (solveRoot input m g) (solveRoot input' m' h)) (at-zero same) (solveRoot-scales g))
+          withRoot-scales root stops (λ g g' same.
+          subst (λ (h : Float). Both (AtAnswer k) (solveRoot input m g) (solveRoot input' m' h))
+          (at-zero same) (solveRoot-scales g))
 
     orderedOr-scales : {world world' : World} (bearings : Bearings)
         → AtWorld k world world'
         → (retry : P3pInput → Traced Answer)
         → Both (AtAnswer k) (retry input) (retry input')
-        → Both (AtAnswer k) (orderedOr retry input world bearings) (orderedOr retry input' world' bearings)
+        → Both (AtAnswer k)
+        (orderedOr retry input world bearings)
+        (orderedOr retry input' world' bearings)
     unfolding orderedOr
     orderedOr-scales bearings w retry again =
         measure-scales bearings w >>= λ _ _ measured.
@@ -138,20 +162,28 @@ module _ {k : ℤ} where
         → AtWorld k w w'
         → Both (AtAnswer k) (solveOrdered n given w f) (solveOrdered n given' w' f)
 
-    retry-scales : (n : ℕ) → Ordered n → Both (AtAnswer k) (bestOr (solveOrdered n) given) (bestOr (solveOrdered n) given')
+    retry-scales : (n : ℕ)
+        → Ordered n
+        → Both (AtAnswer k) (bestOr (solveOrdered n) given) (bestOr (solveOrdered n) given')
     unfolding bestOr
     retry-scales n ordered =
         bestPermutation-scales bearings W >>= λ best best' h.
         equal {k = k} (! same sixtyFour ⊗ ! same epsilon) >>≡ λ limit.
         if ap (λ (c : Float). le c limit) (h .condition) then pure (refused-alike 2)
-        else subst (λ (f : Bearings). Both (AtAnswer k) (solveOrdered n given (best .world) (best .bearings)) (solveOrdered n given' (best' .world) f))
+        else subst (λ (f : Bearings).
+        Both (AtAnswer k)
+        (solveOrdered n given (best .world) (best .bearings))
+        (solveOrdered n given' (best' .world) f))
         (h .bearings)
         (ordered (best .world) (best' .world) (best .bearings) (h .world))
 
     solveOrdered-scales : (n : ℕ) → Ordered n
     unfolding solveOrdered
-    solveOrdered-scales zero w w' f h = orderedOr-scales same-input f h (λ input. traced.pure (refused 2)) (pure (refused-alike 2))
-    solveOrdered-scales (suc n) w w' f h = orderedOr-scales same-input f h (bestOr (solveOrdered n)) (retry-scales n (solveOrdered-scales n))
+    solveOrdered-scales zero w w' f h =
+        orderedOr-scales same-input f h (λ input. traced.pure (refused 2)) (pure (refused-alike 2))
+    solveOrdered-scales (suc n) w w' f h =
+        orderedOr-scales same-input f h (bestOr (solveOrdered n))
+        (retry-scales n (solveOrdered-scales n))
 
     inputFinite-same : inputFinite given ≡ inputFinite given'
     unfolding inputFinite
@@ -161,4 +193,6 @@ module _ {k : ℤ} where
 
     pub solve-scales : Both (AtAnswer k) (solve world bearings) (solve world' bearings)
     unfolding solve
-    solve-scales = if ap not inputFinite-same then pure (refused-alike 1) else solveOrdered-scales 1 world world' bearings W
+    solve-scales =
+        if ap not inputFinite-same then pure (refused-alike 1)
+        else solveOrdered-scales 1 world world' bearings W

@@ -1,4 +1,5 @@
--- The definitions that the contracts of this crate cite: what lambdatwist.rs computes from the depth candidates on, the retry, and the solve, line by line.
+-- The definitions that the contracts of this crate cite: what lambdatwist.rs computes from the
+-- depth candidates on, the retry, and the solve, line by line.
 pub mod Types
 pub mod Poses
 pub mod Permutation

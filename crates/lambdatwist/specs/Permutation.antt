@@ -1,4 +1,5 @@
--- The choice of `solve_best_conditioned_permutation` (lambdatwist.rs): of the five other orderings of the points, the one whose leading coefficient is the largest beside the others. A later one
+-- The choice of `solve_best_conditioned_permutation` (lambdatwist.rs): of the five other orderings
+-- of the points, the one whose leading coefficient is the largest beside the others. A later one
 -- replaces the best only if its condition is greater, so a NaN in the first stays.
 use mathlib.Core.List.{List, [], _∷_}
 use lib.Ieee.{lt}
@@ -7,8 +8,10 @@ use Rattle.frames.specs.Points.{points, rays}
 use Rattle.depths.specs.Condition.{leadingCubicCondition}
 use Rattle.lambdatwist.specs.Types.{Vector3, P3pInput, Conditioned}
 
--- permutation.map(|index| input.world[index]) and of the bearings, by the three points and the three bearings in their new order
-unfoldable pub withCondition : Vector3 → Vector3 → Vector3 → Vector3 → Vector3 → Vector3 → Traced Conditioned
+-- permutation.map(|index| input.world[index]) and of the bearings, by the three points and the
+-- three bearings in their new order
+unfoldable pub withCondition : Vector3 → Vector3 → Vector3 → Vector3 → Vector3 → Vector3
+    → Traced Conditioned
 withCondition p0 p1 p2 f0 f1 f2 =
     let world = points p0 p1 p2 in
     let bearings = rays f0 f1 f2 in

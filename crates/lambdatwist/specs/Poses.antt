@@ -1,5 +1,5 @@
--- From depth candidates to poses: the end of `solve_ordered` (lambdatwist.rs). Each candidate is refined, and where its depths are
--- positive a pose is made of it and goes to the gate.
+-- From depth candidates to poses: the end of `solve_ordered` (lambdatwist.rs). Each candidate is
+-- refined, and where its depths are positive a pose is made of it and goes to the gate.
 use mathlib.Core.Bool.{Bool, _&&_, not}
 use mathlib.Core.List.{List, [], _∷_}
 use lib.ListN.{take}
@@ -12,13 +12,17 @@ use Rattle.p3p_common.specs.RefineDepths.{refineDepths}
 use Rattle.p3p_common.specs.RotationFromEdges.{rotationFromEdges}
 use Rattle.p3p_common.specs.Slots.{empty}
 use Rattle.p3p_common.specs.PushPose.{pushPose}
-use Rattle.lambdatwist.specs.Types.{Vector3, Matrix3, P3pInput, Refined, Solutions, Measured, Candidates}
+use Rattle.lambdatwist.specs.Types.{Vector3, Matrix3, P3pInput, Refined, Solutions, Measured}
+use Rattle.lambdatwist.specs.Types.{Candidates}
 
 -- !depth.iter().any(|value| !value.is_finite() || *value <= 0.0)
 unfoldable pub allPositive : Vector3 → Bool
-allPositive d = allFinite d && (not (le (d .x) plusZero) && (not (le (d .y) plusZero) && not (le (d .z) plusZero)))
+allPositive d =
+    allFinite d
+    && (not (le (d .x) plusZero) && (not (le (d .y) plusZero) && not (le (d .z) plusZero)))
 
--- from `let camera0 = depth[0] * f0;` to the push, with the factors of these three products exchanged
+-- from `let camera0 = depth[0] * f0;` to the push, with the factors of these three products
+-- exchanged
 unfoldable pub pushDepths : P3pInput → Measured → Matrix3 → Solutions → Refined → Traced Solutions
 pushDepths input measured worldInverse output refined = do
   camera0 ← vecMul (measured .bearings .f0) (refined .depths .x)
@@ -36,10 +40,12 @@ pushDepths input measured worldInverse output refined = do
 unfoldable pub poseTurn : P3pInput → Measured → Matrix3 → Solutions → Vector3 → Traced Solutions
 poseTurn input measured worldInverse output depths = do
   refined ← refineDepths depths (measured .squares) (measured .cosines) 5
-  if not (allPositive (refined .depths)) then pure output else pushDepths input measured worldInverse output refined
+  if not (allPositive (refined .depths)) then pure output
+      else pushDepths input measured worldInverse output refined
 
 -- the turns for a list of candidates, in its order
-unfoldable pub poseTurns : P3pInput → Measured → Matrix3 → List Vector3 → Solutions → Traced Solutions
+unfoldable pub poseTurns : P3pInput → Measured → Matrix3 → List Vector3 → Solutions
+    → Traced Solutions
 poseTurns input measured worldInverse [] output = pure output
 poseTurns input measured worldInverse (depths ∷ rest) output = do
   next ← poseTurn input measured worldInverse output depths
@@ -47,4 +53,5 @@ poseTurns input measured worldInverse (depths ∷ rest) output = do
 
 -- for depth in depths.iter_mut().take(depth_count) { .. }
 unfoldable pub poses : P3pInput → Measured → Matrix3 → Candidates → Traced Solutions
-poses input measured worldInverse found = poseTurns input measured worldInverse (take (found .count) (found .depths)) empty
+poses input measured worldInverse found =
+    poseTurns input measured worldInverse (take (found .count) (found .depths)) empty

@@ -1,5 +1,7 @@
--- The solve of eighteen doubles: `solve_ordered`, `solve_best_conditioned_permutation` and `solve_solver_minimal` of lambdatwist.rs, with the refusals of document 01. An ordering is solved with an
--- allowance of retries; where it is unusable and one is left, the best conditioned of the other orderings is solved with one less.
+-- The solve of eighteen doubles: `solve_ordered`, `solve_best_conditioned_permutation` and
+-- `solve_solver_minimal` of lambdatwist.rs, with the refusals of document 01. An ordering is solved
+-- with an allowance of retries; where it is unusable and one is left, the best conditioned of the
+-- other orderings is solved with one less.
 use Prim.Native.Nat.{ℕ, zero, suc}
 use mathlib.Core.Bool.{not}
 use lib.Dec.{eqb}
@@ -19,11 +21,18 @@ use Rattle.depths.specs.Signs.{candidates}
 use Rattle.eigen.specs.KnownZero.{withSystem, eigWithKnownZero}
 use Rattle.lambdatwist.specs.Poses.{poses}
 use Rattle.lambdatwist.specs.Permutation.{bestPermutation}
-use Rattle.lambdatwist.specs.Types.{World, Bearings, P3pInput, Solutions, Measured, Coefficients, Candidates, Answer}
+use Rattle.lambdatwist.specs.Types.{World, Bearings, P3pInput, Solutions, Measured}
+use Rattle.lambdatwist.specs.Types.{Coefficients, Candidates, Answer}
 
--- ---- an answer: number 0 with the poses that were kept, or a refusal's number with count 0 and plus zeros
+-- ---- an answer: number 0 with the poses that were kept, or a refusal's number with count 0 and
+--      plus zeros
 unfoldable pub answered : ℕ → Solutions → Answer
-answered number solutions = record { refusal = number; count = solutions .count; poses = solutions .poses; updates = solutions .updates }
+answered number solutions = record {
+  refusal = number;
+  count = solutions .count;
+  poses = solutions .poses;
+  updates = solutions .updates;
+}
 
 unfoldable pub refused : ℕ → Answer
 refused number = answered number empty
@@ -66,7 +75,8 @@ solveCubic input measured c = do
   root ← polishedCubicRoot c2 c1 c0
   withRoot root stopped (solveRoot input measured)
 
--- the ordered solve of the points and bearings in some order, with what is done where that ordering is unusable
+-- the ordered solve of the points and bearings in some order, with what is done where that ordering
+-- is unusable
 unfoldable pub orderedOr : (P3pInput → Traced Answer) → P3pInput → World → Bearings → Traced Answer
 orderedOr retry input world bearings = do
   measured ← measure world bearings
@@ -81,9 +91,11 @@ unfoldable pub bestOr : (P3pInput → World → Bearings → Traced Answer) → 
 bestOr ordered input = do
   best ← bestPermutation input
   limit ← ! sixtyFour ⊗ ! epsilon
-  if le (best .condition) limit then pure (refused 2) else ordered input (best .world) (best .bearings)
+  if le (best .condition) limit then pure (refused 2)
+      else ordered input (best .world) (best .bearings)
 
--- with n retries left. The retry is written out as `bestOr`, since a definition may call itself only with a smaller number; by the next definition it is the retry of the Rust.
+-- with n retries left. The retry is written out as `bestOr`, since a definition may call itself
+-- only with a smaller number; by the next definition it is the retry of the Rust.
 unfoldable pub solveOrdered : ℕ → P3pInput → World → Bearings → Traced Answer
 solveOrdered zero input world bearings = orderedOr (λ input. pure (refused 2)) input world bearings
 solveOrdered (suc n) input world bearings = orderedOr (bestOr (solveOrdered n)) input world bearings

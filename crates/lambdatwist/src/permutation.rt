@@ -1,5 +1,5 @@
-// The choice of solve_best_conditioned_permutation (lambdatwist.rs): of the five other orderings of the points, the one whose
-// leading coefficient is the largest beside the others.
+// The choice of solve_best_conditioned_permutation (lambdatwist.rs): of the five other orderings of
+// the points, the one whose leading coefficient is the largest beside the others.
 ghost use mathlib.Core.Path.{_≡_};
 ghost use Rattle.lambdatwist.specs.Permutation.{withCondition, better, bestPermutation};
 use depths::condition::leading_cubic_condition;

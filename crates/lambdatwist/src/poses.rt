@@ -1,5 +1,5 @@
-// From depth candidates to poses: the end of solve_ordered (lambdatwist.rs). Each candidate is refined, and where its depths are
-// positive a pose is made of it and goes to the gate.
+// From depth candidates to poses: the end of solve_ordered (lambdatwist.rs). Each candidate is
+// refined, and where its depths are positive a pose is made of it and goes to the gate.
 ghost use mathlib.Core.Path.{_≡_};
 ghost use Rattle.lambdatwist.specs.Poses.{allPositive, pushDepths, poseTurn, poses};
 use depths::candidates::Candidates;
@@ -22,7 +22,8 @@ pub fn all_positive(d: Vector3) -> bool
     d.all_finite() & (!x & (!y & !z))
 }
 
-// The pose of three refined depths, appended where the gate lets it by. The gate tests it on the input as it was given.
+// The pose of three refined depths, appended where the gate lets it by. The gate tests it on the
+// input as it was given.
 pub fn push_depths(
     input: P3pInput,
     measured: Measured,

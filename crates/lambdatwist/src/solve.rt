@@ -1,5 +1,5 @@
-// The solve of eighteen doubles: solve_ordered, solve_best_conditioned_permutation and solve_solver_minimal of lambdatwist.rs,
-// with the refusals of document 01.
+// The solve of eighteen doubles: solve_ordered, solve_best_conditioned_permutation and
+// solve_solver_minimal of lambdatwist.rs, with the refusals of document 01.
 ghost use mathlib.Core.Path.{_≡_};
 ghost use Prim.Native.Nat.{_≤_};
 ghost use Rattle.lambdatwist.specs.Solve as Solve;
@@ -29,8 +29,8 @@ use p3p_common::world_basis_inverse::world_basis_inverse;
 use polynomial::Roots;
 use polynomial::cubic::polished_cubic_root;
 
-// `refusal` is 0 where there is a pose, and otherwise 1, 2 or 3, with count 0 and plus zeros in every slot. Slots beyond the
-// count hold plus zeros.
+// `refusal` is 0 where there is a pose, and otherwise 1, 2 or 3, with count 0 and plus zeros in
+// every slot. Slots beyond the count hold plus zeros.
 pub struct Answer {
     pub refusal: u32,
     pub count: u32,

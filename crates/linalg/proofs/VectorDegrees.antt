@@ -25,7 +25,8 @@ module _ {k : ℤ} where
   same-vector v = record { x = same (v .x); y = same (v .y); z = same (v .z) }
 
   pub vector-at-zero : {v v' : Vector3} → AtVector k (pos 0) v v' → v ≡ v'
-  vector-at-zero h = λ i. record { x = at-zero (h .x) i; y = at-zero (h .y) i; z = at-zero (h .z) i }
+  vector-at-zero h =
+      λ i. record { x = at-zero (h .x) i; y = at-zero (h .y) i; z = at-zero (h .z) i }
 
   -- the zero vector has every degree
   pub null-vector : {n : ℤ} → AtVector k n zeros zeros

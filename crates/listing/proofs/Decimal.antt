@@ -12,7 +12,8 @@ use borrow.Author.Tests.{lt-ltb, le-ltb}
 use Rattle.listing.specs.Digits.{glyph, spelt, decimal}
 
 tenth-lt : (k n : ℕ) → n < 10 ^ suc (suc k) → n / 10 < 10 ^ suc k
-tenth-lt k n h = div-lt-iff-lt-mul (zero-lt-suc 9) .1 (subst (λ (m : ℕ). n < m) (pow-suc 10 (suc k)) h)
+tenth-lt k n h =
+    div-lt-iff-lt-mul (zero-lt-suc 9) .1 (subst (λ (m : ℕ). n < m) (pow-suc 10 (suc k)) h)
 
 -- a place more than is needed changes nothing
 spelt-steady : (k n : ℕ) → n < 10 ^ suc k → spelt (suc k) n ≡ spelt k n

@@ -15,6 +15,7 @@ ascii (c ∷ₛ cs) = code c ∷ ascii cs
 
 -- After bytes have been stored one after another from a position on: the next position, and what
 -- the slice holds.
-pub record Stored (before : List ℕ) (at : ℕ) (bytes : List ℕ) (next : ℕ) (after : List ℕ) : Type 0 where
+pub record Stored (before : List ℕ) (at : ℕ) (bytes : List ℕ) (next : ℕ) (after : List ℕ)
+    : Type 0 where
   pub next-at : next ≡ at + length bytes
   pub holds : after ≡ sets before at bytes

@@ -21,7 +21,9 @@ wordsOf v = wordOf (v .x) ++ wordOf (v .y) ++ wordOf (v .z)
 
 -- the rotation by columns, the translation
 unfoldable pub poseWords : Pose → List ℕ
-poseWords p = wordsOf (column0 (p .rotation)) ++ wordsOf (column1 (p .rotation)) ++ wordsOf (column2 (p .rotation)) ++ wordsOf (p .translation)
+poseWords p =
+    wordsOf (column0 (p .rotation)) ++ wordsOf (column1 (p .rotation))
+    ++ wordsOf (column2 (p .rotation)) ++ wordsOf (p .translation)
 
 -- poses v1
 unfoldable pub headerLine : List ℕ
@@ -33,11 +35,14 @@ refusedLine n r = decimal n ++ ascii " refused " ++ decimal r ++ ascii "\n"
 
 -- N poses K best J
 unfoldable pub acceptedLine : ℕ → ℕ → ℕ → List ℕ
-acceptedLine n k j = decimal n ++ ascii " poses " ++ decimal k ++ ascii " best " ++ decimal j ++ ascii "\n"
+acceptedLine n k j =
+    decimal n ++ ascii " poses " ++ decimal k ++ ascii " best " ++ decimal j ++ ascii "\n"
 
 -- N.J updates U, and the twelve words
 unfoldable pub poseLine : ℕ → ℕ → ℕ → Pose → List ℕ
-poseLine n j u p = decimal n ++ ascii "." ++ decimal j ++ ascii " updates " ++ decimal u ++ poseWords p ++ ascii "\n"
+poseLine n j u p =
+    decimal n ++ ascii "." ++ decimal j ++ ascii " updates " ++ decimal u ++ poseWords p
+    ++ ascii "\n"
 
 -- stop R at N
 unfoldable pub stopLine : ℕ → ℕ → List ℕ
@@ -54,7 +59,10 @@ roomy room s at = leb room (length s - at)
 -- After a text has been put from a position on, which is done where there is room: the next
 -- position, and what the slice holds. Without room nothing is put. The room is a number of bytes
 -- that every such text fits in: 320 for a line.
-pub record Written (room : ℕ) (before : List ℕ) (at : ℕ) (text : List ℕ) (next : ℕ) (after : List ℕ) : Type 0 where
+pub record Written (room : ℕ) (before : List ℕ) (at : ℕ) (text : List ℕ) (next : ℕ) (after : List ℕ)
+    : Type 0 where
   pub next-at : next ≡ cond (roomy room before at) (at + length text) at
-  pub holds : after ≡ cond (roomy room before at) (take at before ++ text ++ drop (at + length text) before) before
+  pub holds : after
+      ≡ cond (roomy room before at) (take at before ++ text ++ drop (at + length text) before)
+      before
   pub fits : next ≤ at + room

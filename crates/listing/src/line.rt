@@ -31,7 +31,8 @@ pub fn put_header(out: &mut [u8], at: usize) -> usize
 
 // `N refused R`
 pub fn put_refused(out: &mut [u8], at: usize, number: u64, refusal: u32) -> usize
-    ensures { λ r. ⌜ Written 320 (now (out .entry)) at (refusedLine number refusal) r (now (out .exit)) ⌝ }
+    ensures { λ r.
+        ⌜ Written 320 (now (out .entry)) at (refusedLine number refusal) r (now (out .exit)) ⌝ }
 {
     if left(out.len(), at) < LINE {
         return at;
@@ -44,7 +45,8 @@ pub fn put_refused(out: &mut [u8], at: usize, number: u64, refusal: u32) -> usiz
 
 // `N poses K best J`
 pub fn put_accepted(out: &mut [u8], at: usize, number: u64, count: u32, best: u32) -> usize
-    ensures { λ r. ⌜ Written 320 (now (out .entry)) at (acceptedLine number count best) r (now (out .exit)) ⌝ }
+    ensures { λ r.
+        ⌜ Written 320 (now (out .entry)) at (acceptedLine number count best) r (now (out .exit)) ⌝ }
 {
     if left(out.len(), at) < LINE {
         return at;
@@ -66,7 +68,9 @@ pub fn put_pose(
     updates: u32,
     pose: Pose,
 ) -> usize
-    ensures { λ r. ⌜ Written 320 (now (out .entry)) at (poseLine number place updates pose) r (now (out .exit)) ⌝ }
+    ensures { λ r.
+        ⌜ Written 320 (now (out .entry)) at (poseLine number place updates pose) r
+        (now (out .exit)) ⌝ }
 {
     if left(out.len(), at) < LINE {
         return at;
@@ -82,7 +86,8 @@ pub fn put_pose(
 
 // `stop R at N`
 pub fn put_stop(out: &mut [u8], at: usize, refusal: u32, number: u64) -> usize
-    ensures { λ r. ⌜ Written 320 (now (out .entry)) at (stopLine refusal number) r (now (out .exit)) ⌝ }
+    ensures { λ r.
+        ⌜ Written 320 (now (out .entry)) at (stopLine refusal number) r (now (out .exit)) ⌝ }
 {
     if left(out.len(), at) < LINE {
         return at;

@@ -15,16 +15,19 @@ use Rattle.listing.specs.Lines.{refusedLine, acceptedLine, poseLine}
 -- the lines of the first k poses, in order
 unfoldable pub poseLines : ℕ → List Pose → List ℕ → ℕ → List ℕ
 poseLines n poses updates zero = []
-poseLines n poses updates (suc k) = poseLines n poses updates k ++ poseLine n (suc k) (getD updates k 0) (getD poses k zeroPose)
+poseLines n poses updates (suc k) =
+    poseLines n poses updates k ++ poseLine n (suc k) (getD updates k 0) (getD poses k zeroPose)
 
 -- the lines of an answer of the solver, which has at most four poses
 unfoldable pub answerLines : ℕ → Answer → Vector3 → Vector3 → List ℕ
 answerLines n answer target bearing =
     if eqb (answer .refusal) 0 then
-    acceptedLine n (answer .count) (place (choose (answer .poses) (answer .count) target bearing .value))
+    acceptedLine n (answer .count)
+    (place (choose (answer .poses) (answer .count) target bearing .value))
     ++ poseLines n (answer .poses) (answer .updates) (min (answer .count) 4)
     else refusedLine n (answer .refusal)
 
 -- the lines of a frame
 unfoldable pub frameLines : ℕ → Frame → List ℕ
-frameLines n frame = answerLines n (solve (frame .world) (frame .bearings) .value) (frame .target) (frame .bearing)
+frameLines n frame =
+    answerLines n (solve (frame .world) (frame .bearings) .value) (frame .target) (frame .bearing)

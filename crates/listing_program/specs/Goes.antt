@@ -9,7 +9,8 @@ use lib.ListN.{length, take}
 use Rattle.records.specs.Record.{recordAt}
 use Rattle.listing.specs.Lines.{roomy, Written}
 use Rattle.listing_program.specs.RecordLines.{turnLines, courseOf}
-use Rattle.listing_program.specs.Types.{Course, Write, Read, Next, Closed, State, Turn, More, Over, Filling, Filled, End, Failed}
+use Rattle.listing_program.specs.Types.{Course, Write, Read, Next, Closed, State, Turn, More}
+use Rattle.listing_program.specs.Types.{Over, Filling, Filled, End, Failed}
 
 -- one record more is listed, its lines end where `put` says, and the next begins at a position of
 -- the same buffer
@@ -41,7 +42,11 @@ Fills size filled Failed = Unit {0}
 -- a buffer that is all listed is begun again; elsewhere bytes are added, or the input has ended
 pub record Fetched (size filled next count : ℕ) (after : State) : Type 0 where
   pub again : size ≤ next → (after .filled ≡ 0) × (after .next ≡ 0) × (after .ended ≡ false)
-  pub on : next < size → (after .next ≡ next) × (filled ≤ after .filled) × (after .filled ≤ size) × (after .ended ≡ true → after .filled ≡ filled)
+  pub on : next < size
+      → (after .next ≡ next)
+      × (filled ≤ after .filled)
+      × (after .filled ≤ size)
+      × (after .ended ≡ true → after .filled ≡ filled)
   pub at : after .at ≡ 0
   pub listed : after .listed ≡ count
 
@@ -65,4 +70,5 @@ abbrev pub Steps : (input out out' : List ℕ) → State → Turn → Type 0
 Steps input out out' state turn =
     let found = recordAt (take (min (state .filled) (length input)) input) (state .next) in
     let lines = turnLines (state .ended) (state .listed) ((state .listed + 1) % 2 ^ 64) found in
-    Goes (length input) (courseOf (roomy 1600 out (state .at)) (state .ended) found) state (λ (at : ℕ). Written 1600 out (state .at) lines at out') turn
+    Goes (length input) (courseOf (roomy 1600 out (state .at)) (state .ended) found) state
+    (λ (at : ℕ). Written 1600 out (state .at) lines at out') turn

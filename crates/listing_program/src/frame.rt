@@ -42,7 +42,9 @@ fn put_poses(
     updates: [u32; 4],
 ) -> usize
     requires { ⌜ at + 1280 ≤ length (now out) ⌝ }
-    ensures { λ r. ⌜ Stored (now (out .entry)) at (poseLines number poses updates (min count 4)) r (now (out .exit)) ⌝ }
+    ensures { λ r.
+        ⌜ Stored (now (out .entry)) at (poseLines number poses updates (min count 4)) r
+        (now (out .exit)) ⌝ }
     ensures { λ r. ⌜ r ≤ at + 1280 ⌝ }
 {
     let n = at_most_four(count);
@@ -67,7 +69,9 @@ fn put_answer(
     bearing: Vector3,
 ) -> usize
     requires { ⌜ at + 1600 ≤ length (now out) ⌝ }
-    ensures { λ r. ⌜ Stored (now (out .entry)) at (answerLines number answer target bearing) r (now (out .exit)) ⌝ }
+    ensures { λ r.
+        ⌜ Stored (now (out .entry)) at (answerLines number answer target bearing) r
+        (now (out .exit)) ⌝ }
     ensures { λ r. ⌜ r ≤ at + 1600 ⌝ }
 {
     let refusal = answer.refusal;
@@ -85,7 +89,8 @@ fn put_answer(
 // Puts the lines of a frame: its solve, and the answer. Where fewer than 1,600 bytes are left,
 // which every frame's lines fit in, it puts nothing and returns `at`.
 pub fn put_frame(out: &mut [u8], at: usize, number: u64, frame: Frame) -> usize
-    ensures { λ r. ⌜ Written 1600 (now (out .entry)) at (frameLines number frame) r (now (out .exit)) ⌝ }
+    ensures { λ r.
+        ⌜ Written 1600 (now (out .entry)) at (frameLines number frame) r (now (out .exit)) ⌝ }
 {
     if left(out.len(), at) < FRAME {
         return at;

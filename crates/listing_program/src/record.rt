@@ -49,7 +49,9 @@ fn put_found(
     found: Record,
 ) -> Listed
     requires { ⌜ at + 1600 ≤ length (now out) ⌝ }
-    ensures { λ r. ⌜ Stored (now (out .entry)) at (turnLines ended listed number found) (r .0) (now (out .exit)) ⌝ }
+    ensures { λ r.
+        ⌜ Stored (now (out .entry)) at (turnLines ended listed number found) (r .0)
+        (now (out .exit)) ⌝ }
     ensures { λ r. ⌜ r .0 ≤ at + 1600 ⌝ }
     ensures { λ r. ⌜ r .1 ≡ turnCourse ended found ⌝ }
 {
@@ -86,8 +88,14 @@ pub fn put_record(
     listed: u64,
     number: u64,
 ) -> Listed
-    ensures { λ r. ⌜ Written 1600 (now (out .entry)) at (turnLines ended listed number (recordAt (now (input .entry)) start)) (r .0) (now (out .exit)) ⌝ }
-    ensures { λ r. ⌜ r .1 ≡ courseOf (roomy 1600 (now (out .entry)) at) ended (recordAt (now (input .entry)) start) ⌝ }
+    ensures { λ r.
+        ⌜ Written 1600 (now (out .entry)) at
+        (turnLines ended listed number (recordAt (now (input .entry)) start)) (r .0)
+        (now (out .exit)) ⌝ }
+    ensures { λ r.
+        ⌜ r .1
+        ≡ courseOf (roomy 1600 (now (out .entry)) at) ended
+        (recordAt (now (input .entry)) start) ⌝ }
 {
     if left(out.len(), at) < FRAME {
         return Listed(at, Course::Write);

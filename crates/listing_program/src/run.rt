@@ -87,7 +87,8 @@ fn read_on(fd: i32, input: &mut [u8], filled: usize, next: usize, listed: u64) -
 // One turn: what stands next in the input is listed, and the run goes on as that asks for.
 fn step(fd: i32, input: &mut [u8], out: &mut [u8], state: State) -> Turn
     ensures { λ r. ⌜ Steps (now (input .entry)) (now (out .entry)) (now (out .exit)) state r ⌝ }
-    ensures { λ r. ⌜ take (state .filled) (now (input .exit)) ≡ take (state .filled) (now (input .entry)) ⌝ }
+    ensures { λ r.
+        ⌜ take (state .filled) (now (input .exit)) ≡ take (state .filled) (now (input .entry)) ⌝ }
 {
     let filled = state.filled;
     let ended = state.ended;

@@ -11,11 +11,15 @@ use Rattle.frames.specs.Lent.{vectorAt}
 
 -- the slot that begins at a place: the rotation by columns, and the translation
 unfoldable pub poseAt : List Float → ℕ → Pose
-poseAt xs at = record { rotation = fromColumns (vectorAt xs at) (vectorAt xs (at + 3)) (vectorAt xs (at + 6)); translation = vectorAt xs (at + 9) }
+poseAt xs at = record {
+  rotation = fromColumns (vectorAt xs at) (vectorAt xs (at + 3)) (vectorAt xs (at + 6));
+  translation = vectorAt xs (at + 9);
+}
 
 unfoldable pub chosen : List Float → ℕ → List Float → List Float → Choice
 chosen poses count target bearing =
-    choose (poseAt poses 0 ∷ poseAt poses 12 ∷ poseAt poses 24 ∷ poseAt poses 36 ∷ []) count (vectorAt target 0) (vectorAt bearing 0) .value
+    choose (poseAt poses 0 ∷ poseAt poses 12 ∷ poseAt poses 24 ∷ poseAt poses 36 ∷ []) count
+    (vectorAt target 0) (vectorAt bearing 0) .value
 
 abbrev pub bestAfter : Choice → ℕ → ℕ
 bestAfter (Best place value) held = place

@@ -34,8 +34,14 @@ pub extern "C" fn p3p_choose(
     bearing: &[f64; 3],
     best: &mut u32,
 ) -> u32
-    ensures { λ r. ⌜ r ≡ number (chosen (now (poses .entry)) count (now (target .entry)) (now (bearing .entry))) ⌝ }
-    ensures { λ _. ⌜ now (best .exit) ≡ bestAfter (chosen (now (poses .entry)) count (now (target .entry)) (now (bearing .entry))) (now (best .entry)) ⌝ }
+    ensures { λ r.
+        ⌜ r
+        ≡ number
+        (chosen (now (poses .entry)) count (now (target .entry)) (now (bearing .entry))) ⌝ }
+    ensures { λ _.
+        ⌜ now (best .exit)
+        ≡ bestAfter (chosen (now (poses .entry)) count (now (target .entry)) (now (bearing .entry)))
+        (now (best .entry)) ⌝ }
 {
     let p0 = pose_at(poses, 0);
     let p1 = pose_at(poses, 12);

@@ -11,8 +11,10 @@ use polynomial::Roots;
 #[no_mangle]
 pub extern "C" fn p3p_quadratic(b: f64, c: f64, first: &mut f64, second: &mut f64) -> u32
     ensures { λ r. ⌜ r ≡ number (quadraticRealMonic b c .value) ⌝ }
-    ensures { λ _. ⌜ now (first .exit) ≡ firstAfter (quadraticRealMonic b c .value) (now (first .entry)) ⌝ }
-    ensures { λ _. ⌜ now (second .exit) ≡ secondAfter (quadraticRealMonic b c .value) (now (second .entry)) ⌝ }
+    ensures { λ _.
+        ⌜ now (first .exit) ≡ firstAfter (quadraticRealMonic b c .value) (now (first .entry)) ⌝ }
+    ensures { λ _.
+        ⌜ now (second .exit) ≡ secondAfter (quadraticRealMonic b c .value) (now (second .entry)) ⌝ }
 {
     let roots = polynomial::quadratic::quadratic_real_monic(b, c);
     match roots {
@@ -33,7 +35,8 @@ pub extern "C" fn p3p_quadratic(b: f64, c: f64, first: &mut f64, second: &mut f6
 #[no_mangle]
 pub extern "C" fn p3p_cubic(b: f64, c: f64, d: f64, root: &mut f64) -> u32
     ensures { λ r. ⌜ r ≡ number (polishedCubicRoot b c d .value) ⌝ }
-    ensures { λ _. ⌜ now (root .exit) ≡ firstAfter (polishedCubicRoot b c d .value) (now (root .entry)) ⌝ }
+    ensures { λ _.
+        ⌜ now (root .exit) ≡ firstAfter (polishedCubicRoot b c d .value) (now (root .entry)) ⌝ }
 {
     let roots = polynomial::cubic::polished_cubic_root(b, c, d);
     match roots {

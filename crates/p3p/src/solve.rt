@@ -80,9 +80,13 @@ pub extern "C" fn p3p_solve(
     count: &mut u32,
 ) -> u32
     ensures { λ r. ⌜ r ≡ solved (now (input .entry)) .refusal ⌝ }
-    ensures { λ _. ⌜ now (poses .exit) ≡ posesAfter (solved (now (input .entry))) (now (poses .entry)) ⌝ }
-    ensures { λ _. ⌜ now (updates .exit) ≡ updatesAfter (solved (now (input .entry))) (now (updates .entry)) ⌝ }
-    ensures { λ _. ⌜ now (count .exit) ≡ countAfter (solved (now (input .entry))) (now (count .entry)) ⌝ }
+    ensures { λ _.
+        ⌜ now (poses .exit) ≡ posesAfter (solved (now (input .entry))) (now (poses .entry)) ⌝ }
+    ensures { λ _.
+        ⌜ now (updates .exit)
+        ≡ updatesAfter (solved (now (input .entry))) (now (updates .entry)) ⌝ }
+    ensures { λ _.
+        ⌜ now (count .exit) ≡ countAfter (solved (now (input .entry))) (now (count .entry)) ⌝ }
 {
     let answer = lambdatwist::solve::solve(world_at(input, 0), bearings_at(input, 9));
     let refusal = answer.refusal;

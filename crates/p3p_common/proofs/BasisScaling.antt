@@ -7,7 +7,8 @@ use lib.Ieee.{Float}
 use Rattle.ieee754.specs.Literal.{one, sixtyFour, epsilon}
 use Rattle.ieee754.specs.Traced.{Traced}
 use Rattle.ieee754.specs.Scaling.{Both, At}
-use Rattle.ieee754_laws.proofs.Degrees.{same, !_, _⊗_, _⊘_, pure, if_then_else_, _>>=_, both-map, max-at}
+use Rattle.ieee754_laws.proofs.Degrees.{same, !_, _⊗_, _⊘_, pure, if_then_else_, _>>=_, both-map}
+use Rattle.ieee754_laws.proofs.Degrees.{max-at}
 use Rattle.ieee754_laws.proofs.Degrees.{le-same, finite-same}
 use Rattle.p3p_common.specs.Types.{Vector3, Matrix3, Basis}
 use Rattle.linalg.specs.VectorScaling.{AtVector, AtRows}
@@ -19,7 +20,8 @@ use Rattle.p3p_common.specs.RotationFromEdges.{rotationFromEdges}
 use Rattle.p3p_common.specs.PoseScaling.{AtBasis, inverse-at, singular-at}
 
 -- what follows a basis, from bases at their degrees, in any relation of the two runs
-module _ {A : Type 0} {R : A → A → Type 0} {k : ℤ} {none none' : Traced A} {f f' : Matrix3 → Traced A} where
+module _ {A : Type 0} {R : A → A → Type 0} {k : ℤ} {none none' : Traced A}
+    {f f' : Matrix3 → Traced A} where
   pub withInverse-scales : {b b' : Basis}
       → AtBasis k b b'
       → Both R none none'
@@ -40,11 +42,13 @@ module _ {k : ℤ} where
       ! same sixtyFour ⊗ ! same epsilon ⊗ ! scale ⊗ ! scale >>= λ _ _ limit.
       pure (le-same determinant limit))
 
-  module _ {first first' second second' : Vector3} (first-at : AtVector k (pos 1) first first') (second-at : AtVector k (pos 1) second second') where
+  module _ {first first' second second' : Vector3} (first-at : AtVector k (pos 1) first first')
+      (second-at : AtVector k (pos 1) second second') where
     dualBasis-scales : {normal normal' : Vector3} {determinant determinant' : Float}
         → AtVector k (pos 2) normal normal'
         → At k (pos 4) determinant determinant'
-        → Both (AtRows k (negsuc 0) (negsuc 0) (negsuc 1)) (dualBasis first second normal determinant) (dualBasis first' second' normal' determinant')
+        → Both (AtRows k (negsuc 0) (negsuc 0) (negsuc 1))
+        (dualBasis first second normal determinant) (dualBasis first' second' normal' determinant')
     unfolding dualBasis
     dualBasis-scales normal determinant =
         ! same one ⊘ ! determinant >>= λ _ _ inverseDeterminant.
@@ -55,7 +59,8 @@ module _ {k : ℤ} where
         vecMul-scales normal inverseDeterminant >>= λ _ _ dualNormal.
         pure (fromRows-at dualFirst dualSecond dualNormal)
 
-    pub worldBasisInverse-scales : Both (AtBasis k) (worldBasisInverse first second) (worldBasisInverse first' second')
+    pub worldBasisInverse-scales :
+        Both (AtBasis k) (worldBasisInverse first second) (worldBasisInverse first' second')
     unfolding worldBasisInverse
     worldBasisInverse-scales =
         cross-scales first-at second-at >>= λ _ _ normal.
@@ -70,8 +75,11 @@ module _ {k : ℤ} where
 
     pub rotationFromEdges-same : {m m' : Matrix3}
         → AtRows k (negsuc 0) (negsuc 0) (negsuc 1) m m'
-        → Both {A = Matrix3} _≡_ (rotationFromEdges first second m) (rotationFromEdges first' second' m')
+        → Both {A = Matrix3} _≡_
+        (rotationFromEdges first second m)
+        (rotationFromEdges first' second' m')
     unfolding rotationFromEdges
     rotationFromEdges-same inverse =
         cross-scales first-at second-at >>= λ _ _ normal.
-        both-map (λ _ _ rotation. matrix-at-zero rotation) (matMul-scales refl refl refl (fromColumns-at first-at second-at normal) inverse)
+        both-map (λ _ _ rotation. matrix-at-zero rotation)
+        (matMul-scales refl refl refl (fromColumns-at first-at second-at normal) inverse)

@@ -8,7 +8,8 @@ use Rattle.ieee754.proofs.Tests.{either-way}
 use Rattle.linalg.specs.Vectors.{allFinite, vecSub}
 use Rattle.linalg.specs.Matrices.{matVec, matFinite}
 use Rattle.linalg.proofs.Finite.{rotation-finite}
-use Rattle.p3p_common.specs.Types.{Vector3, Matrix3, Pose, P3pInput, Projection, Rotation, Refused, Gated, Passed, Projected, Dropped}
+use Rattle.p3p_common.specs.Types.{Vector3, Matrix3, Pose, P3pInput, Projection, Rotation}
+use Rattle.p3p_common.specs.Types.{Refused, Gated, Passed, Projected, Dropped}
 use Rattle.p3p_common.specs.NearOrthonormal.{hasNearOrthonormalColumns}
 use Rattle.p3p_common.specs.ProjectToRotation.{withRotation, projectToRotation}
 use Rattle.frames.specs.Poses.{cameraPoint}
@@ -40,8 +41,12 @@ keepPoint0-finite : (input : P3pInput) (raw : Matrix3) (t : Vector3) (r : Matrix
     → FiniteGated (keepPoint0 input raw t r .value)
 unfolding keepPoint0
 keepPoint0-finite input raw t r =
-    let camera0 = cameraPoint (record { rotation = raw; translation = t }) (input .world .p0) .value in
-    let pose : Pose = record { rotation = r; translation = vecSub camera0 (matVec r (input .world .p0) .value) .value } in
+    let camera0 =
+    cameraPoint (record { rotation = raw; translation = t }) (input .world .p0) .value in
+    let pose : Pose = record {
+      rotation = r;
+      translation = vecSub camera0 (matVec r (input .world .p0) .value) .value;
+    } in
     either-way FiniteGated (not (projectedPoseFitsMinimalSample input pose .value)) (λ _. tt)
     (λ _. ifValid-finite Projected (λ p h. h) pose (rotation-finite camera0 r (input .world .p0)))
 

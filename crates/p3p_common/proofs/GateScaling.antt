@@ -9,7 +9,8 @@ use Rattle.ieee754_laws.proofs.Degrees.{pure, if_then_else_, _>>=_, _>>≡_, ch
 use Rattle.linalg.specs.VectorScaling.{AtVector}
 use Rattle.linalg.proofs.VectorDegrees.{vecSub-scales, allFinite-same}
 use Rattle.linalg.proofs.MatrixDegrees.{same-matrix, columns-at, matVec-scales}
-use Rattle.p3p_common.specs.Types.{Vector3, Matrix3, Pose, P3pInput, Projection, Rotation, Refused, Gated, Passed, Projected}
+use Rattle.p3p_common.specs.Types.{Vector3, Matrix3, Pose, P3pInput, Projection, Rotation}
+use Rattle.p3p_common.specs.Types.{Refused, Gated, Passed, Projected}
 use Rattle.p3p_common.specs.NearOrthonormal.{hasNearOrthonormalColumns}
 use Rattle.p3p_common.specs.ProjectToRotation.{withRotation, projectToRotation}
 use Rattle.p3p_common.specs.Gate.{ifValid, keepPoint0, projectedGate, gate}
@@ -36,27 +37,32 @@ module _ {k : ℤ} where
       → AtGated k (ifValid gated p) (ifValid gated p')
   unfolding ifValid
   ifValid-scales gated gated-at {p} {p'} pose =
-      choose (AtGated k) (ap not (allFinite-same (pose .translation))) dropped-at (gated-at p p' pose)
+      choose (AtGated k) (ap not (allFinite-same (pose .translation))) dropped-at
+      (gated-at p p' pose)
 
   -- two poses with one rotation
   turned-alike : (rotation : Matrix3) {t t' : Vector3}
       → AtVector k (pos 1) t t'
-      → AtPose k (record { rotation = rotation; translation = t }) (record { rotation = rotation; translation = t' })
+      → AtPose k (record { rotation = rotation; translation = t })
+      (record { rotation = rotation; translation = t' })
   turned-alike rotation t = record { rotation = refl; translation = t }
 
-  module _ {input input' : P3pInput} (raw : Matrix3) {t t' : Vector3} (input-at : AtInput k input input') (t-at : AtVector k (pos 1) t t') where
+  module _ {input input' : P3pInput} (raw : Matrix3) {t t' : Vector3}
+      (input-at : AtInput k input input') (t-at : AtVector k (pos 1) t t') where
     keepPoint0-scales : (rotation : Matrix3)
         → Both (AtGated k) (keepPoint0 input raw t rotation) (keepPoint0 input' raw t' rotation)
     unfolding keepPoint0
     keepPoint0-scales rotation =
         cameraPoint-scales (turned-alike raw t-at) (input-at .world .p0) >>= λ _ _ camera0.
-        matVec-scales refl refl refl (columns-at (same-matrix rotation)) (input-at .world .p0) >>= λ _ _ turned.
+        matVec-scales refl refl refl (columns-at (same-matrix rotation)) (input-at .world .p0) >>=
+        λ _ _ turned.
         vecSub-scales camera0 turned >>= λ _ _ kept.
         projectedPose-same (turned-alike rotation kept) input-at >>= λ _ _ fits.
         pure (choose (AtGated k) (ap not fits) dropped-at
         (ifValid-scales Projected (λ _ _ p. projected-at p) (turned-alike rotation kept)))
 
-    projectedGate-scales : Both (AtGated k) (projectedGate input raw t) (projectedGate input' raw t')
+    projectedGate-scales :
+        Both (AtGated k) (projectedGate input raw t) (projectedGate input' raw t')
     unfolding projectedGate
     projectedGate-scales =
         alike {m = projectToRotation raw} >>≡ λ projection.

@@ -30,14 +30,17 @@ module _ {k : ℤ} where
       if ap₂ _&&_ (finite-same rayDepth) (lt-same null rayDepth) then (
       cross-scales camera (same-vector bearing) >>= λ _ _ normal.
       normSquared-scales normal >>= λ _ _ offRay.
-      ! same projectedRayTolerance ⊗ ! same projectedRayTolerance ⊗ ! rayDepth ⊗ ! rayDepth >>= λ _ _ limit.
+      ! same projectedRayTolerance ⊗ ! same projectedRayTolerance ⊗ ! rayDepth ⊗ ! rayDepth >>=
+      λ _ _ limit.
       pure (le-same offRay limit))
       else pure no
 
   module _ {pose pose' : Pose} (pose-at : AtPose k pose pose') where
     observationFits-same : {world world' : Vector3} (bearing : Vector3)
         → AtVector k (pos 1) world world'
-        → Both {A = Bool} _≡_ (observationFits pose world bearing) (observationFits pose' world' bearing)
+        → Both {A = Bool} _≡_
+        (observationFits pose world bearing)
+        (observationFits pose' world' bearing)
     unfolding observationFits
     observationFits-same bearing world =
         cameraPoint-scales pose-at world >>= λ _ _ camera.
@@ -45,7 +48,9 @@ module _ {k : ℤ} where
 
     pub projectedPose-same : {input input' : P3pInput}
         → AtInput k input input'
-        → Both {A = Bool} _≡_ (projectedPoseFitsMinimalSample input pose) (projectedPoseFitsMinimalSample input' pose')
+        → Both {A = Bool} _≡_
+        (projectedPoseFitsMinimalSample input pose)
+        (projectedPoseFitsMinimalSample input' pose')
     unfolding projectedPoseFitsMinimalSample
     projectedPose-same {input} {input'} h =
         let f = input .bearings in

@@ -25,7 +25,8 @@ pub data AtStep (k : ℤ) : Step → Step → Type 0 where
   stop-at : AtStep k Stop Stop
 
 -- what follows a turn, in any relation of the two runs
-module _ {A : Type 0} {R : A → A → Type 0} {k : ℤ} {none none' : Traced A} {f f' : Vector3 → Traced A} where
+module _ {A : Type 0} {R : A → A → Type 0} {k : ℤ} {none none' : Traced A}
+    {f f' : Vector3 → Traced A} where
   pub afterStep-scales : {s s' : Step}
       → AtStep k s s'
       → Both R none none'
@@ -38,7 +39,9 @@ module _ {k : ℤ} (cosines : Cosines) where
   depthResidual-scales : {depths depths' : Vector3} {edges edges' : SquaredEdges}
       → AtVector k (pos 1) depths depths'
       → AtEdges k edges edges'
-      → Both (AtVector k (pos 2)) (depthResidual depths edges cosines) (depthResidual depths' edges' cosines)
+      → Both (AtVector k (pos 2))
+      (depthResidual depths edges cosines)
+      (depthResidual depths' edges' cosines)
   unfolding depthResidual
   depthResidual-scales depths edges =
       let d0 = depths .x in
@@ -59,7 +62,9 @@ module _ {k : ℤ} (cosines : Cosines) where
   depthUpdate-scales : {depths depths' residual residual' : Vector3}
       → AtVector k (pos 1) depths depths'
       → AtVector k (pos 2) residual residual'
-      → Both (AtStep k) (depthUpdate depths cosines residual) (depthUpdate depths' cosines residual')
+      → Both (AtStep k)
+      (depthUpdate depths cosines residual)
+      (depthUpdate depths' cosines residual')
   unfolding depthUpdate
   depthUpdate-scales depths residual =
       let d0 = depths .x in
@@ -81,16 +86,22 @@ module _ {k : ℤ} (cosines : Cosines) where
       if ap₂ _||_ (ap not (finite-same denominator)) (eq-same denominator null) then pure stop-at
       else (
       ! same half ⊘ ! denominator >>= λ _ _ inverse.
-      ! d0 ⊕ (⊝ ! x23 ⊗ ! x32 ⊗ ! r0 ⊖ ! x12 ⊗ ! x33 ⊗ ! r1 ⊕ ! x12 ⊗ ! x23 ⊗ ! r2) ⊗ ! inverse >>= λ _ _ c0.
-      ! d1 ⊕ (⊝ ! x21 ⊗ ! x33 ⊗ ! r0 ⊕ ! x11 ⊗ ! x33 ⊗ ! r1 ⊖ ! x11 ⊗ ! x23 ⊗ ! r2) ⊗ ! inverse >>= λ _ _ c1.
-      ! d2 ⊕ (! x21 ⊗ ! x32 ⊗ ! r0 ⊖ ! x11 ⊗ ! x32 ⊗ ! r1 ⊖ ! x12 ⊗ ! x21 ⊗ ! r2) ⊗ ! inverse >>= λ _ _ c2.
+      ! d0 ⊕ (⊝ ! x23 ⊗ ! x32 ⊗ ! r0 ⊖ ! x12 ⊗ ! x33 ⊗ ! r1 ⊕ ! x12 ⊗ ! x23 ⊗ ! r2) ⊗ ! inverse >>=
+      λ _ _ c0.
+      ! d1 ⊕ (⊝ ! x21 ⊗ ! x33 ⊗ ! r0 ⊕ ! x11 ⊗ ! x33 ⊗ ! r1 ⊖ ! x11 ⊗ ! x23 ⊗ ! r2) ⊗ ! inverse >>=
+      λ _ _ c1.
+      ! d2 ⊕ (! x21 ⊗ ! x32 ⊗ ! r0 ⊖ ! x11 ⊗ ! x32 ⊗ ! r1 ⊖ ! x12 ⊗ ! x21 ⊗ ! r2) ⊗ ! inverse >>=
+      λ _ _ c2.
       pure (ifFinite-scales (record { x = c0; y = c1; z = c2 })))
 
   -- ---- the loop
-  module _ {edges edges' : SquaredEdges} {tolerance tolerance' : Float} (edges-at : AtEdges k edges edges') (tolerance-at : At k (pos 2) tolerance tolerance') where
+  module _ {edges edges' : SquaredEdges} {tolerance tolerance' : Float}
+      (edges-at : AtEdges k edges edges') (tolerance-at : At k (pos 2) tolerance tolerance') where
     depthStep-scales : {depths depths' : Vector3}
         → AtVector k (pos 1) depths depths'
-        → Both (AtStep k) (depthStep depths edges cosines tolerance) (depthStep depths' edges' cosines tolerance')
+        → Both (AtStep k)
+        (depthStep depths edges cosines tolerance)
+        (depthStep depths' edges' cosines tolerance')
     unfolding depthStep
     depthStep-scales depths =
         depthResidual-scales depths edges-at >>= λ _ _ residual.
@@ -100,19 +111,26 @@ module _ {k : ℤ} (cosines : Cosines) where
 
     refineTurns-scales : (n u : ℕ) {depths depths' : Vector3}
         → AtVector k (pos 1) depths depths'
-        → Both (AtRefined k) (refineTurns n depths edges cosines tolerance u) (refineTurns n depths' edges' cosines tolerance' u)
+        → Both (AtRefined k)
+        (refineTurns n depths edges cosines tolerance u)
+        (refineTurns n depths' edges' cosines tolerance' u)
     unfolding refineTurns
     refineTurns-scales zero u depths = pure (record { depths = depths; updates = refl })
     refineTurns-scales (suc n) u {depths} {depths'} h =
-        let now : AtRefined k (record { depths = depths; updates = u }) (record { depths = depths'; updates = u }) =
+        let now :
+        AtRefined k (record { depths = depths; updates = u })
+        (record { depths = depths'; updates = u }) =
         record { depths = h; updates = refl } in
         depthStep-scales h >>= λ _ _ step.
         afterStep-scales step (pure now) (λ _ _ next. refineTurns-scales n (u + 1) next)
 
-  pub refineDepths-scales : {depths depths' : Vector3} {edges edges' : SquaredEdges} (iterations : ℕ)
+  pub refineDepths-scales : {depths depths' : Vector3} {edges edges' : SquaredEdges}
+      (iterations : ℕ)
       → AtVector k (pos 1) depths depths'
       → AtEdges k edges edges'
-      → Both (AtRefined k) (refineDepths depths edges cosines iterations) (refineDepths depths' edges' cosines iterations)
+      → Both (AtRefined k)
+      (refineDepths depths edges cosines iterations)
+      (refineDepths depths' edges' cosines iterations)
   unfolding refineDepths
   refineDepths-scales iterations depths edges =
       ! same ten⁻¹⁰ ⊗ ! max-at (max-at (edges .a01) (edges .a02)) (edges .a12) >>= λ _ _ tolerance.

@@ -17,7 +17,9 @@ use Rattle.ieee754_laws.proofs.Entries.{replicate-entry}
 use Rattle.linalg.specs.Vectors.{allFinite}
 use Rattle.linalg.specs.Matrices.{matFinite}
 use Rattle.frames.specs.Poses.{zeroPose}
-use Rattle.p3p_common.specs.Types.{Vector3, Matrix3, Pose, SquaredEdges, Cosines, P3pInput, Gated, Passed, Projected, Dropped, Solutions, Step, Next, Stop, Refined}
+use Rattle.p3p_common.specs.Types.{Vector3, Matrix3, Pose, SquaredEdges, Cosines, P3pInput}
+use Rattle.p3p_common.specs.Types.{Gated, Passed, Projected, Dropped, Solutions, Step, Next}
+use Rattle.p3p_common.specs.Types.{Stop, Refined}
 use Rattle.p3p_common.specs.RefineDepths.{depthStep, afterStep, refineTurns, refineDepths}
 use Rattle.p3p_common.specs.Gate.{gate}
 use Rattle.p3p_common.specs.Slots.{empty, push}
@@ -35,7 +37,8 @@ module _ {A : Type 0} where
   }
 
   -- the next slot is filled
-  module _ (Holds : A → Type 0) (d : A) (n : ℕ) (l : List A) (a : A) (room : n < 4) (s : Filled Holds d n l) where
+  module _ (Holds : A → Type 0) (d : A) (n : ℕ) (l : List A) (a : A) (room : n < 4)
+      (s : Filled Holds d n l) where
     held-at : Holds a → (i : ℕ) → (i ≡ n) ⊎ (i < n) → Holds (getD (set l n a) i d)
     held-at h i (inl e) =
         let within = subst⁻¹ (λ (k : ℕ). n < k) (s .four) room in
@@ -107,7 +110,8 @@ module _ (edges : SquaredEdges) (cosines : Cosines) where
 
       go : (step : Step)
           → ((v : Vector3) → rest-from v .value .updates ≤ u + 1 + n)
-          → afterStep step (pure (record { depths = d; updates = u })) rest-from .value .updates ≤ u + suc n
+          → afterStep step (pure (record { depths = d; updates = u })) rest-from .value .updates
+          ≤ u + suc n
       go Stop rest = omega arith
       go (Next v) rest = let r = rest v in omega arith
 

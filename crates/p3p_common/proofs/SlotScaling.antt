@@ -54,7 +54,8 @@ module _ {k : ℤ} where
   pushGated-scales u s (projected-at p) = push-scales u s p
   pushGated-scales u s dropped-at = s
 
-  pub pushPose-scales : {input input' : P3pInput} {s s' : Solutions} (raw : Matrix3) {t t' : Vector3} (u : ℕ)
+  pub pushPose-scales : {input input' : P3pInput} {s s' : Solutions} (raw : Matrix3)
+      {t t' : Vector3} (u : ℕ)
       → AtInput k input input'
       → AtSolutions k s s'
       → AtVector k (pos 1) t t'

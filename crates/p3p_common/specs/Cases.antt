@@ -34,10 +34,13 @@ refinedTo r w n =
 unfoldable pub poseCaseHolds : PoseCase → Bool
 poseCaseHolds (refinement depth edge cosine iterations after updates) =
     refinedTo
-    (refineDepths (alike depth) (record { a01 = double edge; a02 = double edge; a12 = double edge }) (record { m01 = double cosine; m02 = double cosine; m12 = double cosine }) iterations .value)
+    (refineDepths (alike depth) (record { a01 = double edge; a02 = double edge; a12 = double edge })
+    (record { m01 = double cosine; m02 = double cosine; m12 = double cosine }) iterations .value)
     after
     updates
-poseCaseHolds (ray x y z f g h fits) = Bool·beq (rayFits (vector (double x) (double y) (double z)) (vector (double f) (double g) (double h)) .value) fits
+poseCaseHolds (ray x y z f g h fits) =
+    Bool·beq (rayFits (vector (double x) (double y) (double z))
+    (vector (double f) (double g) (double h)) .value) fits
 
 unfoldable pub poseCases : List PoseCase
 poseCases =

@@ -14,7 +14,8 @@ use Rattle.p3p_common.specs.Types.{Pose}
 
 -- four slots, numbered from 0 (`getD slots i unused` is slot i): of those below the count `Holds`
 -- is true, and the rest hold `unused`
-pub record Filled {A : Type 0} (Holds : A → Type 0) (unused : A) (count : ℕ) (slots : List A) : Type 0 where
+pub record Filled {A : Type 0} (Holds : A → Type 0) (unused : A) (count : ℕ) (slots : List A)
+    : Type 0 where
   pub four : length slots ≡ 4
   pub held : (i : ℕ) → i < count → Holds (getD slots i unused)
   pub rest : (i : ℕ) → count ≤ i → getD slots i unused ≡ unused

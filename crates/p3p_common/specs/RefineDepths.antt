@@ -51,9 +51,12 @@ depthUpdate depths bearingCosines residual =
       if not (finite denominator) || eq denominator plusZero then pure Stop
           else do
             inverse ← ! half ⊘ ! denominator
-            c0 ← ! d0 ⊕ (⊝ ! x23 ⊗ ! x32 ⊗ ! r0 ⊖ ! x12 ⊗ ! x33 ⊗ ! r1 ⊕ ! x12 ⊗ ! x23 ⊗ ! r2) ⊗ ! inverse
-            c1 ← ! d1 ⊕ (⊝ ! x21 ⊗ ! x33 ⊗ ! r0 ⊕ ! x11 ⊗ ! x33 ⊗ ! r1 ⊖ ! x11 ⊗ ! x23 ⊗ ! r2) ⊗ ! inverse
-            c2 ← ! d2 ⊕ (! x21 ⊗ ! x32 ⊗ ! r0 ⊖ ! x11 ⊗ ! x32 ⊗ ! r1 ⊖ ! x12 ⊗ ! x21 ⊗ ! r2) ⊗ ! inverse
+            c0 ← ! d0
+                ⊕ (⊝ ! x23 ⊗ ! x32 ⊗ ! r0 ⊖ ! x12 ⊗ ! x33 ⊗ ! r1 ⊕ ! x12 ⊗ ! x23 ⊗ ! r2) ⊗ ! inverse
+            c1 ← ! d1
+                ⊕ (⊝ ! x21 ⊗ ! x33 ⊗ ! r0 ⊕ ! x11 ⊗ ! x33 ⊗ ! r1 ⊖ ! x11 ⊗ ! x23 ⊗ ! r2) ⊗ ! inverse
+            c2 ← ! d2
+                ⊕ (! x21 ⊗ ! x32 ⊗ ! r0 ⊖ ! x11 ⊗ ! x32 ⊗ ! r1 ⊖ ! x12 ⊗ ! x21 ⊗ ! r2) ⊗ ! inverse
             pure (ifFinite (vector c0 c1 c2))
 
 -- one turn of the loop

@@ -88,7 +88,8 @@ pub fn depth_step(
     bearing_cosines: Cosines,
     residual_tolerance: f64,
 ) -> Step
-    ensures { λ r. ⌜ r ≡ depthStep depths «squared_edges» «bearing_cosines» «residual_tolerance» .value ⌝ }
+    ensures { λ r.
+        ⌜ r ≡ depthStep depths «squared_edges» «bearing_cosines» «residual_tolerance» .value ⌝ }
 {
     let residual = depth_residual(depths, squared_edges, bearing_cosines);
     if residual.abs_sum() < residual_tolerance {

@@ -10,7 +10,10 @@ pub fn rotation_from_edges(
     second_camera_edge: Vector3,
     world_basis_inverse: Matrix3,
 ) -> Matrix3
-    ensures { λ r. ⌜ r ≡ rotationFromEdges «first_camera_edge» «second_camera_edge» «world_basis_inverse» .value ⌝ }
+    ensures { λ r.
+        ⌜ r
+        ≡ rotationFromEdges «first_camera_edge» «second_camera_edge»
+        «world_basis_inverse» .value ⌝ }
 {
     let normal = first_camera_edge.cross(second_camera_edge);
     Matrix3::from_columns(first_camera_edge, second_camera_edge, normal).mul(world_basis_inverse)

@@ -7,8 +7,10 @@ use lib.IntN.{ℤ, _+ℤ_, +ℤ-idl, +ℤ-negℤ-cancel}
 use lib.Ieee.{Float}
 use Rattle.ieee754.specs.Literal.{half, epsilon}
 use Rattle.ieee754.specs.Scaling.{Both, At}
-use Rattle.ieee754_laws.proofs.Degrees.{same, null, !_, ⊝_, √_, _⊗_, _⊘_, _⊕_, mulAdd, degree, neg-at}
-use Rattle.ieee754_laws.proofs.Degrees.{abs-at, copysign-at, max-at, lt-same, eq-same, finite-same, pure}
+use Rattle.ieee754_laws.proofs.Degrees.{same, null, !_, ⊝_, √_, _⊗_, _⊘_, _⊕_, mulAdd, degree}
+use Rattle.ieee754_laws.proofs.Degrees.{neg-at}
+use Rattle.ieee754_laws.proofs.Degrees.{abs-at, copysign-at, max-at, lt-same, eq-same, finite-same}
+use Rattle.ieee754_laws.proofs.Degrees.{pure}
 use Rattle.ieee754_laws.proofs.Degrees.{_>>=_, if_then_else_}
 use Rattle.ieee754_laws.proofs.MinPositive.{floored, epsilon32-small}
 use Rattle.polynomial.specs.Literal.{four, thirtyTwo}
@@ -42,7 +44,8 @@ module _ {k n : ℤ} {b b' c c' : Float} (B : At k n b b') (C : At k (n +ℤ n) 
       else (
       mulAdd (! B) (! B) (degree (+ℤ-idl (n +ℤ n)) (⊝ ! same four ⊗ ! C)) >>= λ _ _ discriminant.
       ! B ⊗ ! B ⊕ degree (+ℤ-idl (n +ℤ n)) (! same four ⊗ ! S) >>= λ _ _ scale.
-      degree (+ℤ-idl (n +ℤ n)) (floored (! same thirtyTwo ⊗ ! same epsilon) epsilon32-small scale) >>= λ _ _ tolerance.
+      degree (+ℤ-idl (n +ℤ n))
+      (floored (! same thirtyTwo ⊗ ! same epsilon) epsilon32-small scale) >>= λ _ _ tolerance.
       if ap₂ _||_ (lt-same discriminant (neg-at tolerance)) (ap not (finite-same discriminant)) then
       pure (refused-at 5)
       else pair-scales (max-at discriminant null))

@@ -35,9 +35,11 @@ module _ {A : Type 0} (none : Traced A) where
   pub no-pair : (k : Float → Float → Traced A) (r : Roots)
       → OneOf (1 ∷ 2 ∷ []) (tagOf the-type r)
       → none .value ≡ withPair r none k .value
-  no-pair k = not-two (λ (r : Roots). none .value ≡ withPair r none k .value) (λ n. refl) (λ x. refl)
+  no-pair k =
+      not-two (λ (r : Roots). none .value ≡ withPair r none k .value) (λ n. refl) (λ x. refl)
 
   pub no-root : (k : Float → Traced A) (r : Roots)
       → OneOf (0 ∷ 2 ∷ []) (tagOf the-type r)
       → none .value ≡ withRoot r none k .value
-  no-root k = not-one (λ (r : Roots). none .value ≡ withRoot r none k .value) (λ n. refl) (λ x y. refl)
+  no-root k =
+      not-one (λ (r : Roots). none .value ≡ withRoot r none k .value) (λ n. refl) (λ x y. refl)

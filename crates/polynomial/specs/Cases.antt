@@ -29,7 +29,8 @@ pub data RootCase : Type 0 where
 
 unfoldable pub rootCaseHolds : RootCase → Bool
 rootCaseHolds (quadratic b c n ws) = answers (quadraticRealMonic (double b) (double c) .value) n ws
-rootCaseHolds (cubic b c d n ws) = answers (polishedCubicRoot (double b) (double c) (double d) .value) n ws
+rootCaseHolds (cubic b c d n ws) =
+    answers (polishedCubicRoot (double b) (double c) (double d) .value) n ws
 
 -- every row of a table holds
 unfoldable pub every : {A : Type 0} → (A → Bool) → List A → Bool
@@ -39,19 +40,23 @@ every holds (row ∷ rows) = holds row && every holds rows
 unfoldable pub rootCases : List RootCase
 rootCases =
     -- (-3, 2) gives 2, 1
-    quadratic 0xc008_0000_0000_0000 0x4000_0000_0000_0000 0 (0x4000_0000_0000_0000 ∷ 0x3ff0_0000_0000_0000 ∷ [])
+    quadratic 0xc008_0000_0000_0000 0x4000_0000_0000_0000 0
+    (0x4000_0000_0000_0000 ∷ 0x3ff0_0000_0000_0000 ∷ [])
     -- (2, 1) gives -1, -1
-    ∷ quadratic 0x4000_0000_0000_0000 0x3ff0_0000_0000_0000 0 (0xbff0_0000_0000_0000 ∷ 0xbff0_0000_0000_0000 ∷ [])
+    ∷ quadratic 0x4000_0000_0000_0000 0x3ff0_0000_0000_0000 0
+    (0xbff0_0000_0000_0000 ∷ 0xbff0_0000_0000_0000 ∷ [])
     -- (0, 1) gives 5
     ∷ quadratic 0 0x3ff0_0000_0000_0000 5 []
     -- (+0, -4) gives -2, 2
     ∷ quadratic 0 0xc010_0000_0000_0000 0 (0xc000_0000_0000_0000 ∷ 0x4000_0000_0000_0000 ∷ [])
     -- (-0, -4) gives 2, -2
-    ∷ quadratic 0x8000_0000_0000_0000 0xc010_0000_0000_0000 0 (0x4000_0000_0000_0000 ∷ 0xc000_0000_0000_0000 ∷ [])
+    ∷ quadratic 0x8000_0000_0000_0000 0xc010_0000_0000_0000 0
+    (0x4000_0000_0000_0000 ∷ 0xc000_0000_0000_0000 ∷ [])
     -- (+0, +0) gives minus zero twice
     ∷ quadratic 0 0 0 (0x8000_0000_0000_0000 ∷ 0x8000_0000_0000_0000 ∷ [])
     -- (2, 1 + 2^-46) gives -1, -1
-    ∷ quadratic 0x4000_0000_0000_0000 0x3ff0_0000_0000_0040 0 (0xbff0_0000_0000_0000 ∷ 0xbff0_0000_0000_0000 ∷ [])
+    ∷ quadratic 0x4000_0000_0000_0000 0x3ff0_0000_0000_0040 0
+    (0xbff0_0000_0000_0000 ∷ 0xbff0_0000_0000_0000 ∷ [])
     -- (2, 1 + 2^-46 + 2^-52) gives 5
     ∷ quadratic 0x4000_0000_0000_0000 0x3ff0_0000_0000_0041 5 []
     -- cubic (0, 0, 0) gives plus zero

@@ -1,5 +1,6 @@
-// Lists the files of data/ as the program `poses` lists its input, the name of each before its listing. tests/poses/make.py made the files,
-// and the listings that are expected from the Rust's answers.
+// Lists the files of data/ as the program `poses` lists its input, the name of each before its
+// listing. tests/poses/make.py made the files, and the listings that are expected from the Rust's
+// answers.
 use libc::STDOUT_FILENO;
 
 fn list(name: &[u8]) {

@@ -189,5 +189,6 @@ module _ (before after : List ℕ) (f : Frame) (doubles : AllDoubles (vectors f)
 
   pub reads-back : recordAt whole start ≡ Accepted f (start + 195)
   reads-back =
-      accepted whole start (omega (arith, length-whole)) length-right (omega (arith, length-whole)) version-right
+      accepted whole start (omega (arith, length-whole)) length-right (omega (arith, length-whole))
+      version-right
       ∙ ap (λ (g : Frame). Accepted g (start + 195)) frame-back

@@ -22,7 +22,11 @@ doubleAt s at = ofBits binary64 (bigEndian (part s at 8))
 
 -- the vector at place k, from 0, of those that begin at a position: x, y, z
 unfoldable pub vectorAt : List ℕ → ℕ → ℕ → Vector3
-vectorAt s at k = record { x = doubleAt s (at + 24 * k); y = doubleAt s (at + 24 * k + 8); z = doubleAt s (at + 24 * k + 16) }
+vectorAt s at k = record {
+  x = doubleAt s (at + 24 * k);
+  y = doubleAt s (at + 24 * k + 8);
+  z = doubleAt s (at + 24 * k + 16);
+}
 
 -- three world points, three bearings, checking target, checking bearing
 unfoldable pub frameAt : List ℕ → ℕ → Frame

@@ -47,39 +47,70 @@ abbrev pub args : Others → Args
 args p = (p .edges, (p .cosines, (p .iterations, tt)))
 
 abbrev pub of : (x : Args)
-    → Fit EdgesS (x .0) × (Fit CosinesS (x .1 .0) × (Is u32 (x .1 .1 .0) (vint w32 (x .1 .1 .0) ∷ []) × Unit {0}))
+    → Fit EdgesS (x .0)
+    × (Fit CosinesS (x .1 .0) × (Is u32 (x .1 .1 .0) (vint w32 (x .1 .1 .0) ∷ []) × Unit {0}))
     → Others
-of x are = record { edges = x .0; cosines = x .1 .0; iterations = x .1 .1 .0; edges-fit = are .0; cosines-fit = are .1 .0; iterations-fit = are .1 .1 .0 .1 }
+of x are = record {
+  edges = x .0;
+  cosines = x .1 .0;
+  iterations = x .1 .1 .0;
+  edges-fit = are .0;
+  cosines-fit = are .1 .0;
+  iterations-fit = are .1 .1 .0 .1;
+}
 
 abbrev pub vals : Others → List Val × (List Val × (List Val × Unit {0}))
-vals p = (val EdgesS (p .edges) ∷ [], (val CosinesS (p .cosines) ∷ [], (vint w32 (p .iterations) ∷ [], tt)))
+vals p = (
+  val EdgesS (p .edges) ∷ [],
+  (val CosinesS (p .cosines) ∷ [], (vint w32 (p .iterations) ∷ [], tt)),
+)
 
 abbrev pub rows : List RattleType
 rows = Row EdgesS ∷ Row CosinesS ∷ u32 ∷ []
 
 abbrev pub spelt : Spells rows
-spelt = (LL.vals (EdgesS .type) (EdgesS .laws), (LL.vals (CosinesS .type) (CosinesS .laws), (uint-vals w32, tt)))
+spelt = (
+  LL.vals (EdgesS .type) (EdgesS .laws),
+  (LL.vals (CosinesS .type) (CosinesS .laws), (uint-vals w32, tt)),
+)
 
 abbrev pub tells : Tellss rows (Ises rows) spelt
-tells = (LL.tells (EdgesS .type) (EdgesS .laws), (LL.tells (CosinesS .type) (CosinesS .laws), (uint-tells w32, tt)))
+tells = (
+  LL.tells (EdgesS .type) (EdgesS .laws),
+  (LL.tells (CosinesS .type) (CosinesS .laws), (uint-tells w32, tt)),
+)
 
 module _ (n : ℕ) where
   abbrev pub slots : List (Slot n)
   slots = plain (λ _. Row EdgesS) ∷ plain (λ _. Row CosinesS) ∷ plain (λ _. u32) ∷ []
 
   abbrev pub stayed : Stays slots (all yes slots)
-  stayed = (stay-none (λ _. Row EdgesS) yes, (stay-none (λ _. Row CosinesS) yes, (stay-none (λ _. u32) yes, tt)))
+  stayed = (
+    stay-none (λ _. Row EdgesS) yes,
+    (stay-none (λ _. Row CosinesS) yes, (stay-none (λ _. u32) yes, tt)),
+  )
 
   pub gone : {M : Type 1} (𝓤 : URA M) (H : Heap 𝓤) (A : Atoms 𝓤) (W : Given 𝓤 H A)
       → AllGo 𝓤 H A W n slots (all yes slots) stayed
   gone 𝓤 H A W = (
     goes-none 𝓤 H A W n (λ _. Row EdgesS) yes (λ κs x f. refl),
-    (goes-none 𝓤 H A W n (λ _. Row CosinesS) yes (λ κs x f. refl), (goes-none 𝓤 H A W n (λ _. u32) yes (λ κs x f. refl), tt)),
+    (
+      goes-none 𝓤 H A W n (λ _. Row CosinesS) yes (λ κs x f. refl),
+      (goes-none 𝓤 H A W n (λ _. u32) yes (λ κs x f. refl), tt),
+    ),
   )
 
-module _ {M : Type 1} {𝓤 : URA M} {H : Heap 𝓤} {A : Atoms 𝓤} {K : Type 0} {W : Given 𝓤 H A} {Γ : List (Item 𝓤)} {G : Goal 𝓤 H} where
+module _ {M : Type 1} {𝓤 : URA M} {H : Heap 𝓤} {A : Atoms 𝓤} {K : Type 0} {W : Given 𝓤 H A}
+    {Γ : List (Item 𝓤)} {G : Goal 𝓤 H} where
   pub had-others : K → (p : Others) → Step K W (‵ (owns rows (args p) (vals p)) ∷ Γ) G Γ G
   had-others t p =
       step
-      (λ s. nothing t $ owned t u32 (Is u32) (uint-makes 𝓤 H A W w32) (p .iterations) _ (refl, p .iterations-fit) $ fjoin t $
-      had t CosinesS (p .cosines) (p .cosines-fit) $ fjoin t $ had t EdgesS (p .edges) (p .edges-fit) $ fjoin t $ s)
+      (λ s.
+      nothing t $
+      owned t u32 (Is u32) (uint-makes 𝓤 H A W w32) (p .iterations) _ (refl, p .iterations-fit) $
+      fjoin t $
+      had t CosinesS (p .cosines) (p .cosines-fit) $
+      fjoin t $
+      had t EdgesS (p .edges) (p .edges-fit) $
+      fjoin t $
+      s)

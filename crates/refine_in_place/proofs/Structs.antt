@@ -16,23 +16,27 @@ use Rattle.p3p_common.proofs.refine_depths.Refined.Laws as refined-laws
 use Rattle.refine_in_place.proofs.Loan.{PlainStruct, val, Fit}
 
 abbrev pub VectorS : PlainStruct
-VectorS = record { type = vector.the-type; laws = vector-laws.the-laws; plain = vector-laws.the-plain }
+VectorS =
+    record { type = vector.the-type; laws = vector-laws.the-laws; plain = vector-laws.the-plain }
 
 abbrev pub EdgesS : PlainStruct
 EdgesS = record { type = edges.the-type; laws = edges-laws.the-laws; plain = edges-laws.the-plain }
 
 abbrev pub CosinesS : PlainStruct
-CosinesS = record { type = cosines.the-type; laws = cosines-laws.the-laws; plain = cosines-laws.the-plain }
+CosinesS =
+    record { type = cosines.the-type; laws = cosines-laws.the-laws; plain = cosines-laws.the-plain }
 
 abbrev pub RefinedS : PlainStruct
-RefinedS = record { type = refined.the-type; laws = refined-laws.the-laws; plain = refined-laws.the-plain }
+RefinedS =
+    record { type = refined.the-type; laws = refined-laws.the-laws; plain = refined-laws.the-plain }
 
 -- a `Refined` fits just where its triple fits and its count is below 2 ^ 32
 pub depths-fit : (r : Refined) → Fit RefinedS r → Fit VectorS (r .depths)
 depths-fit r ok = LL.owed refined.the-type refined-laws.the-laws r (val RefinedS r ∷ []) ok .0
 
 pub updates-fit : (r : Refined) → Fit RefinedS r → r .updates < 2 ^ 32
-updates-fit r ok = LL.owed refined.the-type refined-laws.the-laws r (val RefinedS r ∷ []) ok .1 .0 .1
+updates-fit r ok =
+    LL.owed refined.the-type refined-laws.the-laws r (val RefinedS r ∷ []) ok .1 .0 .1
 
 pub refined-fits : (r : Refined) → Fit VectorS (r .depths) → r .updates < 2 ^ 32 → Fit RefinedS r
 refined-fits r ok small = LL.owes refined.the-type refined-laws.the-laws r (ok, ((refl, small), tt))

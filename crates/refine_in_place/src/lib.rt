@@ -19,7 +19,8 @@ pub fn refine_depths_in_place(
     bearing_cosines: Cosines,
     iterations: u32,
 ) -> u32
-    ensures { λ (r : ℕ). ⌜ (r ≡ refineDepths (now (depths .entry)) «squared_edges» «bearing_cosines» iterations .value .updates)
+    ensures { λ (r : ℕ).
+        ⌜ (r ≡ refineDepths (now (depths .entry)) «squared_edges» «bearing_cosines» iterations .value .updates)
         × (now (depths .exit) ≡ refineDepths (now (depths .entry)) «squared_edges» «bearing_cosines» iterations .value .depths) ⌝ }
 {
     let refined = refine_depths(*depths, squared_edges, bearing_cosines, iterations);

@@ -1,5 +1,6 @@
-// Refines a lent triple in document 01's two cases, squared edges 2, cosines 0 and one update allowed, and writes of each the
-// count of updates and the depths' bit patterns: from (2, 2, 2) one update, to (1.25, 1.25, 1.25), and from (1, 1, 1) none.
+// Refines a lent triple in document 01's two cases, squared edges 2, cosines 0 and one update
+// allowed, and writes of each the count of updates and the depths' bit patterns: from (2, 2, 2) one
+// update, to (1.25, 1.25, 1.25), and from (1, 1, 1) none.
 use frames::cosines::Cosines;
 use frames::squared_edges::SquaredEdges;
 use ieee754::bits::to_bits;

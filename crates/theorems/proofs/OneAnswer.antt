@@ -1,4 +1,5 @@
--- Demand 1 of the mission, as specs/OneAnswer.antt states it: the answer to eighteen doubles is one to four finite poses or number 1, 2 or 3. Assumes nothing.
+-- Demand 1 of the mission, as specs/OneAnswer.antt states it: the answer to eighteen doubles is one
+-- to four finite poses or number 1, 2 or 3. Assumes nothing.
 use mathlib.Core.Path.{refl}
 use mathlib.Core.Bool.{Bool, true, false, not, _||_}
 use Prim.Native.Nat.{ℕ}
@@ -8,7 +9,8 @@ use lib.Ieee.{Float, binary64, mul, le}
 use lib.Ieee.Fits.{and-i, eq→eqb}
 use Rattle.ieee754.specs.Literal.{sixtyFour, epsilon}
 use Rattle.ieee754.specs.Traced.{Traced, pure, _>>=_, _⊘_, !_}
-use Rattle.ieee754.proofs.Tests.{or-left, or-right, neither, not-both-left, not-both-right, either-way}
+use Rattle.ieee754.proofs.Tests.{or-left, or-right, neither, not-both-left, not-both-right}
+use Rattle.ieee754.proofs.Tests.{either-way}
 use Rattle.polynomial.specs.declared.Roots.the-variants as roots
 use Rattle.polynomial.specs.Answer.{withRoot}
 use Rattle.polynomial.specs.PolishedRoot.{polishedCubicRoot}
@@ -22,9 +24,14 @@ use Rattle.lambdatwist.specs.Poses.{poses}
 use Rattle.p3p_common.specs.Slots.{empty}
 use Rattle.p3p_common.proofs.SlotLaws.{Kept}
 use Rattle.lambdatwist.specs.Permutation.{bestPermutation}
-use Rattle.lambdatwist.specs.Solve.{answered, refused, ifKept, stopped, solveCandidates, solveRoot, solveCubic, orderedOr, bestOr, solveOrdered, solve}
-use Rattle.theorems.specs.OneAnswer.{Accepted, Refused, orderingUnusable, noOrdering, OneAnswer, refused-1, refused-2, refused-3, accepted}
-use Rattle.theorems.specs.Types.{Vector3, Matrix3, Roots, World, Bearings, P3pInput, Basis, Inverse, Singular, Solutions, Eigensystem, Found, NotFound, Ratio, Real, NotReal, Coefficients, Candidates, Answer, Measured}
+use Rattle.lambdatwist.specs.Solve.{answered, refused, ifKept, stopped, solveCandidates, solveRoot}
+use Rattle.lambdatwist.specs.Solve.{solveCubic, orderedOr, bestOr, solveOrdered, solve}
+use Rattle.theorems.specs.OneAnswer.{Accepted, Refused, orderingUnusable, noOrdering}
+use Rattle.theorems.specs.OneAnswer.{OneAnswer, refused-1, refused-2, refused-3, accepted}
+use Rattle.theorems.specs.Types.{Vector3, Matrix3, Roots, World, Bearings, P3pInput, Basis}
+use Rattle.theorems.specs.Types.{Inverse, Singular, Solutions, Eigensystem, Found, NotFound}
+use Rattle.theorems.specs.Types.{Ratio, Real, NotReal, Coefficients, Candidates, Answer}
+use Rattle.theorems.specs.Types.{Measured}
 use Rattle.lambdatwist.proofs.KeptPoses.{poses-kept}
 
 -- ---- the two kinds of answer
@@ -32,16 +39,32 @@ refused-so : (n : ℕ) → Refused n (refused n)
 unfolding refused answered empty
 refused-so n = record { refusal = refl; count = refl; poses = refl; updates = refl }
 
-ifKept-so : (P : Answer → Type 0) → P (refused 3) → ((a : Answer) → Accepted a → P a) → (s : Solutions) → Kept s → P (ifKept s)
+ifKept-so : (P : Answer → Type 0)
+    → P (refused 3)
+    → ((a : Answer) → Accepted a → P a)
+    → (s : Solutions)
+    → Kept s
+    → P (ifKept s)
 unfolding ifKept answered
-ifKept-so P three found s k = either-way P (eqb (s .count) 0) (λ _. three) (λ some. found _ (record { refusal = refl; one-or-more = pos-of-ne-zero (λ e. T-not (eqb (s .count) 0) some (eq→eqb e)); slots = k }))
+ifKept-so P three found s k =
+    either-way P (eqb (s .count) 0) (λ _. three)
+    (λ some.
+    found _ (record {
+      refusal = refl;
+      one-or-more = pos-of-ne-zero (λ e. T-not (eqb (s .count) 0) some (eq→eqb e));
+      slots = k;
+    }))
 
--- ---- from a usable ordering on: what is true of number 3 and of every accepted answer is true of the answer
-module _ (P : Answer → Type 0) (three : P (refused 3)) (found : (a : Answer) → Accepted a → P a) where
+-- ---- from a usable ordering on: what is true of number 3 and of every accepted answer is true of
+--      the answer
+module _ (P : Answer → Type 0) (three : P (refused 3))
+    (found : (a : Answer) → Accepted a → P a) where
   abbrev Gives : Traced Answer → Type 0
   Gives m = P (m .value)
 
-  withRoot-gives : (r : Roots) (f : Float → Traced Answer) → ((g : Float) → Gives (f g)) → Gives (withRoot r stopped f)
+  withRoot-gives : (r : Roots) (f : Float → Traced Answer)
+      → ((g : Float) → Gives (f g))
+      → Gives (withRoot r stopped f)
   withRoot-gives (roots.One g) f h = h g
   withRoot-gives (roots.Two x y) f h = three
   withRoot-gives (roots.Refused n) f h = three
@@ -52,11 +75,15 @@ module _ (P : Answer → Type 0) (three : P (refused 3)) (found : (a : Answer) �
   withSystem-gives (Found m v) f h = h m v
   withSystem-gives NotFound f h = three
 
-  withRatio-gives : (r : Ratio) (f : Float → Traced Answer) → ((x : Float) → Gives (f x)) → Gives (withRatio r stopped f)
+  withRatio-gives : (r : Ratio) (f : Float → Traced Answer)
+      → ((x : Float) → Gives (f x))
+      → Gives (withRatio r stopped f)
   withRatio-gives (Real x) f h = h x
   withRatio-gives NotReal f h = three
 
-  withInverse-gives : (b : Basis) (f : Matrix3 → Traced Answer) → ((m : Matrix3) → Gives (f m)) → Gives (withInverse b stopped f)
+  withInverse-gives : (b : Basis) (f : Matrix3 → Traced Answer)
+      → ((m : Matrix3) → Gives (f m))
+      → Gives (withInverse b stopped f)
   withInverse-gives (Inverse m) f h = h m
   withInverse-gives Singular f h = three
 
@@ -73,16 +100,22 @@ module _ (P : Answer → Type 0) (three : P (refused 3)) (found : (a : Answer) �
     solveRoot-gives g =
         let matrix = singularMatrix (measured .squares) (measured .factors) g .value in
         let after : Matrix3 → Float → Traced Answer
-        = λ e x. candidates (measured .squares) (measured .factors) e x >>= λ found. solveCandidates input measured found in
+        = λ e x.
+        candidates (measured .squares) (measured .factors) e x >>= λ found.
+        solveCandidates input measured found in
         withSystem-gives (eigWithKnownZero matrix .value)
-        (λ (e : Matrix3) (v : Vector3). ratioOf (v .x) (v .y) >>= λ ratio. withRatio ratio stopped (after e))
-        (λ e v. withRatio-gives (ratioOf (v .x) (v .y) .value) (after e) (λ x. solveCandidates-gives _))
+        (λ (e : Matrix3) (v : Vector3).
+        ratioOf (v .x) (v .y) >>= λ ratio. withRatio ratio stopped (after e))
+        (λ e v.
+        withRatio-gives (ratioOf (v .x) (v .y) .value) (after e) (λ x. solveCandidates-gives _))
 
     solveCubic-gives : (c : Coefficients) → Gives (solveCubic input measured c)
     unfolding solveCubic
     solveCubic-gives c =
         let over : Float → Float = λ x. (! x ⊘ ! (c .cubic3)) .value in
-        withRoot-gives (polishedCubicRoot (over (c .cubic2)) (over (c .cubic1)) (over (c .cubic0)) .value) (solveRoot input measured) solveRoot-gives
+        withRoot-gives
+        (polishedCubicRoot (over (c .cubic2)) (over (c .cubic1)) (over (c .cubic0)) .value)
+        (solveRoot input measured) solveRoot-gives
 
 -- ---- question 2: the given ordering, or else the best of the others
 module _ (input : P3pInput) (finite : T (inputFinite input)) where
@@ -93,8 +126,11 @@ module _ (input : P3pInput) (finite : T (inputFinite input)) where
       → OneAnswer input (orderedOr retry input world bearings .value)
   unfolding orderedOr orderingUnusable
   ordering-one retry world bearings unusable usable =
-      either-way (λ (m : Traced Answer). OneAnswer input (m .value)) (orderingUnusable world bearings) unusable
-      (λ u. solveCubic-gives (OneAnswer input) (refused-3 finite (usable u) (refused-so 3)) (λ a. accepted finite (usable u)) input _ _)
+      either-way (λ (m : Traced Answer). OneAnswer input (m .value))
+      (orderingUnusable world bearings) unusable
+      (λ u.
+      solveCubic-gives (OneAnswer input) (refused-3 finite (usable u) (refused-so 3))
+      (λ a. accepted finite (usable u)) input _ _)
 
   orderings-one : OneAnswer input (solveOrdered 1 input (input .world) (input .bearings) .value)
   unfolding solveOrdered bestOr noOrdering
@@ -116,7 +152,8 @@ not-not : (b : Bool) → T (not (not b)) → T b
 not-not true t = tt
 not-not false t = absurd t
 
-pub one-answer : (world : World) (bearings : Bearings) → OneAnswer (record { world = world; bearings = bearings }) (solve world bearings .value)
+pub one-answer : (world : World) (bearings : Bearings)
+    → OneAnswer (record { world = world; bearings = bearings }) (solve world bearings .value)
 unfolding solve
 one-answer world bearings =
     let input : P3pInput = record { world = world; bearings = bearings } in

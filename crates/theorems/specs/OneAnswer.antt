@@ -1,5 +1,6 @@
--- Demand 1 of the mission, for the solve: the answer to eighteen doubles, finite or not, is one to four poses or number 1, 2 or 3; a refusal holds no pose and plus zero in every slot. That it holds of
--- every input and the answer of `solve` to it is `one-answer` in the proofs.
+-- Demand 1 of the mission, for the solve: the answer to eighteen doubles, finite or not, is one to
+-- four poses or number 1, 2 or 3; a refusal holds no pose and plus zero in every slot. That it
+-- holds of every input and the answer of `solve` to it is `one-answer` in the proofs.
 use mathlib.Core.Path.{_≡_}
 use mathlib.Core.Bool.{Bool, not, _&&_, _||_}
 use mathlib.Core.List.{[], _∷_}
@@ -15,7 +16,8 @@ use Rattle.depths.specs.Cubic.{isUnusable}
 use Rattle.lambdatwist.specs.Permutation.{bestPermutation}
 use Rattle.theorems.specs.Types.{World, Bearings, P3pInput, Answer}
 
--- One to four poses and no refusal. `PoseSlots` says that there are at most four, that their twelve numbers are finite, that each took at most five updates, and that the slots beyond the count hold
+-- One to four poses and no refusal. `PoseSlots` says that there are at most four, that their twelve
+-- numbers are finite, that each took at most five updates, and that the slots beyond the count hold
 -- plus zeros and 0.
 pub record Accepted (answer : Answer) : Type 0 where
   pub refusal : answer .refusal ≡ 0
@@ -32,17 +34,31 @@ pub record Refused (number : ℕ) (answer : Answer) : Type 0 where
 -- ---- question 2 of document 01: is there a usable ordering?
 -- one ordering of the points and bearings is not
 unfoldable pub orderingUnusable : World → Bearings → Bool
-orderingUnusable world bearings = isUnusable (measuredCubic (measure world bearings .value) .value) .value
+orderingUnusable world bearings =
+    isUnusable (measuredCubic (measure world bearings .value) .value) .value
 
--- there is none: the given one is unusable, and of the best conditioned of the five others the condition is at most 64 * 2 ^ -52 or it is unusable too
+-- there is none: the given one is unusable, and of the best conditioned of the five others the
+-- condition is at most 64 * 2 ^ -52 or it is unusable too
 unfoldable pub noOrdering : P3pInput → Bool
 noOrdering input =
     let best = bestPermutation input .value in
-    orderingUnusable (input .world) (input .bearings) && (le (best .condition) (mul binary64 sixtyFour epsilon) || orderingUnusable (best .world) (best .bearings))
+    orderingUnusable (input .world) (input .bearings)
+    && (le (best .condition) (mul binary64 sixtyFour epsilon)
+    || orderingUnusable (best .world) (best .bearings))
 
--- ---- number 1 where one of the eighteen is not finite, and only there; of finite ones, number 2 where there is no usable ordering, and only there; otherwise poses, or number 3
+-- ---- number 1 where one of the eighteen is not finite, and only there; of finite ones, number 2
+--      where there is no usable ordering, and only there; otherwise poses, or number 3
 pub data OneAnswer (input : P3pInput) (answer : Answer) : Type 0 where
   refused-1 : T (not (inputFinite input)) → Refused 1 answer → OneAnswer input answer
-  refused-2 : T (inputFinite input) → T (noOrdering input) → Refused 2 answer → OneAnswer input answer
-  refused-3 : T (inputFinite input) → T (not (noOrdering input)) → Refused 3 answer → OneAnswer input answer
-  accepted : T (inputFinite input) → T (not (noOrdering input)) → Accepted answer → OneAnswer input answer
+  refused-2 : T (inputFinite input)
+      → T (noOrdering input)
+      → Refused 2 answer
+      → OneAnswer input answer
+  refused-3 : T (inputFinite input)
+      → T (not (noOrdering input))
+      → Refused 3 answer
+      → OneAnswer input answer
+  accepted : T (inputFinite input)
+      → T (not (noOrdering input))
+      → Accepted answer
+      → OneAnswer input answer

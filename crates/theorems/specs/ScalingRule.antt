@@ -1,4 +1,5 @@
--- Demand 3 of the mission, the scaling rule: a single claim about two whole answers of `solve`. Its proof is `scaling-rule` in the proofs.
+-- Demand 3 of the mission, the scaling rule: a single claim about two whole answers of `solve`. Its
+-- proof is `scaling-rule` in the proofs.
 use mathlib.Core.Path.{_≡_}
 use mathlib.Core.List.{Forall₂}
 use Prim.Native.Nat.{_*_}
@@ -9,9 +10,11 @@ use Rattle.linalg.specs.Doubles.{Doubles}
 use Rattle.lambdatwist.specs.Solve.{solve}
 use Rattle.theorems.specs.Types.{Vector3, Pose, World, Bearings, Answer}
 
--- x and x' are finite, and x' is exactly 2 ^ k times x, a zero keeping its sign. `fin s m e` is ±m * 2 ^ e, and 2 ^ e is the fraction up e / down e of whole numbers, also for a negative e.
+-- x and x' are finite, and x' is exactly 2 ^ k times x, a zero keeping its sign. `fin s m e` is
+-- ±m * 2 ^ e, and 2 ^ e is the fraction up e / down e of whole numbers, also for a negative e.
 abbrev pub Times : ℤ → Float → Float → Type 0
-Times k (fin s m e) (fin t n d) = (s ≡ t) × (n * up d * (down e * down k) ≡ m * up e * (down d * up k))
+Times k (fin s m e) (fin t n d) =
+    (s ≡ t) × (n * up d * (down e * down k) ≡ m * up e * (down d * up k))
 Times k (fin s m e) (inf t) = ⊥
 Times k (fin s m e) nan = ⊥
 Times k (inf s) y = ⊥
@@ -38,15 +41,23 @@ pub record AlikePose (k : ℤ) (p p' : Pose) : Type 0 where
   pub rotation : p .rotation ≡ p' .rotation
   pub translation : TimesVector k (p .translation) (p' .translation)
 
--- the same refusal number or none, the same count of poses, and in each place poses that are alike and the same update count. The library's `Forall₂ R` says of two lists that they are of one length and that R holds of their
--- entries in each place.
+-- the same refusal number or none, the same count of poses, and in each place poses that are alike
+-- and the same update count. The library's `Forall₂ R` says of two lists that they are of one
+-- length and that R holds of their entries in each place.
 pub record Alike (k : ℤ) (a a' : Answer) : Type 0 where
   pub refusal : a .refusal ≡ a' .refusal
   pub count : a .count ≡ a' .count
   pub poses : Forall₂ (AlikePose k) (a .poses) (a' .poses)
   pub updates : a .updates ≡ a' .updates
 
--- for every whole number k, and where every operation that either solve reaches and that can round meets the premise
+-- for every whole number k, and where every operation that either solve reaches and that can round
+-- meets the premise
 unfoldable pub ScalingRule : Type 0
-ScalingRule = (k : ℤ) (world world' : World) (bearings bearings' : Bearings) → DoubleWorld world → DoubleWorld world' → TimesWorld k world world' → bearings ≡ bearings'
-    → T (solve world bearings .regular) → T (solve world' bearings' .regular) → Alike k (solve world bearings .value) (solve world' bearings' .value)
+ScalingRule = (k : ℤ) (world world' : World) (bearings bearings' : Bearings)
+    → DoubleWorld world
+    → DoubleWorld world'
+    → TimesWorld k world world'
+    → bearings ≡ bearings'
+    → T (solve world bearings .regular)
+    → T (solve world' bearings' .regular)
+    → Alike k (solve world bearings .value) (solve world' bearings' .value)

@@ -69,11 +69,13 @@ abbrev stayed : Stays (f.ended .signature .params) (f.ended .kept)
 stayed = (stay-none (λ _. Row VectorS) yes, others-stayed 0)
 
 -- the contract of `refine_depths_in_place`, which the proof cites
-abbrev InPlace : {M : Type 1} (𝓤 : URA M) (H : Heap 𝓤) (A : Atoms 𝓤) (mem : Memory → SProp 𝓤) (run : Routine → Fun 𝓤)
+abbrev InPlace : {M : Type 1} (𝓤 : URA M) (H : Heap 𝓤) (A : Atoms 𝓤) (mem : Memory → SProp 𝓤)
+    (run : Routine → Fun 𝓤)
     → Contract 𝓤
 InPlace 𝓤 H A mem run = tripleOf 𝓤 H A in-place.signature (in-place.spec 𝓤 H A mem run)
 
-module _ {M : Type 1} (𝓤 : URA M) (H : Heap 𝓤) (A : Atoms 𝓤) (W : Given 𝓤 H A) (mem : Memory → SProp 𝓤) (run : Routine → Fun 𝓤)
+module _ {M : Type 1} (𝓤 : URA M) (H : Heap 𝓤) (A : Atoms 𝓤) (W : Given 𝓤 H A)
+    (mem : Memory → SProp 𝓤) (run : Routine → Fun 𝓤)
     (d : Vector3) (d-fits : Fit VectorS d) (p : Others) where
   -- what the definition gives
   abbrev out : Refined
@@ -87,14 +89,20 @@ module _ {M : Type 1} (𝓤 : URA M) (H : Heap 𝓤) (A : Atoms 𝓤) (W : Given
   args = (d, others p)
 
   abbrev passed : List Val
-  passed = val VectorS d ∷ val EdgesS (p .edges) ∷ val CosinesS (p .cosines) ∷ vint w32 (p .iterations) ∷ []
+  passed =
+      val VectorS d ∷ val EdgesS (p .edges) ∷ val CosinesS (p .cosines) ∷ vint w32 (p .iterations)
+      ∷ []
 
   abbrev Post : Val → SProp 𝓤
-  Post = walkOf 𝓤 H A f.ended stayed (f.clauses 𝓤 H A mem run) .post ((tt, tt, tt, args, (val VectorS d ∷ [], vals p)), tt)
+  Post =
+      walkOf 𝓤 H A f.ended stayed (f.clauses 𝓤 H A mem run) .post
+      ((tt, tt, tt, args, (val VectorS d ∷ [], vals p)), tt)
 
   -- ---- entry: all is plain data, and what it owns is made anew where it is asked
   at-entry : ent 𝓤 (onEntry 𝓤 H A f.signature tt tt args (val VectorS d ∷ [], vals p)) (emp 𝓤)
-  at-entry = qed W (raw (onEntry 𝓤 H A f.signature tt tt args (val VectorS d ∷ [], vals p)) ∷ []) ∵ drop ! $ done !
+  at-entry =
+      qed W (raw (onEntry 𝓤 H A f.signature tt tt args (val VectorS d ∷ [], vals p)) ∷ []) ∵
+      drop ! $ done !
 
   -- ---- the call, at the local's block l, lent for the lifetime ν under the name γ: what
   -- `refine_depths_in_place`'s triple binds outside, what it asks, and what it says of the machine
@@ -109,9 +117,13 @@ module _ {M : Type 1} (𝓤 : URA M) (H : Heap 𝓤) (A : Atoms 𝓤) (W : Given
   to-lent l ν γ = (((ν ∷ [], tt), (fullShare, tt), tt, lent-args l γ, (vptr l 0 ∷ [], vals p)), tt)
 
   goes-lent : (l ν : ℕ) (γ : GName)
-      → ent 𝓤 (sep 𝓤 (A .lft (ν ∷ []) fullShare) (sem 𝓤 H A (MutRef (named 0) (ν ∷ []) (Row VectorS) .own (ref VectorS l 0 γ d) (vptr l 0 ∷ [])))) (InPlace 𝓤 H A mem run .pre (to-lent l ν γ))
+      → ent 𝓤 (sep 𝓤 (A .lft (ν ∷ []) fullShare) (sem 𝓤 H A
+      (MutRef (named 0) (ν ∷ []) (Row VectorS) .own (ref VectorS l 0 γ d) (vptr l 0 ∷ []))))
+      (InPlace 𝓤 H A mem run .pre (to-lent l ν γ))
   goes-lent l ν γ =
-      qed W (‵ (flft (ν ∷ []) fullShare) ∷ ‵ (MutRef (named 0) (ν ∷ []) (Row VectorS) .own (ref VectorS l 0 γ d) (vptr l 0 ∷ [])) ∷ []) ∵
+      qed W (‵ (flft (ν ∷ []) fullShare)
+      ∷ ‵ (MutRef (named 0) (ν ∷ []) (Row VectorS) .own (ref VectorS l 0 γ d) (vptr l 0 ∷ []))
+      ∷ []) ∵
       -- the arguments
       had-others ! p $ move ! (2 ∷ 0 ∷ []) $ fjoin ! $
       -- the token
@@ -125,43 +137,69 @@ module _ {M : Type 1} (𝓤 : URA M) (H : Heap 𝓤) (A : Atoms 𝓤) (W : Given
   Ensures r x = (r ≡ out .updates) × (x ≡ out .depths)
 
   gives-lent : (l ν : ℕ) (γ : GName) (w : Val)
-      → ent 𝓤 (InPlace 𝓤 H A mem run .post (to-lent l ν γ) w) (H .⇛ (guard 𝓤 (Returned w) (sep 𝓤 (A .lft (ν ∷ []) fullShare) (A .res γ (Row VectorS .coded .code (out .depths))))))
+      → ent 𝓤 (InPlace 𝓤 H A mem run .post (to-lent l ν γ) w) (H .⇛ (guard 𝓤 (Returned w)
+      (sep 𝓤 (A .lft (ν ∷ []) fullShare) (A .res γ (Row VectorS .coded .code (out .depths))))))
   gives-lent l ν γ w =
       qed W (raw (InPlace 𝓤 H A mem run .post (to-lent l ν γ) w) ∷ []) ∵ updating ! $
-      use1 W (later (some (λ (r : ℕ). ((‵ (flft (ν ∷ []) fullShare) ⊛ ‵ ftrue) ⊛ ‵ (u32 .own r (w ∷ []))) ⊛ raw (ensured 𝓤 H A in-place.ended (in-place.clauses 𝓤 H A mem run) (ν ∷ [], tt) (lent-args l γ) tt r)))) (id⊢ 𝓤 _) $
+      use1 W (later (some (λ (r : ℕ).
+      ((‵ (flft (ν ∷ []) fullShare) ⊛ ‵ ftrue) ⊛ ‵ (u32 .own r (w ∷ [])))
+      ⊛ raw (ensured 𝓤 H A in-place.ended (in-place.clauses 𝓤 H A mem run) (ν ∷ [], tt)
+      (lent-args l γ) tt r)))) (id⊢ 𝓤 _) $
       await ! tt $ pick ! (λ r. split ! $ move ! (1 ∷ []) $
       -- the `ensures`, at some last contents of the reference
-      use1 W (some (λ (ws : Vector3 × (Unit {0} × (Unit {0} × (Unit {0} × Unit {0})))). ‵ (lasts in-place.ended (ν ∷ [], tt) (lent-args l γ) ws) ⊛ raw (fact 𝓤 (Ensures r (ws .0))))) (id⊢ 𝓤 _) $ pick ! (λ ws. split ! $ move ! (1 ∷ []) $
-      heard ! (Ensures r (ws .0)) (λ e. fsplit ! $ rewrite ! 0 (λ (x : Vector3). ‵ (fres γ (Row VectorS .coded .code x))) (e .1) refl $
+      use1 W (some (λ (ws : Vector3 × (Unit {0} × (Unit {0} × (Unit {0} × Unit {0})))).
+      ‵ (lasts in-place.ended (ν ∷ [], tt) (lent-args l γ) ws) ⊛ raw (fact 𝓤 (Ensures r (ws .0)))))
+      (id⊢ 𝓤 _) $
+      pick ! (λ ws. split ! $ move ! (1 ∷ []) $
+      heard ! (Ensures r (ws .0)) (λ e.
+      fsplit ! $
+      rewrite ! 0 (λ (x : Vector3). ‵ (fres γ (Row VectorS .coded .code x))) (e .1) refl $
       -- [what says the last contents; …; the token and the result]
-      move ! (2 ∷ []) $ split ! $ move ! (1 ∷ []) $ facts ! u32 (Is u32) (shows 𝓤 H A u32) r (w ∷ []) (λ is. split ! $
-      at-once ! $ check ! (ap only (is .0) ∙ ap (vint w32) (e .0), subst (λ (n : ℕ). n < 2 ^ 32) (e .0) (is .1)) $ keep ! (0 ∷ 2 ∷ []) $ done !))))
+      move ! (2 ∷ []) $
+      split ! $
+      move ! (1 ∷ []) $
+      facts ! u32 (Is u32) (shows 𝓤 H A u32) r (w ∷ []) (λ is. split ! $
+      at-once ! $
+      check !
+      (ap only (is .0) ∙ ap (vint w32) (e .0), subst (λ (n : ℕ). n < 2 ^ 32) (e .0) (is .1)) $
+      keep ! (0 ∷ 2 ∷ []) $
+      done !))))
 
   -- ---- exit: the definition's value, whole, is the result
   exits : Fit RefinedS out → ent 𝓤 (emp 𝓤) (Post (val RefinedS out))
   exits ok =
       qed W [] ∵
-      suffices ! _ (ends-at 𝓤 H A f.ended stayed (f.clauses 𝓤 H A mem run) W ((tt, tt, tt, args, (val VectorS d ∷ [], vals p)), tt) (val RefinedS out) out (tt, (tt, (tt, (tt, tt)))) (tt, (tt, (tt, (tt, tt))))) $
+      suffices ! _ (ends-at 𝓤 H A f.ended stayed (f.clauses 𝓤 H A mem run) W
+      ((tt, tt, tt, args, (val VectorS d ∷ [], vals p)), tt) (val RefinedS out) out
+      (tt, (tt, (tt, (tt, tt)))) (tt, (tt, (tt, (tt, tt))))) $
       says ! refl $ nothing ! $ frame ! $
       -- the parameters
       had-others ! p $ had ! VectorS d d-fits $ fjoin ! $
       -- the result
       had ! RefinedS out ok $ move ! (1 ∷ 0 ∷ []) $ done !
 
-  module _ (C : Calls 𝓤 H) (Λ : Loops 𝓤 H) (fm : FmC 𝓤 H (W .laws) C) (known : Triple 𝓤 (C #in-place) (InPlace 𝓤 H A mem run)) where
+  module _ (C : Calls 𝓤 H) (Λ : Loops 𝓤 H) (fm : FmC 𝓤 H (W .laws) C)
+      (known : Triple 𝓤 (C #in-place) (InPlace 𝓤 H A mem run)) where
     -- ---- the statements. In the comments `…` is what frees the local before it
-    walk : ent 𝓤 (onEntry 𝓤 H A f.signature tt tt args (val VectorS d ∷ [], vals p)) (WpFn 𝓤 H C Λ code.function passed Post)
+    walk :
+        ent 𝓤 (onEntry 𝓤 H A f.signature tt tt args (val VectorS d ∷ [], vals p))
+        (WpFn 𝓤 H C Λ code.function passed Post)
     walk =
         via 𝓤 _ at-entry (qed W [] ∵
         -- the nine locals are allocated, the last in front, and the arguments stored in _1 to _4
         enter ! C Λ code.function passed _ $
-        alloc1 ! (λ l₀. alloc1 ! (λ l₁. alloc1 ! (λ l₂. alloc1 ! (λ l₃. alloc1 ! (λ l₄. alloc1 ! (λ l₅. alloc1 ! (λ l₆. alloc1 ! (λ l₇. alloc1 ! (λ l₈. alloc0 ! $ params1 ! $
-        pass1 ! (init ! 14 refl (typed VectorS 𝓤 H A W d d-fits)) $ pass1 ! (init ! 12 refl (typed EdgesS 𝓤 H A W (p .edges) (p .edges-fit))) $
-        pass1 ! (init ! 10 refl (typed CosinesS 𝓤 H A W (p .cosines) (p .cosines-fit))) $ pass1 ! (init ! 8 refl (tt, record { fits = p .iterations-fit })) $ pass0 ! $
+        alloc1 ! (λ l₀. alloc1 ! (λ l₁. alloc1 ! (λ l₂. alloc1 ! (λ l₃. alloc1 ! (λ l₄.
+        alloc1 ! (λ l₅. alloc1 ! (λ l₆. alloc1 ! (λ l₇. alloc1 ! (λ l₈. alloc0 ! $ params1 ! $
+        pass1 ! (init ! 14 refl (typed VectorS 𝓤 H A W d d-fits)) $
+        pass1 ! (init ! 12 refl (typed EdgesS 𝓤 H A W (p .edges) (p .edges-fit))) $
+        pass1 ! (init ! 10 refl (typed CosinesS 𝓤 H A W (p .cosines) (p .cosines-fit))) $
+        pass1 ! (init ! 8 refl (tt, record { fits = p .iterations-fit })) $
+        pass0 ! $
         -- [0 room for _8; …; 2 room for _7; …; 4 room for _6; …; 6 room for _5; …; 8 _4; …; 10 _3;
         -- …; 12 _2; …; 14 _1; …; 16 room for _0; …]
         -- _5 = _1;  _7 = &mut _5
-        assigns ! (of-opd ! (load ! (from ! (stop !)) (look ! 14 refl))) (from ! (stop !)) (init ! 6 refl (typed VectorS 𝓤 H A W d d-fits)) $
+        assigns ! (of-opd ! (load ! (from ! (stop !)) (look ! 14 refl))) (from ! (stop !))
+        (init ! 6 refl (typed VectorS 𝓤 H A W d d-fits)) $
         assigns ! (addr ! (from ! (stop !))) (from ! (stop !)) (init ! 2 refl (tt, tt)) $
         -- a lifetime ν is made, and the cell of _5 is lent for it
         lft-new ! tt (λ ν. move ! (7 ∷ []) $ lends-local ! tt VectorS (ν ∷ []) d d-fits l₅ (λ γ.
@@ -169,31 +207,49 @@ module _ {M : Type 1} (𝓤 : URA M) (H : Heap 𝓤) (A : Atoms 𝓤) (W : Given
         -- _6; …; 9 … of _5; 10 _4; …; 12 _3; …; 14 _2; …; 16 _1; …; 18 room for _0; …]
         -- _6 = refine_depths_in_place(_7, _2, _3, _4): what it asks takes the place of the
         -- reference and the token, so each local stands one nearer
-        move ! (2 ∷ 0 ∷ []) $ use2 W (raw (InPlace 𝓤 H A mem run .pre (to-lent l₅ ν γ))) (goes-lent l₅ ν γ) $
+        move ! (2 ∷ 0 ∷ []) $
+        use2 W (raw (InPlace 𝓤 H A mem run .pre (to-lent l₅ ν γ))) (goes-lent l₅ ν γ) $
         calls-at ! fm (InPlace 𝓤 H A mem run) known (to-lent l₅ ν γ)
-        (and-then ! (load ! (from ! (stop !)) (look ! 4 refl)) (and-then ! (load ! (from ! (stop !)) (look ! 13 refl)) (and-then ! (load ! (from ! (stop !)) (look ! 11 refl)) (and-then ! (load ! (from ! (stop !)) (look ! 9 refl)) (no-more !))))) (λ w.
-        use1 W (later (given (Returned w) (‵ (flft (ν ∷ []) fullShare) ⊛ ‵ (fres γ (Row VectorS .coded .code (out .depths)))))) (gives-lent l₅ ν γ w) $ await ! tt $ learn ! (λ ret. split ! $
+        (and-then ! (load ! (from ! (stop !)) (look ! 4 refl)) (and-then
+        ! (load ! (from ! (stop !)) (look ! 13 refl)) (and-then
+        ! (load ! (from ! (stop !)) (look ! 11 refl))
+        (and-then ! (load ! (from ! (stop !)) (look ! 9 refl)) (no-more !))))) (λ w.
+        use1 W (later (given (Returned w)
+        (‵ (flft (ν ∷ []) fullShare) ⊛ ‵ (fres γ (Row VectorS .coded .code (out .depths))))))
+        (gives-lent l₅ ν γ w) $
+        await ! tt $
+        learn ! (λ ret. split ! $
         -- [0 the token; 1 what says the last contents; 2 the lender's part; 3 room for _8; …; 5 _7;
         -- …; 7 room for _6; …]
-        land ! (from ! (stop !)) (init ! 7 refl (subst (λ (v : Val). Holds (hasTy (tyInt w32) v) × WT v) (sym (ret .0)) (tt, record { fits = ret .1 }))) $
+        land ! (from ! (stop !)) (init ! 7 refl (subst
+        (λ (v : Val). Holds (hasTy (tyInt w32) v) × WT v)
+        (sym (ret .0)) (tt, record { fits = ret .1 }))) $
         rewrite ! 7 (λ (v : Val). ‵ (fat fullShare (tyInt w32) l₆ 0 v)) (ret .0) refl $
         -- ν is ended, and the cell of _5 is back, with the last contents
-        lft-end ! tt $ move ! (0 ∷ 2 ∷ 1 ∷ []) $ local-back ! tt VectorS (ν ∷ []) (out .depths) l₅ (λ depths-fit.
+        lft-end ! tt $
+        move ! (0 ∷ 2 ∷ 1 ∷ []) $
+        local-back ! tt VectorS (ν ∷ []) (out .depths) l₅ (λ depths-fit.
         -- [0 _5; 1 room for _8; …; 3 _7; …; 5 _6; …; 7 … of _5; 8 _4; …; 10 _3; …; 12 _2; …; 14 _1;
         -- …; 16 room for _0; …]
         -- _8 = _5;  _0 = Refined { _8, _6 }
-        assigns ! (of-opd ! (load ! (from ! (stop !)) (look ! 0 refl))) (from ! (stop !)) (init ! 1 refl (typed VectorS 𝓤 H A W (out .depths) depths-fit)) $
-        assigns ! (agg ! (and-then ! (load ! (from ! (stop !)) (look ! 1 refl)) (and-then ! (load ! (from ! (stop !)) (look ! 5 refl)) (no-more !)))) (from ! (stop !))
+        assigns ! (of-opd ! (load ! (from ! (stop !)) (look ! 0 refl))) (from ! (stop !))
+        (init ! 1 refl (typed VectorS 𝓤 H A W (out .depths) depths-fit)) $
+        assigns ! (agg ! (and-then ! (load ! (from ! (stop !)) (look ! 1 refl))
+        (and-then ! (load ! (from ! (stop !)) (look ! 5 refl)) (no-more !)))) (from ! (stop !))
         (init ! 16 refl (typed RefinedS 𝓤 H A W out (refined-fits out depths-fit (ret .1)))) $
         -- the result is read, and the locals are freed, _0 first
         returns ! (look ! 16 refl) $
-        forget ! 0 refl $ forget ! 1 refl $ forget ! 3 refl $ forget ! 5 refl $ forget ! 8 refl $ forget ! 10 refl $ forget ! 12 refl $ forget ! 14 refl $ forget ! 16 refl $
-        move ! (16 ∷ 17 ∷ []) $ free1 ! $ move ! (14 ∷ 15 ∷ []) $ free1 ! $ move ! (12 ∷ 13 ∷ []) $ free1 ! $ move ! (10 ∷ 11 ∷ []) $ free1 ! $ move ! (8 ∷ 9 ∷ []) $ free1 ! $
-        move ! (0 ∷ 7 ∷ []) $ free1 ! $ move ! (4 ∷ 5 ∷ []) $ free1 ! $ move ! (2 ∷ 3 ∷ []) $ free1 ! $ free1 ! $ free0 ! $
+        forget ! 0 refl $ forget ! 1 refl $ forget ! 3 refl $ forget ! 5 refl $ forget ! 8 refl $
+        forget ! 10 refl $ forget ! 12 refl $ forget ! 14 refl $ forget ! 16 refl $
+        move ! (16 ∷ 17 ∷ []) $ free1 ! $ move ! (14 ∷ 15 ∷ []) $ free1 ! $ move ! (12 ∷ 13 ∷ []) $
+        free1 ! $ move ! (10 ∷ 11 ∷ []) $ free1 ! $ move ! (8 ∷ 9 ∷ []) $ free1 ! $
+        move ! (0 ∷ 7 ∷ []) $ free1 ! $ move ! (4 ∷ 5 ∷ []) $ free1 ! $ move ! (2 ∷ 3 ∷ []) $
+        free1 ! $ free1 ! $ free0 ! $
         by ! (exits (refined-fits out depths-fit (ret .1))))))))))))))))))
 
 -- ---- from the walk to the contract
-module _ {M : Type 1} (𝓤 : URA M) (H : Heap 𝓤) (A : Atoms 𝓤) (W : Given 𝓤 H A) (mem : Memory → SProp 𝓤) (run : Routine → Fun 𝓤) where
+module _ {M : Type 1} (𝓤 : URA M) (H : Heap 𝓤) (A : Atoms 𝓤) (W : Given 𝓤 H A)
+    (mem : Memory → SProp 𝓤) (run : Routine → Fun 𝓤) where
   here-walks : (C : Calls 𝓤 H) (Λ : Loops 𝓤 H)
       → FmC 𝓤 H (W .laws) C
       → Triple 𝓤 (C #in-place) (InPlace 𝓤 H A mem run)

@@ -18,7 +18,7 @@ loop-again c = ⊎-elim (λ w. omega arith) (λ w. omega arith) (c .match .came)
 
 pub compare-spec : {M : Type 1} → statement M
 compare-spec =
-    tie.close (tie.spec Inv-loop μ-loop (λ c _. search needs) (λ c _. search needs) (λ c. search needs) (λ c. search needs)
-    (λ c _. search needs) (λ c. search needs) (λ c. search needs) (λ c. search needs) (λ c. search needs)
-    (λ c. search needs) (λ c. search needs) loop-again (λ c _. search needs) (λ c _. search needs)
-    (λ c. search needs))
+    tie.close (tie.spec Inv-loop μ-loop (λ c _. search needs) (λ c _. search needs)
+    (λ c. search needs) (λ c. search needs) (λ c _. search needs) (λ c. search needs)
+    (λ c. search needs) (λ c. search needs) (λ c. search needs) (λ c. search needs)
+    (λ c. search needs) loop-again (λ c _. search needs) (λ c _. search needs) (λ c. search needs))

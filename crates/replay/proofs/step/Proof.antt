@@ -11,5 +11,6 @@ slice-aggregate-read-full c = sym (length-take-le _ _ (search needs))
 
 pub step-spec : {M : Type 1} → statement M
 step-spec =
-    tie.close (tie.spec (λ c _. search needs) (λ c. search needs) slice-aggregate-read-full (λ c _. search needs)
-    (λ c. search needs) (λ c. search needs) (λ c _. search needs) (λ c. search needs) (λ c. search needs))
+    tie.close (tie.spec (λ c _. search needs) (λ c. search needs) slice-aggregate-read-full
+    (λ c _. search needs) (λ c. search needs) (λ c. search needs) (λ c _. search needs)
+    (λ c. search needs) (λ c. search needs))

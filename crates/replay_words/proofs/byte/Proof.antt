@@ -36,4 +36,5 @@ returns-3 c =
 
 pub byte-spec : {M : Type 1} → statement M
 byte-spec =
-    tie.close (tie.spec (λ c. search needs) (λ c. search needs) (λ c. search needs) cast-result returns returns-2 returns-3)
+    tie.close (tie.spec (λ c. search needs) (λ c. search needs) (λ c. search needs) cast-result
+    returns returns-2 returns-3)

@@ -8,15 +8,25 @@ returns : tie.Need-returns
 unfolding chart
 returns c =
     let tested = c .before in
-    rw (← tested .before .before .abs .ensures, ← tested .before .abs2 .ensures, tested .if1 .taken, ← c .first-chart .ensures)
+    rw (
+      ← tested .before .before .abs .ensures,
+      ← tested .before .abs2 .ensures,
+      tested .if1 .taken,
+      ← c .first-chart .ensures,
+    )
 
 returns-2 : tie.Need-returns-2
 unfolding chart
 returns-2 c =
     let tested = c .before in
-    rw (← tested .before .before .abs .ensures, ← tested .before .abs2 .ensures, tested .if1 .left, ← c .second-chart .ensures)
+    rw (
+      ← tested .before .before .abs .ensures,
+      ← tested .before .abs2 .ensures,
+      tested .if1 .left,
+      ← c .second-chart .ensures,
+    )
 
 pub chart-spec : {M : Type 1} → statement M
 chart-spec =
-    tie.close (tie.spec (λ c _. search needs) (λ c _. search needs) (λ c _. search needs) returns (λ c _. search needs)
-    returns-2)
+    tie.close (tie.spec (λ c _. search needs) (λ c _. search needs) (λ c _. search needs) returns
+    (λ c _. search needs) returns-2)

@@ -10,5 +10,5 @@ returns c = cc
 
 pub coefficient-scale-spec : {M : Type 1} → statement M
 coefficient-scale-spec =
-    tie.close (tie.spec (λ c _. search needs) (λ c _. search needs) (λ c _. search needs) (λ c _. search needs)
-    (λ c _. search needs) (λ c _. search needs) (λ c _. search needs) returns)
+    tie.close (tie.spec (λ c _. search needs) (λ c _. search needs) (λ c _. search needs)
+    (λ c _. search needs) (λ c _. search needs) (λ c _. search needs) (λ c _. search needs) returns)

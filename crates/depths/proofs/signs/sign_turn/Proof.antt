@@ -10,5 +10,5 @@ returns c = cc
 
 pub sign-turn-spec : {M : Type 1} → statement M
 sign-turn-spec =
-    tie.close (tie.spec (λ c _. search needs) (λ c _. search needs) (λ c _. search needs) (λ c _. search needs)
-    (λ c _. search needs) returns)
+    tie.close (tie.spec (λ c _. search needs) (λ c _. search needs) (λ c _. search needs)
+    (λ c _. search needs) (λ c _. search needs) returns)

@@ -10,5 +10,5 @@ returns c = cc
 
 pub world-at-spec : {M : Type 1} → statement M
 world-at-spec =
-    tie.close (tie.spec (λ c _. search needs) (λ c. search needs) (λ c _. search needs) (λ c. search needs)
-    (λ c _. search needs) returns)
+    tie.close (tie.spec (λ c _. search needs) (λ c. search needs) (λ c _. search needs)
+    (λ c. search needs) (λ c _. search needs) returns)

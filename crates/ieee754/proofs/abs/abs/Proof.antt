@@ -19,7 +19,10 @@ float-to-bits-result : tie.Need-float-to-bits-result
 float-to-bits-result c = not-nan (c .before .args .x) (c .if1 .left)
 
 float-from-bits-result : tie.Need-float-from-bits-result
-float-from-bits-result c = let x = c .before .args .x in no-nan binary64 _ (in-range binary64 x (passes _ (c .before .good .0 .1)) (not-nan x (c .if1 .left)))
+float-from-bits-result c =
+    let x = c .before .args .x in
+    no-nan binary64 _
+    (in-range binary64 x (passes _ (c .before .good .0 .1)) (not-nan x (c .if1 .left)))
 
 returns-2 : tie.Need-returns-2
 returns-2 c = abs-bits binary64 (c .before .args .x) (passes _ (c .before .good .0 .1))

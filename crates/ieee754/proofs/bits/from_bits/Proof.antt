@@ -11,10 +11,15 @@ use Rattle.ieee754.proofs.bits.from_bits.Statement.{statement}
 use Rattle.ieee754.proofs.bits.from_bits.Tie as tie
 
 returns : tie.Need-returns
-returns c = zero-over-zero ∙ sym (nan-of _ (ne-self _ ∙ sym (nanBits-is binary64 (c .before .args .pattern)) ∙ nanBits-above binary64 (c .before .args .pattern) ∙ lt-ltb _ _ (c .if1 .taken)))
+returns c =
+    zero-over-zero
+    ∙ sym (nan-of _
+    (ne-self _ ∙ sym (nanBits-is binary64 (c .before .args .pattern)) ∙
+    nanBits-above binary64 (c .before .args .pattern) ∙ lt-ltb _ _ (c .if1 .taken)))
 
 float-from-bits-result : tie.Need-float-from-bits-result
-float-from-bits-result c = rw (nanBits-above binary64 (c .before .args .pattern)) (le→nltb _ _ (c .if1 .left))
+float-from-bits-result c =
+    rw (nanBits-above binary64 (c .before .args .pattern)) (le→nltb _ _ (c .if1 .left))
 
 pub from-bits-spec : {M : Type 1} → statement M
 from-bits-spec =

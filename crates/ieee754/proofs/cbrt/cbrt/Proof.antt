@@ -21,7 +21,8 @@ cbrt-finite-requires : tie.Need-cbrt-finite-requires
 cbrt-finite-requires c κs = answered (c .before .is-finite .ensures) (c .if1 .taken)
 
 returns-2 : tie.Need-returns-2
-returns-2 c = itself (c .before .before .args .x) (denied (c .before .is-finite .ensures) (c .if1 .left))
+returns-2 c =
+    itself (c .before .before .args .x) (denied (c .before .is-finite .ensures) (c .if1 .left))
 
 pub cbrt-spec : {M : Type 1} → statement M
 cbrt-spec =

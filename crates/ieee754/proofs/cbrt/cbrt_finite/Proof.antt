@@ -13,10 +13,13 @@ returns : tie.Need-returns
 returns c =
     let u = c .before .before in
     let a = u .unpack .result in
-    cbrt-zero (u .before .args .x) (a .negative) (a .sig * 2 ^ a .exp) (2 ^ 1074) (ap (λ (m : ℕ). m * 2 ^ a .exp) (c .if1 .taken) ∙ zero-mul (2 ^ a .exp)) (lit< tt) (u .unpack .ensures .is)
+    cbrt-zero (u .before .args .x) (a .negative) (a .sig * 2 ^ a .exp) (2 ^ 1074)
+    (ap (λ (m : ℕ). m * 2 ^ a .exp) (c .if1 .taken) ∙ zero-mul (2 ^ a .exp)) (lit< tt)
+    (u .unpack .ensures .is)
 
 normalise-requires : tie.Need-normalise-requires
-normalise-requires c κs = (c .before .before .unpack .ensures .digits, pos-of-ne-zero (c .if1 .left))
+normalise-requires c κs =
+    (c .before .before .unpack .ensures .digits, pos-of-ne-zero (c .if1 .left))
 
 returns-2 : tie.Need-returns-2
 returns-2 c =
@@ -28,8 +31,11 @@ returns-2 c =
     let a = u .unpack .result in
     let is = u .unpack .ensures .is in
     c .scaled .ensures
-    ∙ sym (cbrt-of x (a .negative) (n .result .sig * 2 ^ n .result .exp) (2 ^ 1126) (normal-pos x (a .negative) (a .sig) (a .exp) (n .result) is (n .ensures)) (lit< tt) (normal-value x (a .negative) (a .sig) (a .exp) (n .result) is (n .ensures)))
+    ∙ sym (cbrt-of x (a .negative) (n .result .sig * 2 ^ n .result .exp) (2 ^ 1126)
+    (normal-pos x (a .negative) (a .sig) (a .exp) (n .result) is (n .ensures)) (lit< tt)
+    (normal-value x (a .negative) (a .sig) (a .exp) (n .result) is (n .ensures)))
 
 pub cbrt-finite-spec : {M : Type 1} → statement M
 cbrt-finite-spec =
-    tie.close (tie.spec (λ c _. search needs) returns normalise-requires (λ c _. search needs) returns-2)
+    tie.close (tie.spec (λ c _. search needs) returns normalise-requires (λ c _. search needs)
+    returns-2)

@@ -21,11 +21,15 @@ plus (inf s) y h = rw h
 plus (fin s m e) y h = rw h
 
 returns : tie.Need-returns
-returns c = ap neg (c .abs .ensures) ∙ minus _ _ (sym (c .before .before .negative .ensures) ∙ c .before .if1 .taken)
+returns c =
+    ap neg (c .abs .ensures)
+    ∙ minus _ _ (sym (c .before .before .negative .ensures) ∙ c .before .if1 .taken)
 
 returns-2 : tie.Need-returns-2
-returns-2 c = c .abs2 .ensures ∙ plus _ _ (sym (c .before .before .negative .ensures) ∙ c .before .if1 .left)
+returns-2 c =
+    c .abs2 .ensures ∙ plus _ _ (sym (c .before .before .negative .ensures) ∙ c .before .if1 .left)
 
 pub copysign-spec : {M : Type 1} → statement M
 copysign-spec =
-    tie.close (tie.spec (λ c _. search needs) (λ c _. search needs) (λ c _. search needs) returns returns-2)
+    tie.close (tie.spec (λ c _. search needs) (λ c _. search needs) (λ c _. search needs) returns
+    returns-2)

@@ -16,7 +16,9 @@ float-to-bits-result : tie.Need-float-to-bits-result
 float-to-bits-result c = not-nan (c .before .args .y) (c .if1 .left)
 
 returns-2 : tie.Need-returns-2
-returns-2 c = let y = c .before .args .y in negative-bits binary64 y (passes _ (c .before .good .0 .1)) (not-nan y (c .if1 .left))
+returns-2 c =
+    let y = c .before .args .y in
+    negative-bits binary64 y (passes _ (c .before .good .0 .1)) (not-nan y (c .if1 .left))
 
 pub negative-spec : {M : Type 1} → statement M
 negative-spec = tie.close (tie.spec returns float-to-bits-result returns-2)

@@ -37,18 +37,23 @@ factor (fin s m e) (fin t n d) z a = absurd a
 
 -- what is known where all three were asked
 x-finite : (c : tie.After-is-finite3)
-    → let second = c .before .before in let first = second .before .before in T (finite (first .before .args .x))
+    → let second = c .before .before in
+    let first = second .before .before in T (finite (first .before .args .x))
 x-finite c =
     let after-is-finite2 = c .before .before in
     let then1 = after-is-finite2 .before in
     answered (then1 .before .is-finite .ensures) (then1 .if1 .taken)
 
 y-finite : (c : tie.After-is-finite3)
-    → let second = c .before .before in let first = second .before .before in T (finite (first .before .args .y))
+    → let second = c .before .before in
+    let first = second .before .before in T (finite (first .before .args .y))
 y-finite c = answered (c .before .before .is-finite2 .ensures) (c .before .if2 .taken)
 
 fma-finite-requires : tie.Need-fma-finite-requires
-fma-finite-requires c κs = (x-finite (c .before), (y-finite (c .before), answered (c .before .is-finite3 .ensures) (c .if3 .taken)))
+fma-finite-requires c κs = (
+  x-finite (c .before),
+  (y-finite (c .before), answered (c .before .is-finite3 .ensures) (c .if3 .taken)),
+)
 
 returns-2 : tie.Need-returns-2
 returns-2 c =
@@ -56,7 +61,8 @@ returns-2 c =
     let after-is-finite2 = after-is-finite3 .before .before in
     let after-is-finite = after-is-finite2 .before .before in
     let s = after-is-finite .before in
-    addend (s .args .x) (s .args .y) (s .args .z) (x-finite after-is-finite3) (y-finite after-is-finite3) (denied (after-is-finite3 .is-finite3 .ensures) (c .if3 .left))
+    addend (s .args .x) (s .args .y) (s .args .z) (x-finite after-is-finite3)
+    (y-finite after-is-finite3) (denied (after-is-finite3 .is-finite3 .ensures) (c .if3 .left))
 
 returns-3 : tie.Need-returns-3
 returns-3 c =
@@ -65,9 +71,10 @@ returns-3 c =
     let y = s .args .y in
     factor x y (s .args .z)
     (⊎-elim (λ w. not-both-right (finite x) (finite y) (denied (w .1 .ensures) (w .2 .left)))
-    (λ w. not-both-left (finite x) (finite y) (denied (c .before .is-finite .ensures) (w .left))) (c .if1 .came))
+    (λ w. not-both-left (finite x) (finite y) (denied (c .before .is-finite .ensures) (w .left)))
+    (c .if1 .came))
 
 pub fma-spec : {M : Type 1} → statement M
 fma-spec =
-    tie.close (tie.spec (λ c _. search needs) (λ c _. search needs) (λ c _. search needs) fma-finite-requires
-    (λ c. search needs) returns-2 returns-3)
+    tie.close (tie.spec (λ c _. search needs) (λ c _. search needs) (λ c _. search needs)
+    fma-finite-requires (λ c. search needs) returns-2 returns-3)

@@ -30,16 +30,20 @@ cross-product : (X Y a b Dx Dy Dz L W : ℕ)
     → Y * L ≡ b * Dy
     → X * Y * Dz * (L * L * W) ≡ a * b * W * (Dx * Dy * Dz)
 cross-product X Y a b Dx Dy Dz L W x y =
-    let before : X * Y * Dz * (L * L * W) ≡ X * L * (Y * L) * (Dz * W) = simp (mul-assoc, mul-left-comm) in
-    let after : a * Dx * (b * Dy) * (Dz * W) ≡ a * b * W * (Dx * Dy * Dz) = simp (mul-assoc, mul-comm, mul-left-comm) in
+    let before : X * Y * Dz * (L * L * W) ≡ X * L * (Y * L) * (Dz * W) =
+    simp (mul-assoc, mul-left-comm) in
+    let after : a * Dx * (b * Dy) * (Dz * W) ≡ a * b * W * (Dx * Dy * Dz) =
+    simp (mul-assoc, mul-comm, mul-left-comm) in
     before ∙ ap₂ (λ (u v : ℕ). u * v * (Dz * W)) x y ∙ after
 
 cross-addend : (Z c Dx Dy Dz L W : ℕ)
     → Z * L ≡ c * Dz
     → Z * (Dx * Dy) * (L * W) ≡ c * W * (Dx * Dy * Dz)
 cross-addend Z c Dx Dy Dz L W z =
-    let before : Z * (Dx * Dy) * (L * W) ≡ Z * L * (Dx * Dy * W) = simp (mul-assoc, mul-left-comm) in
-    let after : c * Dz * (Dx * Dy * W) ≡ c * W * (Dx * Dy * Dz) = simp (mul-assoc, mul-comm, mul-left-comm) in
+    let before : Z * (Dx * Dy) * (L * W) ≡ Z * L * (Dx * Dy * W) =
+    simp (mul-assoc, mul-left-comm) in
+    let after : c * Dz * (Dx * Dy * W) ≡ c * W * (Dx * Dy * Dz) =
+    simp (mul-assoc, mul-comm, mul-left-comm) in
     before ∙ ap (λ (u : ℕ). u * (Dx * Dy * W)) z ∙ after
 
 same : (x y z : Float) (s t u : Bool) (a b c : ℕ)
@@ -60,8 +64,11 @@ same (fin s' m e) (fin t' n d) (fin u' k g) s t u a b c p q r =
     let Z = k * up g in
     let D = down e * down d * down g in
     sym
-    ((λ i. sum binary64 (unlike (p .0 i) (q .0 i)) (X * Y * down g) (r .0 i) (Z * (down e * down d)) D)
-    ∙ sum-same binary64 (unlike s t) (X * Y * down g) u (Z * (down e * down d)) D (a * b * 2 ^ 18) (c * 2 ^ 1092) (2 ^ 2166) (mul-pos (mul-pos (down-pos e) (down-pos d)) (down-pos g)) (pow-pos 2166)
+    ((λ i.
+    sum binary64 (unlike (p .0 i) (q .0 i)) (X * Y * down g) (r .0 i) (Z * (down e * down d)) D)
+    ∙ sum-same binary64 (unlike s t) (X * Y * down g) u (Z * (down e * down d)) D (a * b * 2 ^ 18)
+    (c * 2 ^ 1092) (2 ^ 2166) (mul-pos (mul-pos (down-pos e) (down-pos d)) (down-pos g))
+    (pow-pos 2166)
     (cross-product X Y a b (down e) (down d) (down g) (2 ^ 1074) (2 ^ 18) (p .1) (q .1))
     (cross-addend Z c (down e) (down d) (down g) (2 ^ 1074) (2 ^ 1092) (r .1)))
 
@@ -73,7 +80,8 @@ regroup : (m n a x y w : ℕ) → a * a ≡ w → m * a * (n * a) * (x * y) ≡ 
 regroup m n a x y w e = rw (← e) (simp (mul-assoc, mul-comm, mul-left-comm))
 
 at-exponent : (m n x y : ℕ) → moved m n * 2 ^ (x + y) ≡ m * 2 ^ x * (n * 2 ^ y) * 2 ^ 18
-at-exponent m n x y = ap (λ (e : ℕ). moved m n * e) (pow-add 2 x y) ∙ regroup m n 512 (2 ^ x) (2 ^ y) (2 ^ 18) refl
+at-exponent m n x y =
+    ap (λ (e : ℕ). moved m n * e) (pow-add 2 x y) ∙ regroup m n 512 (2 ^ x) (2 ^ y) (2 ^ 18) refl
 
 moved-comm : (m n : ℕ) → moved m n ≡ moved n m
 moved-comm m n = mul-comm (m * 512) (n * 512)
@@ -82,7 +90,9 @@ moved-comm m n = mul-comm (m * 512) (n * 512)
 one-full : (m n : ℕ) → 2 ^ 52 ≤ m → moved m n < 2 ^ 64 → moved m n ≡ 0
 one-full m n h l =
     ⊎-elim (λ (z : n < 1). ap (moved m) (lt-one z) ∙ mul-zero (m * 512))
-    (λ (g : 1 ≤ n). absurd (not-le-of-lt l (le-trans (lit≤ {m = 2 ^ 64} {n = 2 ^ 70} tt) (mul-le-mul (mul-le-mul-right 512 h) (mul-le-mul-right 512 g))))) (lt-or-ge n 1)
+    (λ (g : 1 ≤ n).
+    absurd (not-le-of-lt l (le-trans (lit≤ {m = 2 ^ 64} {n = 2 ^ 70} tt)
+    (mul-le-mul (mul-le-mul-right 512 h) (mul-le-mul-right 512 g))))) (lt-or-ge n 1)
 
 small : (m n x y : ℕ)
     → (0 < x → 2 ^ 52 ≤ m)
@@ -90,10 +100,13 @@ small : (m n x y : ℕ)
     → moved m n < 2 ^ 64
     → moved m n * 2 ^ 0 ≡ moved m n * 2 ^ (x + y)
 small m n x y f g l =
-    let none : moved m n ≡ 0 → moved m n * 2 ^ 0 ≡ moved m n * 2 ^ (x + y) = λ z. rw z (sym (zero-mul (2 ^ (x + y)))) in
+    let none : moved m n ≡ 0 → moved m n * 2 ^ 0 ≡ moved m n * 2 ^ (x + y) =
+    λ z. rw z (sym (zero-mul (2 ^ (x + y)))) in
     ⊎-elim (λ (a : x < 1).
     ⊎-elim (λ (b : y < 1). let e : 0 ≡ x + y = omega arith in ap (λ (z : ℕ). moved m n * 2 ^ z) e)
-    (λ (b : 0 < y). none (moved-comm m n ∙ one-full n m (g b) (subst (λ (p : ℕ). p < 2 ^ 64) (moved-comm m n) l))) (lt-or-ge y 1))
+    (λ (b : 0 < y).
+    none (moved-comm m n ∙ one-full n m (g b) (subst (λ (p : ℕ). p < 2 ^ 64) (moved-comm m n) l)))
+    (lt-or-ge y 1))
     (λ (a : 0 < x). none (one-full m n (f a) l)) (lt-or-ge x 1)
 
 -- so whatever exponent e `product_exp` gives, the value is the same
@@ -105,22 +118,37 @@ product-is : (m n x y p e : ℕ)
     → (2 ^ 64 ≤ p → e ≡ x + y)
     → p * 2 ^ e ≡ m * 2 ^ x * (n * 2 ^ y) * 2 ^ 18
 product-is m n x y p e f g h a b =
-    ⊎-elim (λ (l : p < 2 ^ 64). ap₂ (λ (u v : ℕ). u * 2 ^ v) h (a l) ∙ small m n x y f g (subst (λ (u : ℕ). u < 2 ^ 64) h l) ∙ at-exponent m n x y)
-    (λ (l : 2 ^ 64 ≤ p). ap₂ (λ (u v : ℕ). u * 2 ^ v) h (b l) ∙ at-exponent m n x y) (lt-or-ge p (2 ^ 64))
+    ⊎-elim (λ (l : p < 2 ^ 64).
+    ap₂ (λ (u v : ℕ). u * 2 ^ v) h (a l)
+    ∙ small m n x y f g (subst (λ (u : ℕ). u < 2 ^ 64) h l)
+    ∙ at-exponent m n x y)
+    (λ (l : 2 ^ 64 ≤ p). ap₂ (λ (u v : ℕ). u * 2 ^ v) h (b l) ∙ at-exponent m n x y)
+    (lt-or-ge p (2 ^ 64))
 
 -- and what `add_leading` asks of it holds
-module _ (m n x y p e : ℕ) (h : p ≡ moved m n) (a : p < 2 ^ 64 → e ≡ 0) (b : 2 ^ 64 ≤ p → e ≡ x + y) where
+module _ (m n x y p e : ℕ) (h : p ≡ moved m n) (a : p < 2 ^ 64 → e ≡ 0)
+    (b : 2 ^ 64 ≤ p → e ≡ x + y) where
   short : m < 2 ^ 53 → n < 2 ^ 53 → p < 2 ^ 124
   short k l = subst (λ (u : ℕ). u < 2 ^ 124) (sym h) (product-lt 62 62 (omega arith) (omega arith))
 
   full : 0 < e → 2 ^ 64 ≤ p
-  full z = ⊎-elim (λ (l : p < 2 ^ 64). absurd (let y = a l in omega arith)) (λ g. g) (lt-or-ge p (2 ^ 64))
+  full z =
+      ⊎-elim (λ (l : p < 2 ^ 64). absurd (let y = a l in omega arith))
+      (λ g. g)
+      (lt-or-ge p (2 ^ 64))
 
   within : x ≤ 2045 → y ≤ 2045 → e ≤ 4090
-  within k l = ⊎-elim (λ (z : p < 2 ^ 64). let f = a z in omega arith) (λ (z : 2 ^ 64 ≤ p). let f = b z in omega arith) (lt-or-ge p (2 ^ 64))
+  within k l =
+      ⊎-elim (λ (z : p < 2 ^ 64). let f = a z in omega arith)
+      (λ (z : 2 ^ 64 ≤ p). let f = b z in omega arith)
+      (lt-or-ge p (2 ^ 64))
 
   even : p % 2 ≡ 0
-  even = let f : n * 512 ≡ n * 256 * 2 = omega arith in ap (λ (u : ℕ). u % 2) (h ∙ ap (λ (u : ℕ). m * 512 * u) f ∙ sym (mul-assoc (m * 512) (n * 256) 2)) ∙ mul-mod-left (m * 512 * (n * 256)) 2
+  even =
+      let f : n * 512 ≡ n * 256 * 2 = omega arith in
+      ap (λ (u : ℕ). u % 2)
+      (h ∙ ap (λ (u : ℕ). m * 512 * u) f ∙ sym (mul-assoc (m * 512) (n * 256) 2))
+      ∙ mul-mod-left (m * 512 * (n * 256)) 2
 
 add-leading-requires : tie.Need-add-leading-requires
 add-leading-requires c κs =
@@ -140,9 +168,13 @@ add-leading-requires c κs =
     let y = b .result .exp in
     let f = g .product .ensures in (
       record {
-        short = short m n x y p (e .result) f (e .ensures .0) (e .ensures .1) (a .ensures .digits .short) (b .ensures .digits .short);
+        short =
+            short m n x y p (e .result) f (e .ensures .0) (e .ensures .1)
+            (a .ensures .digits .short) (b .ensures .digits .short);
         full = full m n x y p (e .result) f (e .ensures .0) (e .ensures .1);
-        within = within m n x y p (e .result) f (e .ensures .0) (e .ensures .1) (a .ensures .digits .within) (b .ensures .digits .within);
+        within =
+            within m n x y p (e .result) f (e .ensures .0) (e .ensures .1)
+            (a .ensures .digits .within) (b .ensures .digits .within);
         even = even m n x y p (e .result) f (e .ensures .0) (e .ensures .1);
       },
       c .unpack3 .ensures .digits,
@@ -156,7 +188,8 @@ whole : (r : Float) (x y z : Float) (s t u : Bool) (q a b c : ℕ)
     → q ≡ a * b * 2 ^ 18
     → r ≡ summed (unlike s t) q u (c * 2 ^ 1092)
     → r ≡ fma x y z
-whole r x y z s t u q a b c i j k h is = is ∙ ap (λ (n : ℕ). summed (unlike s t) n u (c * 2 ^ 1092)) h ∙ same x y z s t u a b c i j k
+whole r x y z s t u q a b c i j k h is =
+    is ∙ ap (λ (n : ℕ). summed (unlike s t) n u (c * 2 ^ 1092)) h ∙ same x y z s t u a b c i j k
 
 returns : tie.Need-returns
 returns c =
@@ -176,11 +209,16 @@ returns c =
     let x = a .result .sig * 2 ^ a .result .exp in
     let y = b .result .sig * 2 ^ b .result .exp in
     let z = d .result .sig * 2 ^ d .result .exp in
-    let is = product-is (a .result .sig) (b .result .sig) (a .result .exp) (b .result .exp) p (e .result) (a .ensures .digits .full) (b .ensures .digits .full) (g .product .ensures) (e .ensures .0) (e .ensures .1) in
-    whole (c .add-leading .result) (s .x) (s .y) (s .z) (a .result .negative) (b .result .negative) (d .result .negative) (p * 2 ^ e .result) x y z (a .ensures .is) (b .ensures .is) (d .ensures .is) is (c .add-leading .ensures)
+    let is =
+    product-is (a .result .sig) (b .result .sig) (a .result .exp) (b .result .exp) p (e .result)
+    (a .ensures .digits .full) (b .ensures .digits .full) (g .product .ensures) (e .ensures .0)
+    (e .ensures .1) in
+    whole (c .add-leading .result) (s .x) (s .y) (s .z) (a .result .negative) (b .result .negative)
+    (d .result .negative) (p * 2 ^ e .result) x y z (a .ensures .is) (b .ensures .is)
+    (d .ensures .is) is (c .add-leading .ensures)
 
 pub fma-finite-spec : {M : Type 1} → statement M
 fma-finite-spec =
-    tie.close (tie.spec (λ c _. search needs) (λ c _. search needs) (λ c. search needs) (λ c. search needs)
-    (λ c _. search needs) (λ c. search needs) (λ c _. search needs) (λ c _. search needs) add-leading-requires
-    returns)
+    tie.close (tie.spec (λ c _. search needs) (λ c _. search needs) (λ c. search needs)
+    (λ c. search needs) (λ c _. search needs) (λ c. search needs) (λ c _. search needs)
+    (λ c _. search needs) add-leading-requires returns)

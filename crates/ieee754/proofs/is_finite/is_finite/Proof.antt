@@ -26,10 +26,15 @@ outside (inf s) h = refl
 outside (fin s m e) h = sym h
 
 returns : tie.Need-returns
-returns c = let x = c .before .args .x in subst (λ (i : Float). lt x i ≡ true → lt (neg i) x ≡ finite x) infinity (between x) (c .if1 .taken)
+returns c =
+    let x = c .before .args .x in
+    subst (λ (i : Float). lt x i ≡ true → lt (neg i) x ≡ finite x) infinity (between x)
+    (c .if1 .taken)
 
 returns-2 : tie.Need-returns-2
-returns-2 c = let x = c .before .args .x in subst (λ (i : Float). lt x i ≡ false → false ≡ finite x) infinity (outside x) (c .if1 .left)
+returns-2 c =
+    let x = c .before .args .x in
+    subst (λ (i : Float). lt x i ≡ false → false ≡ finite x) infinity (outside x) (c .if1 .left)
 
 pub is-finite-spec : {M : Type 1} → statement M
 is-finite-spec = tie.close (tie.spec returns returns-2)

@@ -69,4 +69,5 @@ returns-6 c =
 
 pub max-spec : {M : Type 1} → statement M
 max-spec =
-    tie.close (tie.spec returns returns-2 returns-3 returns-4 (λ c _. search needs) returns-5 returns-6)
+    tie.close (tie.spec returns returns-2 returns-3 returns-4 (λ c _. search needs) returns-5
+    returns-6)

@@ -34,11 +34,18 @@ sqrt-finite-requires : tie.Need-sqrt-finite-requires
 sqrt-finite-requires c κs = answered (c .before .is-finite .ensures) (c .if1 .taken)
 
 returns-2 : tie.Need-returns-2
-returns-2 c = let f = c .before .before in below-zero (f .before .args .x) (denied (f .is-finite .ensures) (c .before .if1 .left)) (c .if2 .taken)
+returns-2 c =
+    let f = c .before .before in
+    below-zero (f .before .args .x) (denied (f .is-finite .ensures) (c .before .if1 .left))
+    (c .if2 .taken)
 
 returns-3 : tie.Need-returns-3
-returns-3 c = let f = c .before .before in itself (f .before .args .x) (denied (f .is-finite .ensures) (c .before .if1 .left)) (c .if2 .left)
+returns-3 c =
+    let f = c .before .before in
+    itself (f .before .args .x) (denied (f .is-finite .ensures) (c .before .if1 .left))
+    (c .if2 .left)
 
 pub sqrt-spec : {M : Type 1} → statement M
 sqrt-spec =
-    tie.close (tie.spec (λ c _. search needs) sqrt-finite-requires (λ c. search needs) returns-2 returns-3)
+    tie.close (tie.spec (λ c _. search needs) sqrt-finite-requires (λ c. search needs) returns-2
+    returns-3)

@@ -17,20 +17,27 @@ use Rattle.ieee754.proofs.sqrt.sqrt_other.Tie as tie
 signed : (c : tie.After-unpack) {s : Bool}
     → let a = c .unpack .result in a .negative ≡ s
     → HasValue (c .before .args .x) s (a .sig * 2 ^ a .exp) (2 ^ 1074)
-signed c e = let a = c .unpack .result in subst (λ (s : Bool). HasValue (c .before .args .x) s (a .sig * 2 ^ a .exp) (2 ^ 1074)) e (c .unpack .ensures .is)
+signed c e =
+    let a = c .unpack .result in
+    subst (λ (s : Bool). HasValue (c .before .args .x) s (a .sig * 2 ^ a .exp) (2 ^ 1074))
+    e (c .unpack .ensures .is)
 
 returns : tie.Need-returns
 returns c =
     let u = c .before .before in
     let a = u .unpack .result in
-    sqrt-zero (u .before .args .x) (a .negative) (a .sig * 2 ^ a .exp) (2 ^ 1074) (ap (λ (m : ℕ). m * 2 ^ a .exp) (c .if1 .taken) ∙ zero-mul (2 ^ a .exp)) (lit< tt) (u .unpack .ensures .is)
+    sqrt-zero (u .before .args .x) (a .negative) (a .sig * 2 ^ a .exp) (2 ^ 1074)
+    (ap (λ (m : ℕ). m * 2 ^ a .exp) (c .if1 .taken) ∙ zero-mul (2 ^ a .exp)) (lit< tt)
+    (u .unpack .ensures .is)
 
 returns-2 : tie.Need-returns-2
 returns-2 c =
     let else1 = c .before in
     let u = else1 .before .before in
     let a = u .unpack .result in
-    zero-over-zero ∙ sym (sqrt-negative (u .before .args .x) (a .sig * 2 ^ a .exp) (2 ^ 1074) (mul-pos (pos-of-ne-zero (else1 .if1 .left)) (pow-pos (a .exp))) (signed u (c .if2 .taken)))
+    zero-over-zero
+    ∙ sym (sqrt-negative (u .before .args .x) (a .sig * 2 ^ a .exp) (2 ^ 1074)
+    (mul-pos (pos-of-ne-zero (else1 .if1 .left)) (pow-pos (a .exp))) (signed u (c .if2 .taken)))
 
 normalise-requires : tie.Need-normalise-requires
 normalise-requires c κs =
@@ -48,8 +55,11 @@ returns-3 c =
     let a = u .unpack .result in
     let is = signed u (e .if2 .left) in
     c .scaled .ensures
-    ∙ sym (sqrt-of x (n .result .sig * 2 ^ n .result .exp) (2 ^ 1126) (normal-pos x false (a .sig) (a .exp) (n .result) is (n .ensures)) (lit< tt) (normal-value x false (a .sig) (a .exp) (n .result) is (n .ensures)))
+    ∙ sym (sqrt-of x (n .result .sig * 2 ^ n .result .exp) (2 ^ 1126)
+    (normal-pos x false (a .sig) (a .exp) (n .result) is (n .ensures)) (lit< tt)
+    (normal-value x false (a .sig) (a .exp) (n .result) is (n .ensures)))
 
 pub sqrt-other-spec : {M : Type 1} → statement M
 sqrt-other-spec =
-    tie.close (tie.spec (λ c _. search needs) returns returns-2 normalise-requires (λ c _. search needs) returns-3)
+    tie.close (tie.spec (λ c _. search needs) returns returns-2 normalise-requires
+    (λ c _. search needs) returns-3)

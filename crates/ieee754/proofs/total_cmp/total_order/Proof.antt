@@ -50,4 +50,5 @@ returns-5 c =
 
 pub total-order-spec : {M : Type 1} → statement M
 total-order-spec =
-    tie.close (tie.spec returns returns-2 (λ c _. search needs) returns-3 (λ c _. search needs) returns-4 returns-5)
+    tie.close (tie.spec returns returns-2 (λ c _. search needs) returns-3 (λ c _. search needs)
+    returns-4 returns-5)

@@ -33,23 +33,31 @@ cut w x d n h =
     let s : q * 2 ^ d + w % 2 ^ d ≡ w = div-add-mod' w (2 ^ d) in
     let lo : q * 2 ^ d ≤ w = omega arith in
     let hi : suc w ≤ suc q * 2 ^ d = omega (arith, mod-lt w (pow-pos d), suc-mul q (2 ^ d)) in
-    let at : (y : ℕ) → y * 2 ^ d * 2 ^ x ≡ y * 2 ^ (d + x) = λ y. shl-shl y d x (d + x) refl in
-    (le-trans (le-of-eq (sym (at q))) (le-trans (mul-le-mul-right (2 ^ x) lo) (h .0)), lt-of-lt-of-le (h .1) (le-trans (mul-le-mul-right (2 ^ x) hi) (le-of-eq (at (suc q)))))
+    let at : (y : ℕ) → y * 2 ^ d * 2 ^ x ≡ y * 2 ^ (d + x) = λ y. shl-shl y d x (d + x) refl in (
+      le-trans (le-of-eq (sym (at q))) (le-trans (mul-le-mul-right (2 ^ x) lo) (h .0)),
+      lt-of-lt-of-le (h .1) (le-trans (mul-le-mul-right (2 ^ x) hi) (le-of-eq (at (suc q)))),
+    )
 
 cut-to : (w x y n : ℕ) → x ≤ y → Leads w x n → Leads (w / 2 ^ (y - x)) y n
-cut-to w x y n l h = subst (λ (z : ℕ). Leads (w / 2 ^ (y - x)) z n) (omega arith) (cut w x (y - x) n h)
+cut-to w x y n l h =
+    subst (λ (z : ℕ). Leads (w / 2 ^ (y - x)) z n) (omega arith) (cut w x (y - x) n h)
 
 exact : (w x n : ℕ) → w * 2 ^ x ≡ n → Leads w x n
 exact w x n e = (le-of-eq e, omega (arith, e, suc-mul w (2 ^ x), pow-pos x))
 
 product-leads : (p e : ℕ) → Leads (p / 2 ^ 62) (e + 62) (p * 2 ^ e)
-product-leads p e = subst (λ (z : ℕ). Leads (p / 2 ^ 62) z (p * 2 ^ e)) (omega arith) (cut p e 62 (p * 2 ^ e) (exact p e (p * 2 ^ e) refl))
+product-leads p e =
+    subst (λ (z : ℕ). Leads (p / 2 ^ 62) z (p * 2 ^ e))
+    (omega arith) (cut p e 62 (p * 2 ^ e) (exact p e (p * 2 ^ e) refl))
 
 addend-leads : (m x : ℕ) → Leads (m * 512) (x + 1083) (m * 2 ^ x * 2 ^ 1092)
-addend-leads m x = exact (m * 512) (x + 1083) (m * 2 ^ x * 2 ^ 1092) (shl-shl m 9 (x + 1083) (x + 1092) (omega arith) ∙ sym (shl-shl m x 1092 (x + 1092) refl))
+addend-leads m x =
+    exact (m * 512) (x + 1083) (m * 2 ^ x * 2 ^ 1092)
+    (shl-shl m 9 (x + 1083) (x + 1092) (omega arith) ∙ sym (shl-shl m x 1092 (x + 1092) refl))
 
 -- ---- the larger one leads
-module _ (r : Float) (s t : Bool) (L M a x b y n : ℕ) (w : Scaled) (leads : Leads a x L) (rest : Leads b y M) (settled : Settles n x w) where
+module _ (r : Float) (s t : Bool) (L M a x b y n : ℕ) (w : Scaled) (leads : Leads a x L)
+    (rest : Leads b y M) (settled : Settles n x w) where
   led : y ≤ x
       → n + cond (Bool·beq s t) 0 (b / 2 ^ (x - y)) ≡ a + cond (Bool·beq s t) (b / 2 ^ (x - y)) 0
       → r ≡ units binary64 s (w .sig) (w .exp)
@@ -57,7 +65,9 @@ module _ (r : Float) (s t : Bool) (L M a x b y n : ℕ) (w : Scaled) (leads : Le
   unfolding rounded summed
   led l h e =
       let c = cut-to b y x M l rest in
-      let v = sum-between binary64 s t (2 ^ 2166) L M (2 ^ x) a (b / 2 ^ (x - y)) n (leads .0) (leads .1) (c .0) (c .1) h (settled .some) in
+      let v =
+      sum-between binary64 s t (2 ^ 2166) L M (2 ^ x) a (b / 2 ^ (x - y)) n (leads .0) (leads .1)
+      (c .0) (c .1) h (settled .some) in
       e ∙ sym (settled .alike s (v .0) (v .1 .1) (v .1 .2)) ∙ sym (v .1 .0)
 
 beq-comm : (s t : Bool) → Bool·beq s t ≡ Bool·beq t s
@@ -66,17 +76,21 @@ beq-comm true false = refl
 beq-comm false true = refl
 beq-comm false false = refl
 
-module _ (r : Float) (s t : Bool) (P C a x b y n : ℕ) (w : Scaled) (product : Leads a x P) (addend : Leads b y C) where
+module _ (r : Float) (s t : Bool) (P C a x b y n : ℕ) (w : Scaled) (product : Leads a x P)
+    (addend : Leads b y C) where
   either : (first : Bool)
       → first ≡ leb y x
       → Settles n (cond first x y) w
-      → let low = cond first b a / 2 ^ (cond first x y - cond first y x) in n + cond (Bool·beq s t) 0 low ≡ cond first a b + cond (Bool·beq s t) low 0
+      → let low = cond first b a / 2 ^ (cond first x y - cond first y x) in
+      n + cond (Bool·beq s t) 0 low ≡ cond first a b + cond (Bool·beq s t) low 0
       → r ≡ units binary64 (cond first s t) (w .sig) (w .exp)
       → r ≡ summed s P t C
   unfolding summed
   either true f h e is = led r s t P C a x b y n w product addend h (leb-true y x (sym f)) e is
   either false f h e is =
-      led r t s C P b y a x n w addend product h (le-of-lt (leb-false y x (sym f))) (subst (λ (z : Bool). n + cond z 0 (a / 2 ^ (y - x)) ≡ b + cond z (a / 2 ^ (y - x)) 0) (beq-comm s t) e) is
+      led r t s C P b y a x n w addend product h (le-of-lt (leb-false y x (sym f)))
+      (subst (λ (z : Bool). n + cond z 0 (a / 2 ^ (y - x)) ≡ b + cond z (a / 2 ^ (y - x)) 0)
+      (beq-comm s t) e) is
       ∙ sum-comm binary64 t C s P (2 ^ 2166)
 
 cond-lt : (f : Bool) (a b k : ℕ) → a < k → b < k → cond f a b < k
@@ -89,7 +103,12 @@ ordered false x y e = le-of-lt (leb-false y x (sym e))
 
 -- ---- the function
 shift-right-requires : tie.Need-shift-right-requires
-shift-right-requires c κs = (lit< tt, lit< tt, high-below 62 64 (c .args .p .hi) (c .args .p .lo) (value (c .args .p)) refl (lt-of-lt-of-le (c .pre .0 .short) (lit≤ tt)))
+shift-right-requires c κs = (
+  lit< tt,
+  lit< tt,
+  high-below 62 64 (c .args .p .hi) (c .args .p .lo) (value (c .args .p)) refl
+      (lt-of-lt-of-le (c .pre .0 .short) (lit≤ tt)),
+)
 
 sub-shift : tie.Need-sub-shift
 sub-shift c =
@@ -99,7 +118,8 @@ sub-shift c =
     let s = start .args in
     let x = s .p-exp + 62 in
     let y = s .c .exp + 1083 in
-    le-trans (le-of-eq (c .choose3 .ensures)) (le-trans (ordered (leb y x) x y refl) (le-of-eq (sym (f .choose .ensures))))
+    le-trans (le-of-eq (c .choose3 .ensures))
+    (le-trans (ordered (leb y x) x y refl) (le-of-eq (sym (f .choose .ensures))))
 
 -- the words have 62 digits at most
 product-short : (p a : ℕ) → p < 2 ^ 124 → a ≡ p / 2 ^ 62 → a < 2 ^ 62
@@ -122,8 +142,11 @@ signed-sum-requires c κs =
     let A = product-short (value (s .args .p)) (a .result) (s .pre .0 .short) (a .ensures) in
     let B = addend-short m (s .pre .1 .short) in
     let d = f .choose .result - h .before .choose3 .result in (
-      lt-of-le-of-lt (le-of-eq (c .choose4 .ensures)) (cond-lt first (a .result) (m * 512) (2 ^ 62) A B),
-      lt-of-le-of-lt (le-trans (le-of-eq (h .shift .ensures)) (le-trans (shr-le (g .choose2 .result) d) (le-of-eq (g .choose2 .ensures)))) (cond-lt first (m * 512) (a .result) (2 ^ 62) B A),
+      lt-of-le-of-lt (le-of-eq (c .choose4 .ensures))
+          (cond-lt first (a .result) (m * 512) (2 ^ 62) A B),
+      lt-of-le-of-lt (le-trans (le-of-eq (h .shift .ensures))
+          (le-trans (shr-le (g .choose2 .result) d) (le-of-eq (g .choose2 .ensures))))
+          (cond-lt first (m * 512) (a .result) (2 ^ 62) B A),
     )
 
 settle-requires : tie.Need-settle-requires
@@ -135,7 +158,8 @@ settle-requires c κs =
     let s = after-struct-known .before .before in
     let x = s .args .p-exp + 62 in
     let y = s .args .c .exp + 1083 in
-    lt-of-le-of-lt (le-of-eq (f .choose .ensures)) (cond-lt (leb y x) x y 4900 (up (s .args .p-exp) (s .pre .0 .within)) (down (s .args .c .exp) (s .pre .1 .within)))
+    lt-of-le-of-lt (le-of-eq (f .choose .ensures)) (cond-lt (leb y x) x y 4900
+    (up (s .args .p-exp) (s .pre .0 .within)) (down (s .args .c .exp) (s .pre .1 .within)))
   where
     up : (e : ℕ) → e ≤ 4090 → e + 62 < 4900
     up e h = omega arith
@@ -175,17 +199,30 @@ returns-2 c =
     let first = leb y x in
     let is : after-shift-right .shift-right .result ≡ a = after-shift-right .shift-right .ensures in
     let settled = w .ensures (pos-of-ne-zero (n .if1 .left)) in
-    let lead : k .choose4 .result ≡ cond first a b = k .choose4 .ensures ∙ ap (λ (z : ℕ). cond first z b) is in
-    let rest : g .choose2 .result ≡ cond first b a = g .choose2 .ensures ∙ ap (λ (z : ℕ). cond first b z) is in
-    let low : h .shift .result ≡ cond first b a / 2 ^ (cond first x y - cond first y x) = h .shift .ensures ∙ ap₂ (λ (o d : ℕ). o / 2 ^ d) rest (ap₂ (λ (e d : ℕ). e - d) (f .choose .ensures) (h .before .choose3 .ensures)) in
-    either (c .pack .result) A C (p * 2 ^ s .args .p-exp) (m * 2 ^ s .args .c .exp * 2 ^ 1092) a x b y (u .signed-sum .result) (w .result) (product-leads p (s .args .p-exp)) (addend-leads m (s .args .c .exp)) first refl
+    let lead : k .choose4 .result ≡ cond first a b =
+    k .choose4 .ensures ∙ ap (λ (z : ℕ). cond first z b) is in
+    let rest : g .choose2 .result ≡ cond first b a =
+    g .choose2 .ensures ∙ ap (λ (z : ℕ). cond first b z) is in
+    let low : h .shift .result ≡ cond first b a / 2 ^ (cond first x y - cond first y x) =
+    h .shift .ensures
+    ∙ ap₂ (λ (o d : ℕ). o / 2 ^ d) rest
+    (ap₂ (λ (e d : ℕ). e - d) (f .choose .ensures) (h .before .choose3 .ensures)) in
+    either (c .pack .result) A C (p * 2 ^ s .args .p-exp) (m * 2 ^ s .args .c .exp * 2 ^ 1092) a x b
+    y (u .signed-sum .result) (w .result) (product-leads p (s .args .p-exp))
+    (addend-leads m (s .args .c .exp)) first refl
     (subst (λ (e : ℕ). Settles (u .signed-sum .result) e (w .result)) (f .choose .ensures) settled)
-    (subst (λ (d : ℕ). u .signed-sum .result + cond (Bool·beq A C) 0 d ≡ cond first a b + cond (Bool·beq A C) d 0) low (u .signed-sum .ensures (settled .word) ∙ ap (λ (l : ℕ). l + cond (Bool·beq A C) (h .shift .result) 0) lead))
-    (c .pack .ensures ∙ ap (λ (z : Bool). units binary64 z (w .result .sig) (w .result .exp)) (i .choose-sign .ensures))
+    (subst (λ (d : ℕ).
+    u .signed-sum .result + cond (Bool·beq A C) 0 d ≡ cond first a b + cond (Bool·beq A C) d 0)
+    low
+    (u .signed-sum .ensures (settled .word)
+    ∙ ap (λ (l : ℕ). l + cond (Bool·beq A C) (h .shift .result) 0) lead))
+    (c .pack .ensures
+    ∙ ap (λ (z : Bool). units binary64 z (w .result .sig) (w .result .exp))
+    (i .choose-sign .ensures))
 
 pub add-leading-spec : {M : Type 1} → statement M
 add-leading-spec =
-    tie.close (tie.spec shift-right-requires (λ c. search needs) (λ c. search needs) (λ c. search needs)
-    (λ c _. search needs) (λ c _. search needs) (λ c _. search needs) sub-shift (λ c _. search needs)
-    (λ c _. search needs) signed-sum-requires settle-requires (λ c _. search needs) (λ c _. search needs)
-    pack-requires (λ c. search needs) returns-2)
+    tie.close (tie.spec shift-right-requires (λ c. search needs) (λ c. search needs)
+    (λ c. search needs) (λ c _. search needs) (λ c _. search needs) (λ c _. search needs) sub-shift
+    (λ c _. search needs) (λ c _. search needs) signed-sum-requires settle-requires
+    (λ c _. search needs) (λ c _. search needs) pack-requires (λ c. search needs) returns-2)

@@ -24,4 +24,5 @@ returns c =
 
 pub nearest-to-all-spec : {M : Type 1} → statement M
 nearest-to-all-spec =
-    tie.close (tie.spec (λ c. search needs) (λ c. search needs) (λ c. search needs) returns (λ c. search needs))
+    tie.close (tie.spec (λ c. search needs) (λ c. search needs) (λ c. search needs) returns
+    (λ c. search needs))

@@ -7,7 +7,8 @@ use Rattle.ieee754_parts.proofs.leading.shift.Statement.{statement}
 use Rattle.ieee754_parts.proofs.leading.shift.Tie as tie
 
 returns-2 : tie.Need-returns-2
-returns-2 c = sym (div-eq-of-lt (lt-of-lt-of-le (c .before .fits .w .fits) (pow-mono (c .if1 .left))))
+returns-2 c =
+    sym (div-eq-of-lt (lt-of-lt-of-le (c .before .fits .w .fits) (pow-mono (c .if1 .left))))
 
 pub shift-spec : {M : Type 1} → statement M
 shift-spec =

@@ -18,7 +18,8 @@ unlike : (same : Bool) (a b r : ℕ)
     → (r + b) % 2 ^ 64 ≡ a
     → r < 2 ^ 63
     → r + cond same 0 b ≡ a + cond same b 0
-unlike same a b r h l e g = let short : r + b < 2 ^ 64 = omega arith in rw h (omega (arith, e, mod-eq-of-lt short))
+unlike same a b r h l e g =
+    let short : r + b < 2 ^ 64 = omega arith in rw h (omega (arith, e, mod-eq-of-lt short))
 
 returns : tie.Need-returns
 returns c = let s = c .before .args in λ g. like (s .same) (s .a) (s .b) (c .if1 .taken)
@@ -28,7 +29,8 @@ returns-2 c =
     let f = c .before in
     let s = f .before in
     let r = c .wrapping-sub-u64 in
-    unlike (s .args .same) (s .args .a) (s .args .b) (r .result) (f .if1 .left) (s .pre .1) (r .ensures)
+    unlike (s .args .same) (s .args .a) (s .args .b) (r .result) (f .if1 .left) (s .pre .1)
+    (r .ensures)
 
 pub signed-sum-spec : {M : Type 1} → statement M
 signed-sum-spec =

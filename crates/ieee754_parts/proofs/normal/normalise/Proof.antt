@@ -20,7 +20,8 @@ raised m e i j h = shl-shl m i j (e + 52) h ∙ sym (shl-shl m e 52 (e + 52) ref
 -- ---- a subnormal number n
 module _ (n : ℕ) (some : 0 < n) (small : n < 2 ^ 52) where
   zeros : (leadingZeros 64 n ≤ 63) × (12 ≤ leadingZeros 64 n)
-  zeros = omega (arith, zeros-lt 64 52 n some small (lit≤ tt), zeros-ge 64 52 n some small (lit≤ tt))
+  zeros =
+      omega (arith, zeros-lt 64 52 n some small (lit≤ tt), zeros-ge 64 52 n some small (lit≤ tt))
 
   moved : let m = n * 2 ^ (leadingZeros 64 n - 11) in (2 ^ 52 ≤ m) × (m < 2 ^ 53)
   moved =
@@ -82,9 +83,12 @@ returns-2 c =
       low = subst (λ (x : ℕ). 2 ^ 52 ≤ x) (sym w) (m .0);
       high = subst (λ (x : ℕ). x < 2 ^ 53) (sym w) (m .1);
       within = omega arith;
-      same = ap (λ (x : ℕ). x * 2 ^ (63 - z)) w ∙ raised n (s .args .exp) (z - 11) (63 - z) (omega arith);
+      same =
+          ap (λ (x : ℕ). x * 2 ^ (63 - z)) w
+          ∙ raised n (s .args .exp) (z - 11) (63 - z) (omega arith);
     }
 
 pub normalise-spec : {M : Type 1} → statement M
 normalise-spec =
-    tie.close (tie.spec (λ c. search needs) sub-t7 cast-t8 shl-t9 cast-t10 sub-t11 returns returns-2)
+    tie.close (tie.spec (λ c. search needs) sub-t7 cast-t8 shl-t9 cast-t10 sub-t11 returns
+    returns-2)

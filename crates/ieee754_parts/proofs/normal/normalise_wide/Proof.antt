@@ -33,13 +33,17 @@ two-words : (h l : ℕ)
     → (h ≡ 0 → ⊥)
     → h < 2 ^ 64
     → l < 2 ^ 64
-    → (2 ^ 63 ≤ jam (64 - zeros h) (h * 2 ^ 64 + l)) × (jam (64 - zeros h) (h * 2 ^ 64 + l) < 2 ^ 64)
+    → (2 ^ 63 ≤ jam (64 - zeros h) (h * 2 ^ 64 + l))
+    × (jam (64 - zeros h) (h * 2 ^ 64 + l) < 2 ^ 64)
 two-words h l z a b =
     let t = leading-top 64 h (pos-of-ne-zero z) a in
     let j = t .0 in
     let n = h * 2 ^ 64 + l in
-    let lo : 2 ^ (j + 64) ≤ n = le-trans (le-of-eq (pow-add 2 j 64)) (le-trans (mul-le-mul-right (2 ^ 64) (t .2)) (omega arith)) in
-    let hi : n < 2 ^ (suc j + 64) = lt-of-lt-of-le (digits-lt (t .3) b) (le-of-eq (sym (pow-add 2 (suc j) 64))) in
+    let lo : 2 ^ (j + 64) ≤ n =
+    le-trans (le-of-eq (pow-add 2 j 64))
+    (le-trans (mul-le-mul-right (2 ^ 64) (t .2)) (omega arith)) in
+    let hi : n < 2 ^ (suc j + 64) =
+    lt-of-lt-of-le (digits-lt (t .3) b) (le-of-eq (sym (pow-add 2 (suc j) 64))) in
     let e : suc j ≡ 64 - zeros h = omega (arith, t .1) in
     subst (λ (k : ℕ). (2 ^ 63 ≤ jam k n) × (jam k n < 2 ^ 64)) e (
       jam-ge (suc j) 62 n (subst (λ (x : ℕ). 2 ^ x ≤ n) (omega arith) lo),
@@ -56,14 +60,19 @@ cut-alike : (s : Bool) (t n k e : ℕ)
     → rounded s (t * 2 ^ (e + k)) ≡ rounded s (n * 2 ^ e)
 unfolding rounded
 cut-alike s t n k e h l =
-    ap (λ (x : ℕ). rounded s (x * 2 ^ (e + k))) h ∙ ap (λ (x : ℕ). rounded s (jam k n * 2 ^ x)) (add-comm e k) ∙ round-jam binary64 s 1092 e k n (Kept.long (omega arith))
+    ap (λ (x : ℕ). rounded s (x * 2 ^ (e + k))) h
+    ∙ ap (λ (x : ℕ). rounded s (jam k n * 2 ^ x)) (add-comm e k)
+    ∙ round-jam binary64 s 1092 e k n (Kept.long (omega arith))
 
 -- ---- one word: nothing is lost
 one-word : (l : ℕ)
     → (l ≡ 0 → ⊥)
     → l < 2 ^ 64
     → (2 ^ 63 ≤ l * 2 ^ zeros l) × (l * 2 ^ zeros l < 2 ^ 64)
-one-word l z b = (shifted-ge 64 64 l (pos-of-ne-zero z) b (lit≤ tt) (zeros l) (add-zero (zeros l)), shifted-lt 64 64 l (pos-of-ne-zero z) b (lit≤ tt) (zeros l) (add-zero (zeros l)))
+one-word l z b = (
+  shifted-ge 64 64 l (pos-of-ne-zero z) b (lit≤ tt) (zeros l) (add-zero (zeros l)),
+  shifted-lt 64 64 l (pos-of-ne-zero z) b (lit≤ tt) (zeros l) (add-zero (zeros l)),
+)
 
 moved : (h l k e : ℕ) → h ≡ 0 → k ≤ e → l * 2 ^ k * 2 ^ (e - k) ≡ (h * 2 ^ 64 + l) * 2 ^ e
 moved h l k e z g =
@@ -96,7 +105,8 @@ shl-t13 c =
     let then2 = c .before .before in
     let else1 = then2 .before .before in
     let s = else1 .before .before in
-    zeros-lt 64 64 (s .args .v .lo) (pos-of-ne-zero (then2 .if2 .taken)) (c .struct-known5 .given .1 .0 .fits) (lit≤ tt)
+    zeros-lt 64 64 (s .args .v .lo) (pos-of-ne-zero (then2 .if2 .taken))
+    (c .struct-known5 .given .1 .0 .fits) (lit≤ tt)
 
 sub-t14 : tie.Need-sub-t14
 sub-t14 c =
@@ -114,7 +124,8 @@ returns c =
     let t = c .jam-wide .result in
     let r = c .before .struct-known2 .given in
     let b = two-words (v .hi) (v .lo) (then1 .if1 .taken) (r .0 .fits) (r .1 .0 .fits) in
-    let e : t .lo ≡ jam k (v .hi * 2 ^ 64 + v .lo) = low-is (t .hi) (t .lo) (jam k (v .hi * 2 ^ 64 + v .lo)) (c .jam-wide .ensures) (b .1) in
+    let e : t .lo ≡ jam k (v .hi * 2 ^ 64 + v .lo) =
+    low-is (t .hi) (t .lo) (jam k (v .hi * 2 ^ 64 + v .lo)) (c .jam-wide .ensures) (b .1) in
     record {
       alike = λ g. cut-alike g (t .lo) (v .hi * 2 ^ 64 + v .lo) k (s .args .exp) e (b .0);
       top = λ _. subst (λ (x : ℕ). 2 ^ 63 ≤ x) (sym e) (b .0);
@@ -134,7 +145,10 @@ returns-2 c =
     let w : v .lo * 2 ^ zeros (v .lo) % 2 ^ 64 ≡ v .lo * 2 ^ zeros (v .lo) = mod-eq-of-lt (b .1) in
     let g = le-trans (leading-le 64 (v .lo)) (s .pre .0) in
     record {
-      alike = λ t. ap (rounded t) (ap (λ (x : ℕ). x * 2 ^ (s .args .exp - zeros (v .lo))) w ∙ moved (v .hi) (v .lo) (zeros (v .lo)) (s .args .exp) (else1 .if1 .left) g);
+      alike = λ t.
+          ap (rounded t)
+          (ap (λ (x : ℕ). x * 2 ^ (s .args .exp - zeros (v .lo))) w
+          ∙ moved (v .hi) (v .lo) (zeros (v .lo)) (s .args .exp) (else1 .if1 .left) g);
       top = λ _. subst (λ (x : ℕ). 2 ^ 63 ≤ x) (sym w) (b .0);
       within = within (s .args .exp) (zeros (v .lo));
     }
@@ -148,12 +162,13 @@ returns-3 c =
     let s = else1 .before .before in
     let v = s .args .v in
     record {
-      alike = λ t. ap (rounded t) (nothing (v .hi) (v .lo) (s .args .exp) (else1 .if1 .left) (c .if2 .left));
+      alike = λ t.
+          ap (rounded t) (nothing (v .hi) (v .lo) (s .args .exp) (else1 .if1 .left) (c .if2 .left));
       top = λ h. search needs;
       within = search needs;
     }
 
 pub normalise-wide-spec : {M : Type 1} → statement M
 normalise-wide-spec =
-    tie.close (tie.spec cast-n sub-n (λ c _. search needs) (λ c. search needs) cast-n-2 shl-t13 sub-t14 returns returns-2
-    returns-3)
+    tie.close (tie.spec cast-n sub-n (λ c _. search needs) (λ c. search needs) cast-n-2 shl-t13
+    sub-t14 returns returns-2 returns-3)

@@ -32,8 +32,11 @@ returns : tie.Need-returns
 returns c =
     let s = c .before .before in
     let k = c .before .capped in
-    c .with-sign .ensures ∙ packed (s .args .negative) (s .args .sig) (s .args .exp) (k .result) (s .pre .0) (s .pre .1) (k .ensures)
+    c .with-sign .ensures
+    ∙ packed (s .args .negative) (s .args .sig) (s .args .exp) (k .result) (s .pre .0) (s .pre .1)
+    (k .ensures)
 
 pub pack-spec : {M : Type 1} → statement M
 pack-spec =
-    tie.close (tie.spec (λ c. search needs) (λ c. search needs) (λ c _. search needs) (λ c _. search needs) returns)
+    tie.close (tie.spec (λ c. search needs) (λ c. search needs) (λ c _. search needs)
+    (λ c _. search needs) returns)

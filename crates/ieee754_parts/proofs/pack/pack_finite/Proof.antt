@@ -14,7 +14,9 @@ with-sign-requires c κs = le-of-lt (c .pre .2)
 returns : tie.Need-returns
 returns c =
     let s = c .before in
-    c .with-sign .ensures ∙ units-finite binary64 (s .args .sig) (s .args .exp) (s .pre .0) (s .pre .1) (s .args .negative) (s .pre .2)
+    c .with-sign .ensures
+    ∙ units-finite binary64 (s .args .sig) (s .args .exp) (s .pre .0) (s .pre .1)
+    (s .args .negative) (s .pre .2)
 
 pub pack-finite-spec : {M : Type 1} → statement M
 pack-finite-spec =

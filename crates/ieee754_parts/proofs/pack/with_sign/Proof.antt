@@ -26,13 +26,19 @@ no-nan : (s : Bool) (g b : ℕ)
     → g ≡ signBit s
     → b ≤ 2047 * 2 ^ 52
     → T (not (nanBits binary64 (g + b)))
-no-nan s g b e h = subst (λ (x : ℕ). T (not (nanBits binary64 (x + b)))) (sym e) (no-nan-signed binary64 s b h)
+no-nan s g b e h =
+    subst (λ (x : ℕ). T (not (nanBits binary64 (x + b)))) (sym e) (no-nan-signed binary64 s b h)
 
 add-result : tie.Need-add-result
-add-result c = let s = c .before in signed-fits (s .args .negative) (c .sign-bit .result) (s .args .bits) (c .sign-bit .ensures) (s .pre)
+add-result c =
+    let s = c .before in
+    signed-fits (s .args .negative) (c .sign-bit .result) (s .args .bits) (c .sign-bit .ensures)
+    (s .pre)
 
 float-from-bits-result : tie.Need-float-from-bits-result
-float-from-bits-result c = let s = c .before in no-nan (s .args .negative) (c .sign-bit .result) (s .args .bits) (c .sign-bit .ensures) (s .pre)
+float-from-bits-result c =
+    let s = c .before in
+    no-nan (s .args .negative) (c .sign-bit .result) (s .args .bits) (c .sign-bit .ensures) (s .pre)
 
 returns : tie.Need-returns
 returns c = ap (λ (g : ℕ). ofBits binary64 (g + c .before .args .bits)) (c .sign-bit .ensures)

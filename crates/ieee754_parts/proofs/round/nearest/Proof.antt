@@ -21,11 +21,15 @@ by-rest q r v below tie above =
     ⊎-elim (λ (l : r < 2 ^ 10). below l ∙ sym (nearest-below q (r * 2) (2 ^ 11) (omega arith)))
     (λ (g : 2 ^ 10 ≤ r).
     ⊎-elim (λ (l : 2 ^ 10 < r). above l ∙ sym (nearest-above q (r * 2) (2 ^ 11) (omega arith)))
-    (λ (l : r ≤ 2 ^ 10). let e : r ≡ 2 ^ 10 = omega arith in tie e ∙ sym (nearest-tie q (r * 2) (2 ^ 11) (omega arith))) (lt-or-ge (2 ^ 10) r))
+    (λ (l : r ≤ 2 ^ 10).
+    let e : r ≡ 2 ^ 10 = omega arith in tie e ∙ sym (nearest-tie q (r * 2) (2 ^ 11) (omega arith)))
+    (lt-or-ge (2 ^ 10) r))
     (lt-or-ge r (2 ^ 10))
 
 returns : tie.Need-returns
-returns c = let w = c .args .w in by-rest (w / 2 ^ 11) (w % 2 ^ 11) _ (λ h. omega arith) (λ h. omega arith) (λ h. omega arith)
+returns c =
+    let w = c .args .w in
+    by-rest (w / 2 ^ 11) (w % 2 ^ 11) _ (λ h. omega arith) (λ h. omega arith) (λ h. omega arith)
 
 pub nearest-spec : {M : Type 1} → statement M
 nearest-spec =

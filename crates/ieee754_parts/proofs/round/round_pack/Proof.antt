@@ -41,7 +41,9 @@ cut-alike : (s : Bool) (w e j : ℕ)
     → rounded s (j * 2 ^ (0 + 1081)) ≡ rounded s (w * 2 ^ e)
 unfolding rounded
 cut-alike s w e j h i =
-    ap (rounded s) (ap (λ (x : ℕ). x * 2 ^ 1081) i ∙ ap (λ (x : ℕ). jam (1081 - e) w * 2 ^ x) (sym (sub-add-cancel (le-of-lt h))))
+    ap (rounded s)
+    (ap (λ (x : ℕ). x * 2 ^ 1081) i
+    ∙ ap (λ (x : ℕ). jam (1081 - e) w * 2 ^ x) (sym (sub-add-cancel (le-of-lt h))))
     ∙ round-jam binary64 s 1092 e (1081 - e) w (Kept.fine (omega arith))
 
 -- ---- the function
@@ -49,8 +51,13 @@ pack-requires : tie.Need-pack-requires
 pack-requires c κs =
     let after-jam = c .before in
     let s = after-jam .before .before in
-    let j = after-jam .jam in
-    (short (j .result) (c .nearest .result) (cut-lt (s .args .w) (s .args .exp) (j .result) (s .fits .w .fits) (j .ensures)) (c .nearest .ensures), λ h. search needs, search needs)
+    let j = after-jam .jam in (
+      short (j .result) (c .nearest .result)
+          (cut-lt (s .args .w) (s .args .exp) (j .result) (s .fits .w .fits) (j .ensures))
+          (c .nearest .ensures),
+      λ h. search needs,
+      search needs,
+    )
 
 raised : (e : ℕ) → 0 < e - 1081 → 1081 < e
 raised e h = omega arith
@@ -58,8 +65,12 @@ raised e h = omega arith
 pack-requires-2 : tie.Need-pack-requires-2
 pack-requires-2 c κs =
     let s = c .before .before in
-    let w = s .args .w in
-    (short w (c .nearest2 .result) (s .fits .w .fits) (c .nearest2 .ensures), λ h. full w (c .nearest2 .result) (s .pre .1 (raised (s .args .exp) h)) (c .nearest2 .ensures), search needs)
+    let w = s .args .w in (
+      short w (c .nearest2 .result) (s .fits .w .fits) (c .nearest2 .ensures),
+      λ h.
+          full w (c .nearest2 .result) (s .pre .1 (raised (s .args .exp) h)) (c .nearest2 .ensures),
+      search needs,
+    )
 
 returns : tie.Need-returns
 returns c =
@@ -69,18 +80,22 @@ returns c =
     let j = n .before .jam in
     let l = cut-lt (s .args .w) (s .args .exp) (j .result) (s .fits .w .fits) (j .ensures) in
     c .pack .ensures
-    ∙ packed (s .args .negative) (j .result) 0 (n .nearest .result) l (λ h. absurd (omega (arith, h))) (n .nearest .ensures)
-    ∙ cut-alike (s .args .negative) (s .args .w) (s .args .exp) (j .result) (then1 .if1 .taken) (j .ensures)
+    ∙ packed (s .args .negative) (j .result) 0 (n .nearest .result) l
+    (λ h. absurd (omega (arith, h))) (n .nearest .ensures)
+    ∙ cut-alike (s .args .negative) (s .args .w) (s .args .exp) (j .result) (then1 .if1 .taken)
+    (j .ensures)
 
 returns-2 : tie.Need-returns-2
 returns-2 c =
     let n = c .before in
     let s = n .before .before in
     c .pack2 .ensures
-    ∙ packed (s .args .negative) (s .args .w) (s .args .exp - 1081) (n .nearest2 .result) (s .fits .w .fits) (λ h. s .pre .1 (raised (s .args .exp) h)) (n .nearest2 .ensures)
-    ∙ ap (λ (x : ℕ). rounded (s .args .negative) (s .args .w * 2 ^ x)) (sub-add-cancel (n .before .if1 .left))
+    ∙ packed (s .args .negative) (s .args .w) (s .args .exp - 1081) (n .nearest2 .result)
+    (s .fits .w .fits) (λ h. s .pre .1 (raised (s .args .exp) h)) (n .nearest2 .ensures)
+    ∙ ap (λ (x : ℕ). rounded (s .args .negative) (s .args .w * 2 ^ x))
+    (sub-add-cancel (n .before .if1 .left))
 
 pub round-pack-spec : {M : Type 1} → statement M
 round-pack-spec =
-    tie.close (tie.spec (λ c. search needs) (λ c _. search needs) (λ c _. search needs) pack-requires (λ c _. search needs)
-    pack-requires-2 returns returns-2)
+    tie.close (tie.spec (λ c. search needs) (λ c _. search needs) (λ c _. search needs)
+    pack-requires (λ c _. search needs) pack-requires-2 returns returns-2)

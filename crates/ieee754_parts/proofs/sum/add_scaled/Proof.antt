@@ -39,7 +39,9 @@ twice-half m = omega arith
 -- its value over 2 ^ 2166
 addend-is : (m x : ℕ) → addend m * 2 ^ (x + 1019) ≡ m * 2 ^ x * 2 ^ 1092
 addend-is m x =
-    ap (λ (y : ℕ). y * 2 ^ (x + 1019)) (add-zero (m * 512 * 2 ^ 64) ∙ shl-shl m 9 64 73 refl) ∙ shl-shl m 73 (x + 1019) (x + 1092) (omega arith) ∙ sym (shl-shl m x 1092 (x + 1092) refl)
+    ap (λ (y : ℕ). y * 2 ^ (x + 1019)) (add-zero (m * 512 * 2 ^ 64) ∙ shl-shl m 9 64 73 refl)
+    ∙ shl-shl m 73 (x + 1019) (x + 1092) (omega arith)
+    ∙ sym (shl-shl m x 1092 (x + 1092) refl)
 
 -- ---- the product is cut short: either the addend is no larger than a small power of two, and what
 -- is cut off lies below half of the smallest value, or the addend is larger by far
@@ -53,7 +55,8 @@ product-apart p e m x k h f g =
     (λ (l : 72 ≤ x).
     let small : jam k p ≤ 2 ^ 124 = le-of-lt (jam-no-longer k 123 p h) in
     let guard : 2 ^ 54 ≤ 2 ^ 124 = lit≤ tt in
-    let big : 2 ^ 125 ≤ half m * 2 = mul-le-mul-right 2 (mul-le-mul-right (2 ^ 64) (mul-le-mul-right 256 (f (omega arith)))) in
+    let big : 2 ^ 125 ≤ half m * 2 =
+    mul-le-mul-right 2 (mul-le-mul-right (2 ^ 64) (mul-le-mul-right 256 (f (omega arith)))) in
     Apart.far (le-trans (add-le-add small guard) big))
     (lt-or-ge x 72)
 
@@ -62,8 +65,12 @@ product-apart p e m x k h f g =
 addend-exact : (m k : ℕ) → k < 64 → addend m % 2 ^ suc k ≡ 0
 addend-exact m k l =
     let d : 63 - k + suc k ≡ 64 = omega arith in
-    let e : 2 ^ (63 - k) * 2 ^ suc k ≡ 2 ^ 64 = sym (pow-add 2 (63 - k) (suc k)) ∙ ap (λ (x : ℕ). 2 ^ x) d in
-    ap (λ (x : ℕ). x % 2 ^ suc k) (add-zero (m * 512 * 2 ^ 64) ∙ ap (λ (x : ℕ). m * 512 * x) (sym e) ∙ sym (mul-assoc (m * 512) (2 ^ (63 - k)) (2 ^ suc k)))
+    let e : 2 ^ (63 - k) * 2 ^ suc k ≡ 2 ^ 64 =
+    sym (pow-add 2 (63 - k) (suc k)) ∙ ap (λ (x : ℕ). 2 ^ x) d in
+    ap (λ (x : ℕ). x % 2 ^ suc k)
+    (add-zero (m * 512 * 2 ^ 64)
+    ∙ ap (λ (x : ℕ). m * 512 * x) (sym e)
+    ∙ sym (mul-assoc (m * 512) (2 ^ (63 - k)) (2 ^ suc k)))
     ∙ mul-mod-left (m * 512 * 2 ^ (63 - k)) (2 ^ suc k)
 
 addend-apart : (m e p k : ℕ)
@@ -74,7 +81,8 @@ addend-apart : (m e p k : ℕ)
 addend-apart m e p k h f z =
     ⊎-elim (λ (l : k < 64). Apart.exact (addend-exact m k l))
     (λ (l : 64 ≤ k).
-    let fits : addend m < 2 ^ (61 + suc k) = lt-of-lt-of-le (addend-lt m h) (pow-mono {i = 126} (omega arith)) in
+    let fits : addend m < 2 ^ (61 + suc k) =
+    lt-of-lt-of-le (addend-lt m h) (pow-mono {i = 126} (omega arith)) in
     Apart.far (far (jam k (addend m)) p (jam-lt k 61 (addend m) fits) f z))
     (lt-or-ge k 64)
   where
@@ -94,9 +102,14 @@ module _ (r : Float) (s t : Bool) (p e m x j : ℕ) where
       let k = x + 1019 - e in
       let g : k + e ≡ x + 1019 = sub-add-cancel (le-of-lt l) in
       is
-      ∙ ap₂ (λ (y z : ℕ). summed s (y * 2 ^ (x + 1019)) t (z * 2 ^ (x + 1019))) h (sym (twice-half m))
-      ∙ subst (λ (y : ℕ). summed s (jam k p * 2 ^ y) t (half m * 2 * 2 ^ y) ≡ summed s (p * 2 ^ e) t (half m * 2 * 2 ^ y)) g (sum-jam binary64 1092 e k p (half m) (product-apart p e m x k a b g) s t)
-      ∙ ap (λ (y : ℕ). summed s (p * 2 ^ e) t y) (ap (λ (y : ℕ). y * 2 ^ (x + 1019)) (twice-half m) ∙ addend-is m x)
+      ∙ ap₂ (λ (y z : ℕ). summed s (y * 2 ^ (x + 1019)) t (z * 2 ^ (x + 1019)))
+      h (sym (twice-half m))
+      ∙ subst (λ (y : ℕ).
+      summed s (jam k p * 2 ^ y) t (half m * 2 * 2 ^ y)
+      ≡ summed s (p * 2 ^ e) t (half m * 2 * 2 ^ y))
+      g (sum-jam binary64 1092 e k p (half m) (product-apart p e m x k a b g) s t)
+      ∙ ap (λ (y : ℕ). summed s (p * 2 ^ e) t y)
+      (ap (λ (y : ℕ). y * 2 ^ (x + 1019)) (twice-half m) ∙ addend-is m x)
 
   cut-addend : m < 2 ^ 53
       → 2 ^ 64 ≤ p
@@ -114,7 +127,10 @@ module _ (r : Float) (s t : Bool) (p e m x j : ℕ) where
       is
       ∙ sum-comm binary64 s (p * 2 ^ e) t (j * 2 ^ e) (2 ^ 2166)
       ∙ ap₂ (λ (y v : ℕ). summed t (y * 2 ^ e) s (v * 2 ^ e)) h (sym w)
-      ∙ subst (λ (y : ℕ). summed t (jam k (addend m) * 2 ^ y) s (p / 2 * 2 * 2 ^ y) ≡ summed t (addend m * 2 ^ q) s (p / 2 * 2 * 2 ^ y)) g (sum-jam binary64 1092 q k (addend m) (p / 2) (addend-apart m q p k a b z) t s)
+      ∙ subst (λ (y : ℕ).
+      summed t (jam k (addend m) * 2 ^ y) s (p / 2 * 2 * 2 ^ y)
+      ≡ summed t (addend m * 2 ^ q) s (p / 2 * 2 * 2 ^ y))
+      g (sum-jam binary64 1092 q k (addend m) (p / 2) (addend-apart m q p k a b z) t s)
       ∙ ap₂ (λ (y v : ℕ). summed t y s (v * 2 ^ e)) (addend-is m x) w
       ∙ sum-comm binary64 t (m * 2 ^ x * 2 ^ 1092) s (p * 2 ^ e) (2 ^ 2166)
 
@@ -131,7 +147,10 @@ sum-aligned-requires c κs =
     let s = after-struct-known2 .before .before in
     let j = c .jam-wide in
     let k = s .args .c .exp + 1019 - s .args .p-exp in (
-      room₁ (j .result .hi) (s .args .c .sig) (high-below 60 64 (j .result .hi) (j .result .lo) (jam k (value (s .args .p))) (j .ensures) (jam-no-longer k 123 (value (s .args .p)) (s .pre .0 .short))) (s .pre .1 .short),
+      room₁ (j .result .hi) (s .args .c .sig)
+          (high-below 60 64 (j .result .hi) (j .result .lo) (jam k (value (s .args .p)))
+          (j .ensures) (jam-no-longer k 123 (value (s .args .p)) (s .pre .0 .short)))
+          (s .pre .1 .short),
       low (s .args .c .exp),
       up (s .args .c .exp) (s .pre .1 .within),
     )
@@ -151,7 +170,10 @@ sum-aligned-requires-2 c κs =
     let m = s .args .c .sig in
     let j = c .jam-wide2 in
     let k = s .args .p-exp - (s .args .c .exp + 1019) in (
-      room₂ (p .hi) (j .result .hi) (high-below 60 64 (p .hi) (p .lo) (value p) refl (s .pre .0 .short)) (high-below 62 64 (j .result .hi) (j .result .lo) (jam k (addend m)) (j .ensures) (jam-no-longer k 125 (addend m) (addend-lt m (s .pre .1 .short)))),
+      room₂ (p .hi) (j .result .hi)
+          (high-below 60 64 (p .hi) (p .lo) (value p) refl (s .pre .0 .short))
+          (high-below 62 64 (j .result .hi) (j .result .lo) (jam k (addend m)) (j .ensures)
+          (jam-no-longer k 125 (addend m) (addend-lt m (s .pre .1 .short)))),
       low (s .args .c .exp) (s .args .p-exp) (else1 .if1 .left),
       up (s .args .p-exp) (s .pre .0 .within),
     )
@@ -170,7 +192,9 @@ returns c =
     let a = s .args in
     let j = c .before .jam-wide in
     let r = c .sum-aligned in
-    cut-product (r .result) (a .negative) (a .c .negative) (value (a .p)) (a .p-exp) (a .c .sig) (a .c .exp) (value (j .result)) (s .pre .0 .short) (s .pre .1 .full) (f .if1 .taken) (j .ensures) (r .ensures)
+    cut-product (r .result) (a .negative) (a .c .negative) (value (a .p)) (a .p-exp) (a .c .sig)
+    (a .c .exp) (value (j .result)) (s .pre .0 .short) (s .pre .1 .full) (f .if1 .taken)
+    (j .ensures) (r .ensures)
 
 some : (x e : ℕ) → x + 1019 ≤ e → 0 < e
 some x e h = omega arith
@@ -184,9 +208,12 @@ returns-2 c =
     let j = c .before .jam-wide2 in
     let r = c .sum-aligned2 in
     let full = s .pre .0 .full (some (a .c .exp) (a .p-exp) (f .if1 .left)) in
-    cut-addend (r .result) (a .negative) (a .c .negative) (value (a .p)) (a .p-exp) (a .c .sig) (a .c .exp) (value (j .result)) (s .pre .1 .short) full (s .pre .0 .even) (f .if1 .left) (j .ensures) (r .ensures)
+    cut-addend (r .result) (a .negative) (a .c .negative) (value (a .p)) (a .p-exp) (a .c .sig)
+    (a .c .exp) (value (j .result)) (s .pre .1 .short) full (s .pre .0 .even) (f .if1 .left)
+    (j .ensures) (r .ensures)
 
 pub add-scaled-spec : {M : Type 1} → statement M
 add-scaled-spec =
-    tie.close (tie.spec (λ c. search needs) (λ c. search needs) (λ c. search needs) (λ c _. search needs)
-    sum-aligned-requires (λ c _. search needs) sum-aligned-requires-2 returns returns-2)
+    tie.close (tie.spec (λ c. search needs) (λ c. search needs) (λ c. search needs)
+    (λ c _. search needs) sum-aligned-requires (λ c _. search needs) sum-aligned-requires-2 returns
+    returns-2)

@@ -17,7 +17,9 @@ use Rattle.ieee754_parts.proofs.sum.sum_aligned.Tie as tie
 
 -- what `sum` does, with the numbers a and b before they are scaled
 module _ (s : Bool) (a : ℕ) (t : Bool) (b e : ℕ) where
-  scaled : summed s (a * 2 ^ e) t (b * 2 ^ e) ≡ cond (Bool·beq s t) (rounded s ((a + b) * 2 ^ e)) (cond (ltb a b) (rounded t ((b - a) * 2 ^ e)) (rounded (s && ltb b a) ((a - b) * 2 ^ e)))
+  scaled : summed s (a * 2 ^ e) t (b * 2 ^ e)
+      ≡ cond (Bool·beq s t) (rounded s ((a + b) * 2 ^ e))
+      (cond (ltb a b) (rounded t ((b - a) * 2 ^ e)) (rounded (s && ltb b a) ((a - b) * 2 ^ e)))
   unfolding rounded summed
   scaled = sum-scaled binary64 s a t b (2 ^ e) (2 ^ 2166) (pow-pos e)
 
@@ -43,17 +45,21 @@ module _ (s : Bool) (a : ℕ) (t : Bool) (b e : ℕ) where
   not-below v g h l m x = let y : v ≡ a - b = omega arith in rw (y, scaled, h, l, m)
 
 sub-wide-requires : tie.Need-sub-wide-requires
-sub-wide-requires c κs = le-of-lt (ltb-true _ _ (sym (c .before .less-wide .ensures) ∙ c .if2 .taken))
+sub-wide-requires c κs =
+    le-of-lt (ltb-true _ _ (sym (c .before .less-wide .ensures) ∙ c .if2 .taken))
 
 sub-wide-requires-2 : tie.Need-sub-wide-requires-2
-sub-wide-requires-2 c κs = ltb-false _ _ (sym (c .before .before .less-wide .ensures) ∙ c .before .if2 .left)
+sub-wide-requires-2 c κs =
+    ltb-false _ _ (sym (c .before .before .less-wide .ensures) ∙ c .before .if2 .left)
 
 returns : tie.Need-returns
 returns c =
     let f = c .before .before in
     let s = f .before .args in
     let v = c .before .add-wide in
-    c .round-wide .ensures ∙ like (s .a-negative) (value (s .a)) (s .b-negative) (value (s .b)) (s .exp) (value (v .result)) (f .if1 .taken) (v .ensures)
+    c .round-wide .ensures
+    ∙ like (s .a-negative) (value (s .a)) (s .b-negative) (value (s .b)) (s .exp)
+    (value (v .result)) (f .if1 .taken) (v .ensures)
 
 returns-2 : tie.Need-returns-2
 returns-2 c =
@@ -62,7 +68,9 @@ returns-2 c =
     let s = f .before .before .args in
     let v = c .before .sub-wide in
     c .round-wide2 .ensures
-    ∙ below (s .a-negative) (value (s .a)) (s .b-negative) (value (s .b)) (s .exp) (value (v .result)) (f .before .if1 .left) (sym (f .less-wide .ensures) ∙ then2 .if2 .taken) (v .ensures)
+    ∙ below (s .a-negative) (value (s .a)) (s .b-negative) (value (s .b)) (s .exp)
+    (value (v .result)) (f .before .if1 .left) (sym (f .less-wide .ensures) ∙ then2 .if2 .taken)
+    (v .ensures)
 
 returns-3 : tie.Need-returns-3
 returns-3 c =
@@ -71,10 +79,12 @@ returns-3 c =
     let s = f .before .before .args in
     let v = c .before .sub-wide2 in
     c .round-wide3 .ensures
-    ∙ not-below (s .a-negative) (value (s .a)) (s .b-negative) (value (s .b)) (s .exp) (value (v .result)) (g .less-wide2 .result) (f .before .if1 .left) (sym (f .less-wide .ensures) ∙ g .before .if2 .left) (g .less-wide2 .ensures) (v .ensures)
+    ∙ not-below (s .a-negative) (value (s .a)) (s .b-negative) (value (s .b)) (s .exp)
+    (value (v .result)) (g .less-wide2 .result) (f .before .if1 .left)
+    (sym (f .less-wide .ensures) ∙ g .before .if2 .left) (g .less-wide2 .ensures) (v .ensures)
 
 pub sum-aligned-spec : {M : Type 1} → statement M
 sum-aligned-spec =
-    tie.close (tie.spec (λ c _. search needs) (λ c _. search needs) (λ c _. search needs) sub-wide-requires
-    (λ c _. search needs) (λ c _. search needs) sub-wide-requires-2 (λ c _. search needs) returns returns-2
-    returns-3)
+    tie.close (tie.spec (λ c _. search needs) (λ c _. search needs) (λ c _. search needs)
+    sub-wide-requires (λ c _. search needs) (λ c _. search needs) sub-wide-requires-2
+    (λ c _. search needs) returns returns-2 returns-3)

@@ -20,19 +20,28 @@ marked k w h l = jam-small k w (lt-of-lt-of-le h (pow-mono l))
 returns : tie.Need-returns
 returns c =
     let s = c .before .before in
-    jam-kept (s .args .k) (s .args .w) (sym (back (s .args .k) (s .args .w) (s .fits .w .fits)) ∙ c .if2 .taken)
+    jam-kept (s .args .k) (s .args .w)
+    (sym (back (s .args .k) (s .args .w) (s .fits .w .fits)) ∙ c .if2 .taken)
 
 returns-2 : tie.Need-returns-2
 returns-2 c =
     let s = c .before .before in
-    jam-lost (s .args .k) (s .args .w) (λ e. c .if2 .left (back (s .args .k) (s .args .w) (s .fits .w .fits) ∙ e))
+    jam-lost (s .args .k) (s .args .w)
+    (λ e. c .if2 .left (back (s .args .k) (s .args .w) (s .fits .w .fits) ∙ e))
 
 returns-3 : tie.Need-returns-3
-returns-3 c = let s = c .before .before in let e : s .args .w ≡ 0 = c .if3 .taken in omega (arith, marked (s .args .k) (s .args .w) (s .fits .w .fits) (c .before .if1 .left))
+returns-3 c =
+    let s = c .before .before in
+    let e : s .args .w ≡ 0 = c .if3 .taken in
+    omega (arith, marked (s .args .k) (s .args .w) (s .fits .w .fits) (c .before .if1 .left))
 
 returns-4 : tie.Need-returns-4
-returns-4 c = let s = c .before .before in let e : s .args .w ≡ 0 → ⊥ = c .if3 .left in omega (arith, marked (s .args .k) (s .args .w) (s .fits .w .fits) (c .before .if1 .left))
+returns-4 c =
+    let s = c .before .before in
+    let e : s .args .w ≡ 0 → ⊥ = c .if3 .left in
+    omega (arith, marked (s .args .k) (s .args .w) (s .fits .w .fits) (c .before .if1 .left))
 
 pub jam-spec : {M : Type 1} → statement M
 jam-spec =
-    tie.close (tie.spec (λ c. search needs) (λ c. search needs) returns returns-2 returns-3 returns-4)
+    tie.close (tie.spec (λ c. search needs) (λ c. search needs) returns returns-2 returns-3
+    returns-4)

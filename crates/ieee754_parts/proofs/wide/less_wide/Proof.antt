@@ -20,7 +20,9 @@ returns-2 c =
     let s = after-struct-known2 .before .before in
     let a = s .args .a in
     let b = s .args .b in
-    less-high 64 (a .hi) (a .lo) (b .hi) (b .lo) (after-struct-known2 .before .struct-known .given .1 .0 .fits) (after-struct-known2 .struct-known2 .given .1 .0 .fits) (else1 .if1 .left)
+    less-high 64 (a .hi) (a .lo) (b .hi) (b .lo)
+    (after-struct-known2 .before .struct-known .given .1 .0 .fits)
+    (after-struct-known2 .struct-known2 .given .1 .0 .fits) (else1 .if1 .left)
 
 pub less-wide-spec : {M : Type 1} → statement M
 less-wide-spec = tie.close (tie.spec returns returns-2)

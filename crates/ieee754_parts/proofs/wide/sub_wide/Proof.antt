@@ -14,7 +14,8 @@ more : (c : tie.Then1)
 more c =
     let after-struct-known = c .before .before in
     let s = after-struct-known .before .before in
-    high-lt 64 (s .args .a .hi) (s .args .a .lo) (s .args .b .hi) (s .args .b .lo) (c .if1 .taken) (s .pre)
+    high-lt 64 (s .args .a .hi) (s .args .a .lo) (s .args .b .hi) (s .args .b .lo) (c .if1 .taken)
+    (s .pre)
 
 one-more : (a b : ℕ) → b < a → 1 ≤ a - b
 one-more a b h = omega arith
@@ -35,7 +36,8 @@ no-less : (c : tie.Else1)
 no-less c =
     let after-struct-known = c .before .before in
     let s = after-struct-known .before .before in
-    high-le 64 (s .args .a .hi) (s .args .a .lo) (s .args .b .hi) (s .args .b .lo) (after-struct-known .struct-known .given .1 .0 .fits) (s .pre)
+    high-le 64 (s .args .a .hi) (s .args .a .lo) (s .args .b .hi) (s .args .b .lo)
+    (after-struct-known .struct-known .given .1 .0 .fits) (s .pre)
 
 sub-t8 : tie.Need-sub-t8
 sub-t8 c = no-less (c .before .before)
@@ -47,7 +49,9 @@ returns c =
     let after-wrapping-sub-u64 = after-struct-known2 .before .before in
     let s = after-wrapping-sub-u64 .before in
     let r = after-wrapping-sub-u64 .wrapping-sub-u64 in
-    difference-borrowed 64 (s .args .a .lo) (s .args .b .lo) (r .result) (after-struct-known2 .struct-known2 .given .1 .0 .fits) (r .ok) (r .ensures) (s .args .a .hi) (s .args .b .hi) (t .if1 .taken) (more t)
+    difference-borrowed 64 (s .args .a .lo) (s .args .b .lo) (r .result)
+    (after-struct-known2 .struct-known2 .given .1 .0 .fits) (r .ok) (r .ensures) (s .args .a .hi)
+    (s .args .b .hi) (t .if1 .taken) (more t)
 
 returns-2 : tie.Need-returns-2
 returns-2 c =
@@ -56,7 +60,9 @@ returns-2 c =
     let after-wrapping-sub-u64 = after-struct-known2 .before .before in
     let s = after-wrapping-sub-u64 .before in
     let r = after-wrapping-sub-u64 .wrapping-sub-u64 in
-    difference 64 (s .args .a .lo) (s .args .b .lo) (r .result) (after-struct-known2 .struct-known2 .given .1 .0 .fits) (r .ok) (r .ensures) (s .args .a .hi) (s .args .b .hi) (t .if1 .left) (no-less t)
+    difference 64 (s .args .a .lo) (s .args .b .lo) (r .result)
+    (after-struct-known2 .struct-known2 .given .1 .0 .fits) (r .ok) (r .ensures) (s .args .a .hi)
+    (s .args .b .hi) (t .if1 .left) (no-less t)
 
 pub sub-wide-spec : {M : Type 1} → statement M
 sub-wide-spec =

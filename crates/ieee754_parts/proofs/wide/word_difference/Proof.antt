@@ -26,7 +26,9 @@ returns c =
     let s = after-wrapping-sub-u64 .before in
     λ _.
     let r = after-wrapping-sub-u64 .wrapping-sub-u64 in
-    with-borrow (s .args .a .hi) (s .args .a .lo) (s .args .b .hi) (s .args .b .lo) (r .result) (after-struct-known2 .struct-known2 .given .1 .0 .fits) (r .ok) (r .ensures) (t .if1 .taken) (c .if2 .taken)
+    with-borrow (s .args .a .hi) (s .args .a .lo) (s .args .b .hi) (s .args .b .lo) (r .result)
+    (after-struct-known2 .struct-known2 .given .1 .0 .fits) (r .ok) (r .ensures) (t .if1 .taken)
+    (c .if2 .taken)
 
 returns-2 : tie.Need-returns-2
 returns-2 c = λ h. absurd (true≢false h)
@@ -40,11 +42,14 @@ returns-3 c =
     let s = after-wrapping-sub-u64 .before in
     λ _.
     let r = after-wrapping-sub-u64 .wrapping-sub-u64 in
-    without (s .args .a .hi) (s .args .a .lo) (s .args .b .hi) (s .args .b .lo) (r .result) (after-struct-known2 .struct-known2 .given .1 .0 .fits) (r .ok) (r .ensures) (t .if1 .left) (c .if3 .taken)
+    without (s .args .a .hi) (s .args .a .lo) (s .args .b .hi) (s .args .b .lo) (r .result)
+    (after-struct-known2 .struct-known2 .given .1 .0 .fits) (r .ok) (r .ensures) (t .if1 .left)
+    (c .if3 .taken)
 
 returns-4 : tie.Need-returns-4
 returns-4 c = λ h. absurd (true≢false h)
 
 pub word-difference-spec : {M : Type 1} → statement M
 word-difference-spec =
-    tie.close (tie.spec (λ c _. search needs) (λ c. search needs) returns returns-2 returns-3 returns-4)
+    tie.close (tie.spec (λ c _. search needs) (λ c. search needs) returns returns-2 returns-3
+    returns-4)

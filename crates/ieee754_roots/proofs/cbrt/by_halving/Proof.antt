@@ -9,7 +9,8 @@ use Rattle.ieee754_roots.proofs.cbrt.by_halving.Statement.{statement}
 use Rattle.ieee754_roots.proofs.cbrt.by_halving.Tie as tie
 
 abbrev Inv-loop : tie.InvT-loop
-Inv-loop n low₀ high₀ low high = (low < high) × (high ≤ 2 ^ 53) × (cubeTop (2 * low + 1) < n) × (n ≤ cubeTop (2 * high + 1))
+Inv-loop n low₀ high₀ low high =
+    (low < high) × (high ≤ 2 ^ 53) × (cubeTop (2 * low + 1) < n) × (n ≤ cubeTop (2 * high + 1))
 
 abbrev μ-loop : tie.MeasureT-loop
 μ-loop n low₀ high₀ low high = high - low
@@ -53,7 +54,9 @@ loop-again-2 : tie.Need-loop-again-2 Inv-loop μ-loop
 loop-again-2 c = omega arith
 
 returns : tie.Need-returns Inv-loop μ-loop
-returns c = found (c .before .before .args .n) (c .before .loop .low) (c .before .loop .high) (c .before .loop .inv) (c .loop-test .left)
+returns c =
+    found (c .before .before .args .n) (c .before .loop .low) (c .before .loop .high)
+    (c .before .loop .inv) (c .loop-test .left)
 
 pub by-halving-spec : {M : Type 1} → statement M
 by-halving-spec =

@@ -16,15 +16,17 @@ returns : tie.Need-returns
 returns c =
     let after-settled = c .before .before in
     let s = after-settled .before .before in
-    moved-nearest 3 (s .args .m) (s .args .t) (s .pre .0) (s .pre .1) (s .pre .2) (lit≤ tt) (c .by-halving .ensures)
+    moved-nearest 3 (s .args .m) (s .args .t) (s .pre .0) (s .pre .1) (s .pre .2) (lit≤ tt)
+    (c .by-halving .ensures)
 
 returns-2 : tie.Need-returns-2
 returns-2 c =
     let after-settled = c .before in
     let s = after-settled .before .before in
-    moved-nearest 3 (s .args .m) (s .args .t) (s .pre .0) (s .pre .1) (s .pre .2) (lit≤ tt) (after-settled .settled .ensures (c .if1 .left))
+    moved-nearest 3 (s .args .m) (s .args .t) (s .pre .0) (s .pre .1) (s .pre .2) (lit≤ tt)
+    (after-settled .settled .ensures (c .if1 .left))
 
 pub nearest-spec : {M : Type 1} → statement M
 nearest-spec =
-    tie.close (tie.spec (λ c. search needs) (λ c _. search needs) (λ c _. search needs) by-halving-requires returns
-    returns-2)
+    tie.close (tie.spec (λ c. search needs) (λ c _. search needs) (λ c _. search needs)
+    by-halving-requires returns returns-2)

@@ -19,7 +19,9 @@ between : (n q : ℕ) {a b x y : ℕ}
     → a < n
     → n ≤ b
     → IsNearest 3 (n * 2 ^ 104) q
-between n q e f g h l r = nearest-cube n q (lt-of-le-of-lt (le-of-eq (sym (e ∙ ap cubeTop g))) l) (le-trans r (le-of-eq (f ∙ ap cubeTop h)))
+between n q e f g h l r =
+    nearest-cube n q (lt-of-le-of-lt (le-of-eq (sym (e ∙ ap cubeTop g))) l)
+    (le-trans r (le-of-eq (f ∙ ap cubeTop h)))
 
 returns : tie.Need-returns
 returns c =
@@ -27,7 +29,8 @@ returns c =
     let after-cube-top = then1 .before in
     let s = after-cube-top .before in
     λ _.
-    between (s .args .n) (s .args .q + 1) (after-cube-top .cube-top .ensures) (c .before .cube-top2 .ensures) (omega arith) (omega arith) (then1 .if1 .taken) (c .if2 .taken)
+    between (s .args .n) (s .args .q + 1) (after-cube-top .cube-top .ensures)
+    (c .before .cube-top2 .ensures) (omega arith) (omega arith) (then1 .if1 .taken) (c .if2 .taken)
 
 returns-3 : tie.Need-returns-3
 returns-3 c =
@@ -35,7 +38,9 @@ returns-3 c =
     let after-cube-top = else1 .before in
     let s = after-cube-top .before in
     λ _.
-    between (s .args .n) (s .args .q) (c .before .cube-top3 .ensures) (after-cube-top .cube-top .ensures) (omega arith) (omega arith) (c .if3 .taken) (else1 .if1 .left)
+    between (s .args .n) (s .args .q) (c .before .cube-top3 .ensures)
+    (after-cube-top .cube-top .ensures) (omega arith) (omega arith) (c .if3 .taken)
+    (else1 .if1 .left)
 
 mul-cube-top-4 : tie.Need-mul-cube-top-4
 mul-cube-top-4 c =
@@ -69,11 +74,13 @@ returns-4 c =
     let after-cube-top = after-cube-top3 .before .before in
     let s = after-cube-top .before in
     λ _.
-    between (s .args .n) (s .args .q - 1) (c .before .cube-top4 .ensures) (after-cube-top3 .cube-top3 .ensures) (omega (arith, s .pre)) (omega (arith, s .pre)) (c .if4 .taken) (else3 .if3 .left)
+    between (s .args .n) (s .args .q - 1) (c .before .cube-top4 .ensures)
+    (after-cube-top3 .cube-top3 .ensures) (omega (arith, s .pre)) (omega (arith, s .pre))
+    (c .if4 .taken) (else3 .if3 .left)
 
 pub settled-spec : {M : Type 1} → statement M
 settled-spec =
-    tie.close (tie.spec (λ c. search needs) (λ c. search needs) (λ c _. search needs) (λ c. search needs) (λ c. search needs)
-    (λ c _. search needs) (λ c. search needs) returns (λ c. search needs) (λ c. search needs) (λ c. search needs)
-    (λ c _. search needs) returns-3 mul-cube-top-4 sub-cube-top-2 cube-top-requires-4 sub-result returns-4
-    (λ c. search needs))
+    tie.close (tie.spec (λ c. search needs) (λ c. search needs) (λ c _. search needs)
+    (λ c. search needs) (λ c. search needs) (λ c _. search needs) (λ c. search needs) returns
+    (λ c. search needs) (λ c. search needs) (λ c. search needs) (λ c _. search needs) returns-3
+    mul-cube-top-4 sub-cube-top-2 cube-top-requires-4 sub-result returns-4 (λ c. search needs))

@@ -16,7 +16,10 @@ sub-rest : tie.Need-sub-rest Inv-loop μ-loop
 sub-rest c = omega arith
 
 loop-holds : tie.Need-loop-holds Inv-loop μ-loop
-loop-holds c = (record { power = (52, refl); some = omega arith; taken = omega arith; left = omega arith }, omega arith)
+loop-holds c = (
+  record { power = (52, refl); some = omega arith; taken = omega arith; left = omega arith },
+  omega arith,
+)
 
 mul-rest : tie.Need-mul-rest Inv-loop μ-loop
 mul-rest c = omega (arith, rest-lt (c .before .loop .inv .0))
@@ -34,13 +37,19 @@ loop-less : tie.Need-loop-less Inv-loop μ-loop
 loop-less c = omega arith
 
 loop-again : tie.Need-loop-again Inv-loop μ-loop
-loop-again c = (one (c .before .before .loop .inv .0) (c .before .loop-test .taken) (c .if1 .taken), omega arith)
+loop-again c = (
+  one (c .before .before .loop .inv .0) (c .before .loop-test .taken) (c .if1 .taken),
+  omega arith,
+)
 
 loop-less-2 : tie.Need-loop-less-2 Inv-loop μ-loop
 loop-less-2 c = omega arith
 
 loop-again-2 : tie.Need-loop-again-2 Inv-loop μ-loop
-loop-again-2 c = (none (c .before .before .loop .inv .0) (c .before .loop-test .taken) (c .if1 .left), omega arith)
+loop-again-2 c = (
+  none (c .before .before .loop .inv .0) (c .before .loop-test .taken) (c .if1 .left),
+  omega arith,
+)
 
 add-result : tie.Need-add-result Inv-loop μ-loop
 add-result c = omega arith
@@ -49,9 +58,11 @@ returns : tie.Need-returns Inv-loop μ-loop
 returns c = up (last (c .before .before .loop .inv .0) (c .before .loop-test .left)) (omega arith)
 
 returns-2 : tie.Need-returns-2 Inv-loop μ-loop
-returns-2 c = down (last (c .before .before .loop .inv .0) (c .before .loop-test .left)) (omega arith)
+returns-2 c =
+    down (last (c .before .before .loop .inv .0) (c .before .loop-test .left)) (omega arith)
 
 pub by-digits-spec : {M : Type 1} → statement M
 by-digits-spec =
     tie.close
-    (tie.spec Inv-loop μ-loop sub-rest loop-holds mul-rest mul-step add-step add-root loop-less loop-again loop-less-2 loop-again-2 add-result returns returns-2)
+    (tie.spec Inv-loop μ-loop sub-rest loop-holds mul-rest mul-step add-step add-root loop-less
+    loop-again loop-less-2 loop-again-2 add-result returns returns-2)

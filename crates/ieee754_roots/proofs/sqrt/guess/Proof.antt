@@ -12,5 +12,5 @@ float-from-bits-x c = no-nan binary64 ((1022 + c .args .odd) * 2 ^ 52 + c .args 
 
 pub guess-spec : {M : Type 1} → statement M
 guess-spec =
-    tie.close (tie.spec (λ c. search needs) (λ c. search needs) (λ c. search needs) float-from-bits-x (λ c _. search needs)
-    (λ c. search needs))
+    tie.close (tie.spec (λ c. search needs) (λ c. search needs) (λ c. search needs)
+    float-from-bits-x (λ c _. search needs) (λ c. search needs))

@@ -17,25 +17,34 @@ float-to-bits-digits : tie.Need-float-to-bits-digits
 float-to-bits-digits c = below-not-nan _ _ (c .if1 .taken)
 
 settled-requires : tie.Need-settled-requires
-settled-requires c κs = let s = c .before .before in (moved-range 2 (s .args .m) (s .args .odd) (s .pre .0) (s .pre .1) (s .pre .2) (lit≤ tt) .1, digits-range _ .0, digits-range _ .1)
+settled-requires c κs =
+    let s = c .before .before in (
+      moved-range 2 (s .args .m) (s .args .odd) (s .pre .0) (s .pre .1) (s .pre .2) (lit≤ tt) .1,
+      digits-range _ .0,
+      digits-range _ .1,
+    )
 
 returns : tie.Need-returns
 returns c =
     let after-settled = c .before in
     let after-guess = after-settled .before .before in
     let s = after-guess .before in
-    moved-nearest 2 (s .args .m) (s .args .odd) (s .pre .0) (s .pre .1) (s .pre .2) (lit≤ tt) (after-settled .settled .ensures (c .if2 .taken))
+    moved-nearest 2 (s .args .m) (s .args .odd) (s .pre .0) (s .pre .1) (s .pre .2) (lit≤ tt)
+    (after-settled .settled .ensures (c .if2 .taken))
 
 by-digits-requires : tie.Need-by-digits-requires
-by-digits-requires c κs = let s = c .before .before in moved-range 2 (s .args .m) (s .args .odd) (s .pre .0) (s .pre .1) (s .pre .2) (lit≤ tt)
+by-digits-requires c κs =
+    let s = c .before .before in
+    moved-range 2 (s .args .m) (s .args .odd) (s .pre .0) (s .pre .1) (s .pre .2) (lit≤ tt)
 
 returns-2 : tie.Need-returns-2
 returns-2 c =
     let after-guess = c .before .before in
     let s = after-guess .before in
-    moved-nearest 2 (s .args .m) (s .args .odd) (s .pre .0) (s .pre .1) (s .pre .2) (lit≤ tt) (c .by-digits .ensures)
+    moved-nearest 2 (s .args .m) (s .args .odd) (s .pre .0) (s .pre .1) (s .pre .2) (lit≤ tt)
+    (c .by-digits .ensures)
 
 pub nearest-spec : {M : Type 1} → statement M
 nearest-spec =
-    tie.close (tie.spec (λ c. search needs) (λ c _. search needs) float-to-bits-digits (λ c. search needs) settled-requires
-    returns by-digits-requires returns-2)
+    tie.close (tie.spec (λ c. search needs) (λ c _. search needs) float-to-bits-digits
+    (λ c. search needs) settled-requires returns by-digits-requires returns-2)

@@ -24,7 +24,8 @@ next n q r e a b = nearest-square n (q + 1) (omega arith) (omega arith)
 
 -- past the first test no digit of it is lost
 exact : (c : tie.Else1)
-    → let r = c .before .residue .result in let s = c .before .before in r .lo + s .args .q * s .args .q ≡ s .args .n * 2 ^ 52 + 2 ^ 55
+    → let r = c .before .residue .result in
+    let s = c .before .before in r .lo + s .args .q * s .args .q ≡ s .args .n * 2 ^ 52 + 2 ^ 55
 exact c = c .before .residue .ensures .exact (c .if1 .left)
 
 returns-4 : tie.Need-returns-4
@@ -33,7 +34,8 @@ returns-4 c =
     let else2 = else3 .before .before in
     let f = else2 .before .before in
     let r = f .before in
-    λ _. next (r .before .args .n * 2 ^ 52) (r .before .args .q) (r .residue .result .lo) (exact f) (omega arith) (omega arith)
+    λ _. next (r .before .args .n * 2 ^ 52) (r .before .args .q) (r .residue .result .lo) (exact f)
+    (omega arith) (omega arith)
 
 returns-5 : tie.Need-returns-5
 returns-5 c =
@@ -41,10 +43,11 @@ returns-5 c =
     let else2 = else3 .before .before in
     let f = else2 .before .before in
     let r = f .before in
-    λ _. same (r .before .args .n * 2 ^ 52) (r .before .args .q) (r .residue .result .lo) (exact f) (omega arith) (omega arith)
+    λ _. same (r .before .args .n * 2 ^ 52) (r .before .args .q) (r .residue .result .lo) (exact f)
+    (omega arith) (omega arith)
 
 pub settled-spec : {M : Type 1} → statement M
 settled-spec =
-    tie.close (tie.spec (λ c _. search needs) (λ c. search needs) (λ c. search needs) (λ c. search needs) (λ c. search needs)
-    (λ c. search needs) (λ c. search needs) (λ c. search needs) (λ c. search needs) (λ c. search needs) returns-4
-    returns-5)
+    tie.close (tie.spec (λ c _. search needs) (λ c. search needs) (λ c. search needs)
+    (λ c. search needs) (λ c. search needs) (λ c. search needs) (λ c. search needs)
+    (λ c. search needs) (λ c. search needs) (λ c. search needs) returns-4 returns-5)

@@ -24,5 +24,6 @@ returns c =
 
 pub best-permutation-spec : {M : Type 1} → statement M
 best-permutation-spec =
-    tie.close (tie.spec (λ c _. search needs) (λ c _. search needs) (λ c _. search needs) (λ c _. search needs) (λ c _. search needs)
-    (λ c _. search needs) (λ c _. search needs) (λ c _. search needs) (λ c _. search needs) returns)
+    tie.close (tie.spec (λ c _. search needs) (λ c _. search needs) (λ c _. search needs)
+    (λ c _. search needs) (λ c _. search needs) (λ c _. search needs) (λ c _. search needs)
+    (λ c _. search needs) (λ c _. search needs) returns)

@@ -6,7 +6,9 @@ use Rattle.lambdatwist.proofs.poses.pose_turn.Tie as tie
 
 returns : tie.Need-returns
 unfolding poseTurn
-returns c = rw (← c .before .before .refine-depths .ensures, ← c .before .all-positive .ensures, c .if1 .taken)
+returns c =
+    rw
+    (← c .before .before .refine-depths .ensures, ← c .before .all-positive .ensures, c .if1 .taken)
 
 returns-2 : tie.Need-returns-2
 unfolding poseTurn
@@ -21,4 +23,5 @@ returns-2 c =
 
 pub pose-turn-spec : {M : Type 1} → statement M
 pose-turn-spec =
-    tie.close (tie.spec (λ c _. search needs) (λ c _. search needs) returns (λ c _. search needs) returns-2)
+    tie.close (tie.spec (λ c _. search needs) (λ c _. search needs) returns (λ c _. search needs)
+    returns-2)

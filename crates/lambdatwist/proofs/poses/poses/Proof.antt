@@ -1,4 +1,5 @@
--- `lambdatwist::poses::poses` meets its contract: what is left of the loop gives what the whole does. Assumes nothing.
+-- `lambdatwist::poses::poses` meets its contract: what is left of the loop gives what the whole
+-- does. Assumes nothing.
 use borrow.Author.Needs.{needs}
 use native.Mathlib.Omega.{arith}
 use Prim.Native.Nat.{_-_, _≤_, min}
@@ -27,7 +28,10 @@ unfolding poses
 returns c =
     let loop = c .before .before .loop in
     let found = c .before .before .before .before .before .args .found in
-    rw (← c .before .before .before .empty .ensures) (turns-end _ _ _ (found .count) (found .depths) (loop .at) (loop .output) (omega (arith, c .if1 .taken)) ∙ loop .inv .1)
+    rw (← c .before .before .before .empty .ensures)
+    (turns-end _ _ _ (found .count) (found .depths) (loop .at) (loop .output)
+    (omega (arith, c .if1 .taken))
+    ∙ loop .inv .1)
 
 loop-less : tie.Need-loop-less Inv-loop μ-loop
 loop-less c = omega arith
@@ -36,8 +40,13 @@ loop-again : tie.Need-loop-again Inv-loop μ-loop
 loop-again c =
     let start = c .before .before .before .before .before .before .before in
     let loop = c .before .before .before .before .loop in
-    let four = four-slots (start .args .found) (start .good .1 .1 .1 .0) in
-    (search needs, rw (c .pose-turn .ensures) (turns-go _ _ _ _ _ (loop .at) (loop .output) _ (c .before .before .if1 .left) (omega (arith, c .before .before .before .loop-test .taken, four)) ∙ loop .inv .1))
+    let four = four-slots (start .args .found) (start .good .1 .1 .1 .0) in (
+      search needs,
+      rw (c .pose-turn .ensures)
+          (turns-go _ _ _ _ _ (loop .at) (loop .output) _ (c .before .before .if1 .left)
+          (omega (arith, c .before .before .before .loop-test .taken, four))
+          ∙ loop .inv .1),
+    )
 
 returns-2 : tie.Need-returns-2 Inv-loop μ-loop
 unfolding poses
@@ -45,10 +54,14 @@ returns-2 c =
     let loop = c .before .loop in
     let start = c .before .before .before .before in
     let four = four-slots (start .args .found) (start .good .1 .1 .1 .0) in
-    let past : min (start .args .found .count) (length (start .args .found .depths)) ≤ loop .at = omega (arith, c .loop-test .left, four) in
-    rw (← c .before .before .empty .ensures) (turns-end _ _ _ (start .args .found .count) (start .args .found .depths) (loop .at) (loop .output) past ∙ loop .inv .1)
+    let past : min (start .args .found .count) (length (start .args .found .depths)) ≤ loop .at =
+    omega (arith, c .loop-test .left, four) in
+    rw (← c .before .before .empty .ensures)
+    (turns-end _ _ _ (start .args .found .count) (start .args .found .depths) (loop .at)
+    (loop .output) past
+    ∙ loop .inv .1)
 
 pub poses-spec : {M : Type 1} → statement M
 poses-spec =
-    tie.close (tie.spec Inv-loop μ-loop (λ c _. search needs) loop-holds returns (λ c. search needs) (λ c. search needs)
-    (λ c _. search needs) (λ c. search needs) loop-less loop-again returns-2)
+    tie.close (tie.spec Inv-loop μ-loop (λ c _. search needs) loop-holds returns (λ c. search needs)
+    (λ c. search needs) (λ c _. search needs) (λ c. search needs) loop-less loop-again returns-2)

@@ -1,5 +1,6 @@
--- The proof of the cycle of calls {solve_ordered, solve_best_conditioned_permutation}. With n retries left the ordered solve calls the retry at n - 1, and the retry at n the ordered solve at n, so
--- the measures are 2 * n and 2 * n + 1. Assumes nothing.
+-- The proof of the cycle of calls {solve_ordered, solve_best_conditioned_permutation}. With n
+-- retries left the ordered solve calls the retry at n - 1, and the retry at n the ordered solve at
+-- n, so the measures are 2 * n and 2 * n + 1. Assumes nothing.
 use borrow.Author.Needs.{needs}
 use mathlib.Core.Path.{sym, ap, _∙_, subst}
 use Prim.Native.Nat.{ℕ, _+_, _-_, _<_}
@@ -21,8 +22,12 @@ use Rattle.depths.proofs.cubic.is_unusable.Reads as is-unusable-reads
 use Rattle.lambdatwist.proofs.solve.refused.Reads as refused-reads
 use Rattle.lambdatwist.proofs.permutation.best_permutation.Reads as best-permutation-reads
 use Rattle.lambdatwist.proofs.solve.solve_cubic.Reads as solve-cubic-reads
-use Rattle.lambdatwist.proofs.solve.+solve_best_conditioned_permutation+solve_ordered.{statement}
-use Rattle.lambdatwist.proofs.solve.+solve_best_conditioned_permutation+solve_ordered.Tie.{close}
+use Rattle.lambdatwist.proofs.solve.+solve_best_conditioned_permutation+solve_ordered.{
+  statement,
+}
+use Rattle.lambdatwist.proofs.solve.+solve_best_conditioned_permutation+solve_ordered.Tie.{
+  close,
+}
 
 abbrev μ-best : Measures 0 best-kinds.ps ℕ
 μ-best κs a = a .1 .0 + a .1 .0 + 1
@@ -45,7 +50,14 @@ ordered-below t = and 0 ordered-kinds.ps (falls 0 ordered-kinds.ps _<_ μ-ordere
 
 -- the contracts of what each calls
 abbrev best-calls : ℕ → best-lts.Claims
-best-calls t = (best-permutation-reads.Asked, best-permutation-reads.Learnt, refused-reads.Asked, refused-reads.Learnt, ordered-below t, ordered.Post)
+best-calls t = (
+  best-permutation-reads.Asked,
+  best-permutation-reads.Learnt,
+  refused-reads.Asked,
+  refused-reads.Learnt,
+  ordered-below t,
+  ordered.Post,
+)
 
 abbrev ordered-calls : ℕ → ordered-lts.Claims
 ordered-calls t = (
@@ -69,9 +81,11 @@ module _ (t : ℕ) where
   unfolding solveBestConditionedPermutation bestOr
   best-returns c =
       let small = c .before in
-      rw (← small .before .before .best-permutation .ensures, small .if1 .taken, ← c .refused .ensures)
+      rw
+      (← small .before .before .best-permutation .ensures, small .if1 .taken, ← c .refused .ensures)
 
-  best-solve-ordered-requires : best-lts.Need-solve-ordered-requires (best-calls t) (best-at t) best.Post
+  best-solve-ordered-requires :
+      best-lts.Need-solve-ordered-requires (best-calls t) (best-at t) best.Post
   best-solve-ordered-requires c κs =
       let start = c .before .before .before .before .before in
       let n = start .args .retries in
@@ -81,7 +95,8 @@ module _ (t : ℕ) where
   unfolding solveBestConditionedPermutation bestOr
   best-returns-2 c =
       let large = c .before .before .before in
-      rw (← large .before .before .best-permutation .ensures, large .if1 .left) (c .solve-ordered .ensures)
+      rw (← large .before .before .best-permutation .ensures, large .if1 .left)
+      (c .solve-ordered .ensures)
 
 -- ---- the ordered solve
 module _ (t : ℕ) where
@@ -91,15 +106,20 @@ module _ (t : ℕ) where
       let measured = tested .before .before .before in
       let args = measured .before .args in
       rw (c .refused .ensures, c .before .if2 .taken)
-      (out-of-retries (args .input) (args .world) (args .bearings) (measured .measure .ensures) (tested .before .before .measured-cubic .ensures)
+      (out-of-retries (args .input) (args .world) (args .bearings) (measured .measure .ensures)
+      (tested .before .before .measured-cubic .ensures)
       (sym (tested .before .is-unusable .ensures) ∙ tested .if1 .taken))
 
   ordered-solve-best-conditioned-permutation-requires :
-      ordered-lts.Need-solve-best-conditioned-permutation-requires (ordered-calls t) (ordered-at t) ordered.Post
+      ordered-lts.Need-solve-best-conditioned-permutation-requires (ordered-calls t) (ordered-at t)
+      ordered.Post
   ordered-solve-best-conditioned-permutation-requires c κs =
       let start = c .before .before .before .before .before in
-      let n = start .args .retries in
-      (subst (λ (j : ℕ). n - 1 + (n - 1) + 1 < j) (start .pre .0) (omega (arith, pos-of-ne-zero (c .if2 .left))), tt)
+      let n = start .args .retries in (
+        subst (λ (j : ℕ). n - 1 + (n - 1) + 1 < j)
+            (start .pre .0) (omega (arith, pos-of-ne-zero (c .if2 .left))),
+        tt,
+      )
 
   ordered-returns-2 : ordered-lts.Need-returns-2 (ordered-calls t) (ordered-at t) ordered.Post
   ordered-returns-2 c =
@@ -108,9 +128,11 @@ module _ (t : ℕ) where
       let measured = tested .before .before .before in
       let args = measured .before .args in
       c .solve-best-conditioned-permutation .ensures
-      ∙ retried (args .input) (args .world) (args .bearings) (measured .measure .ensures) (tested .before .before .measured-cubic .ensures)
+      ∙ retried (args .input) (args .world) (args .bearings) (measured .measure .ensures)
+      (tested .before .before .measured-cubic .ensures)
       (args .retries - 1) (sym (tested .before .is-unusable .ensures) ∙ tested .if1 .taken)
-      ∙ ap (λ (n : ℕ). solveOrdered n (args .input) (args .world) (args .bearings) .value) (omega (arith, pos-of-ne-zero (left .if2 .left)))
+      ∙ ap (λ (n : ℕ). solveOrdered n (args .input) (args .world) (args .bearings) .value)
+      (omega (arith, pos-of-ne-zero (left .if2 .left)))
 
   ordered-returns-3 : ordered-lts.Need-returns-3 (ordered-calls t) (ordered-at t) ordered.Post
   ordered-returns-3 c =
@@ -118,14 +140,20 @@ module _ (t : ℕ) where
       let measured = tested .before .before .before in
       let args = measured .before .args in
       c .solve-cubic .ensures
-      ∙ usable (args .input) (args .world) (args .bearings) (measured .measure .ensures) (tested .before .before .measured-cubic .ensures)
+      ∙ usable (args .input) (args .world) (args .bearings) (measured .measure .ensures)
+      (tested .before .before .measured-cubic .ensures)
       (args .retries) (sym (tested .before .is-unusable .ensures) ∙ tested .if1 .left)
 
 pub +solve-best-conditioned-permutation+solve-ordered-spec : {M : Type 1} → statement M
 +solve-best-conditioned-permutation+solve-ordered-spec =
     close μ-best μ-ordered
-    (λ t. best-lts.spec (best-calls t) (best-at t) best.Post (λ c _. search needs) (λ c _. search needs) (best-returns t)
+    (λ t.
+    best-lts.spec (best-calls t) (best-at t) best.Post (λ c _. search needs) (λ c _. search needs)
+    (best-returns t)
     (best-solve-ordered-requires t) (best-returns-2 t))
-    (λ t. ordered-lts.spec (ordered-calls t) (ordered-at t) ordered.Post (λ c _. search needs) (λ c _. search needs) (λ c _. search needs)
+    (λ t.
+    ordered-lts.spec (ordered-calls t) (ordered-at t) ordered.Post (λ c _. search needs)
+    (λ c _. search needs) (λ c _. search needs)
     (λ c _. search needs) (ordered-returns t) (λ c. pos-of-ne-zero (c .if2 .left))
-    (ordered-solve-best-conditioned-permutation-requires t) (ordered-returns-2 t) (λ c _. search needs) (ordered-returns-3 t))
+    (ordered-solve-best-conditioned-permutation-requires t) (ordered-returns-2 t)
+    (λ c _. search needs) (ordered-returns-3 t))

@@ -9,7 +9,11 @@ returns : tie.Need-returns
 unfolding solveCandidates
 returns c =
     let told = c .before in
-    rw (← told .before .before .world-basis-inverse .ensures, told .enum-told .given .1, ← c .refused .ensures)
+    rw (
+      ← told .before .before .world-basis-inverse .ensures,
+      told .enum-told .given .1,
+      ← c .refused .ensures,
+    )
 
 if-kept-requires : tie.Need-if-kept-requires
 if-kept-requires c κs = rw (c .poses .ensures) (poses-kept _ _ _ _ .few)
@@ -27,5 +31,5 @@ returns-2 c =
 
 pub solve-candidates-spec : {M : Type 1} → statement M
 solve-candidates-spec =
-    tie.close (tie.spec (λ c _. search needs) (λ c. search needs) (λ c. search needs) (λ c _. search needs) returns
-    (λ c _. search needs) if-kept-requires returns-2)
+    tie.close (tie.spec (λ c _. search needs) (λ c. search needs) (λ c. search needs)
+    (λ c _. search needs) returns (λ c _. search needs) if-kept-requires returns-2)

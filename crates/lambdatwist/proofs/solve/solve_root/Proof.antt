@@ -49,6 +49,7 @@ returns-3 c =
 
 pub solve-root-spec : {M : Type 1} → statement M
 solve-root-spec =
-    tie.close (tie.spec (λ c _. search needs) (λ c _. search needs) (λ c. search needs) (λ c. search needs)
-    (λ c _. search needs) returns (λ c _. search needs) (λ c. search needs) (λ c. search needs)
-    (λ c _. search needs) returns-2 (λ c _. search needs) (λ c _. search needs) returns-3)
+    tie.close (tie.spec (λ c _. search needs) (λ c _. search needs) (λ c. search needs)
+    (λ c. search needs) (λ c _. search needs) returns (λ c _. search needs) (λ c. search needs)
+    (λ c. search needs) (λ c _. search needs) returns-2 (λ c _. search needs) (λ c _. search needs)
+    returns-3)

@@ -58,7 +58,8 @@ module _ (t : ℕ) where
       let spelt = put .before in
       let one = spelt .before .before in
       let n = one .before .before .args .n in
-      let digit = ap (λ (g : ℕ). g ∷ []) (spelt .glyph .ensures) ∙ sym (decimal-one n (one .if1 .taken)) in
+      let digit =
+      ap (λ (g : ℕ). g ∷ []) (spelt .glyph .ensures) ∙ sym (decimal-one n (one .if1 .taken)) in
       spelt-out n (stored-as digit (put .put-byte .ensures))
 
   put-decimal-requires : lts.Need-put-decimal-requires calls asked reads.Post

@@ -11,7 +11,8 @@ use Rattle.listing.proofs.digits.put_word.Statement.{statement}
 use Rattle.listing.proofs.digits.put_word.Tie as tie
 
 abbrev Inv-loop : tie.InvT-loop
-Inv-loop out₀ at word rest₀ i₀ out rest i = (i ≤ 16) × Left out₀ at (hexadecimal 16 word) i rest out × (length out ≡ length out₀)
+Inv-loop out₀ at word rest₀ i₀ out rest i =
+    (i ≤ 16) × Left out₀ at (hexadecimal 16 word) i rest out × (length out ≡ length out₀)
 
 abbrev μ-loop : tie.MeasureT-loop
 μ-loop out₀ at word rest₀ i₀ out rest i = i

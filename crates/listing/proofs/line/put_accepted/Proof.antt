@@ -31,6 +31,6 @@ returns-2 c =
 
 pub put-accepted-spec : {M : Type 1} → statement M
 put-accepted-spec =
-    tie.close (tie.spec (λ c _. search needs) returns (λ c _. search needs) (λ c. search needs) (λ c _. search needs)
-    (λ c _. search needs) (λ c. search needs) (λ c _. search needs) (λ c _. search needs) (λ c _. search needs)
-    (λ c. search needs) returns-2)
+    tie.close (tie.spec (λ c _. search needs) returns (λ c _. search needs) (λ c. search needs)
+    (λ c _. search needs) (λ c _. search needs) (λ c. search needs) (λ c _. search needs)
+    (λ c _. search needs) (λ c _. search needs) (λ c. search needs) returns-2)

@@ -33,6 +33,6 @@ returns-2 c =
 
 pub put-pose-spec : {M : Type 1} → statement M
 put-pose-spec =
-    tie.close (tie.spec (λ c _. search needs) returns (λ c _. search needs) (λ c _. search needs) (λ c _. search needs)
-    (λ c. search needs) (λ c _. search needs) (λ c _. search needs) (λ c _. search needs) (λ c _. search needs)
-    (λ c. search needs) returns-2)
+    tie.close (tie.spec (λ c _. search needs) returns (λ c _. search needs) (λ c _. search needs)
+    (λ c _. search needs) (λ c. search needs) (λ c _. search needs) (λ c _. search needs)
+    (λ c _. search needs) (λ c _. search needs) (λ c. search needs) returns-2)

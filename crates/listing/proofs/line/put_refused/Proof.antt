@@ -27,5 +27,5 @@ returns-2 c =
 
 pub put-refused-spec : {M : Type 1} → statement M
 put-refused-spec =
-    tie.close (tie.spec (λ c _. search needs) returns (λ c _. search needs) (λ c. search needs) (λ c _. search needs)
-    (λ c _. search needs) (λ c _. search needs) (λ c. search needs) returns-2)
+    tie.close (tie.spec (λ c _. search needs) returns (λ c _. search needs) (λ c. search needs)
+    (λ c _. search needs) (λ c _. search needs) (λ c _. search needs) (λ c. search needs) returns-2)

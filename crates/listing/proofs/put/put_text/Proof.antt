@@ -11,7 +11,8 @@ use Rattle.listing.proofs.put.put_text.Statement.{statement}
 use Rattle.listing.proofs.put.put_text.Tie as tie
 
 abbrev Inv-loop : tie.InvT-loop
-Inv-loop out₀ at text i₀ out i = (i ≤ length text) × (out ≡ sets out₀ at (take i text)) × (length out ≡ length out₀)
+Inv-loop out₀ at text i₀ out i =
+    (i ≤ length text) × (out ≡ sets out₀ at (take i text)) × (length out ≡ length out₀)
 
 abbrev μ-loop : tie.MeasureT-loop
 μ-loop out₀ at text i₀ out i = length text - i

@@ -24,4 +24,5 @@ returns c =
 
 pub put-double-spec : {M : Type 1} → statement M
 put-double-spec =
-    tie.close (tie.spec (λ c _. search needs) (λ c _. search needs) (λ c _. search needs) (λ c. search needs) returns)
+    tie.close (tie.spec (λ c _. search needs) (λ c _. search needs) (λ c _. search needs)
+    (λ c. search needs) returns)

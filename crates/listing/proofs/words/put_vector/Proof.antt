@@ -12,10 +12,17 @@ returns c =
     let z = c .before .before in
     let y = z .before .before .before .before in
     let x = y .before .before .before .before in (
-      x .put-double .ensures .0 and-then y .put-double2 .ensures .0 and-then z .put-double3 .ensures .0,
-      omega (arith, x .put-double .ensures .1, y .put-double2 .ensures .1, z .put-double3 .ensures .1),
+      x .put-double .ensures .0 and-then y .put-double2 .ensures .0
+          and-then z .put-double3 .ensures .0,
+      omega (
+        arith,
+        x .put-double .ensures .1,
+        y .put-double2 .ensures .1,
+        z .put-double3 .ensures .1,
+      ),
     )
 
 pub put-vector-spec : {M : Type 1} → statement M
 put-vector-spec =
-    tie.close (tie.spec (λ c _. search needs) (λ c _. search needs) (λ c _. search needs) (λ c. search needs) returns)
+    tie.close (tie.spec (λ c _. search needs) (λ c _. search needs) (λ c _. search needs)
+    (λ c. search needs) returns)

@@ -21,7 +21,8 @@ returns c =
     (stored-as lines (stored line (omega (arith, start .pre))), omega (arith, line .fits))
 
 abbrev entry : tie.After-put-accepted → tie.Start
-entry c = let accepted = c .before .before .before .before .before .before in accepted .before .before
+entry c =
+    let accepted = c .before .before .before .before .before .before in accepted .before .before
 
 -- the first line is in place
 first : (c : tie.After-put-accepted) → let a = entry c .args in
@@ -49,5 +50,5 @@ returns-2 c =
 
 pub put-answer-spec : {M : Type 1} → statement M
 put-answer-spec =
-    tie.close (tie.spec (λ c _. search needs) (λ c. search needs) returns (λ c _. search needs) (λ c _. search needs)
-    (λ c _. search needs) put-poses-requires (λ c. search needs) returns-2)
+    tie.close (tie.spec (λ c _. search needs) (λ c. search needs) returns (λ c _. search needs)
+    (λ c _. search needs) (λ c _. search needs) put-poses-requires (λ c. search needs) returns-2)

@@ -25,12 +25,13 @@ returns-2 c =
     let room = solved .before .before .before .before .before in
     let start = room .before .before .before in
     let a = start .args in
-    let lines = ap (λ (answer : Answer). answerLines (a .number) answer (a .frame .target) (a .frame .bearing))
+    let lines =
+    ap (λ (answer : Answer). answerLines (a .number) answer (a .frame .target) (a .frame .bearing))
     (solved .solve .ensures) in
     written (omega (arith, room .if1 .left, room .before .left .ensures))
     (put .put-answer .ensures .1) (stored-as lines (put .put-answer .ensures .0))
 
 pub put-frame-spec : {M : Type 1} → statement M
 put-frame-spec =
-    tie.close (tie.spec (λ c _. search needs) returns (λ c _. search needs) put-answer-requires (λ c. search needs)
-    returns-2)
+    tie.close (tie.spec (λ c _. search needs) returns (λ c _. search needs) put-answer-requires
+    (λ c. search needs) returns-2)

@@ -33,9 +33,11 @@ loop-again c =
     let line = put .put-pose .ensures in
     let four = start .good .1 .1 .1 .1 .0 .1 .0 .1 in
     let most = min-le-right (start .args .count) 4 in
-    let few : counted .at-most-four .result ≤ 4 = omega (arith, counted .at-most-four .ensures, most) in
+    let few : counted .at-most-four .result ≤ 4 =
+    omega (arith, counted .at-most-four .ensures, most) in
     let inside : loop .place < length (start .args .t5) = omega (arith, four) in
-    let room : loop .next + 320 ≤ length (loop .out) = omega (arith, loop .inv .2, loop .inv .3) in (
+    let room : loop .next + 320 ≤ length (loop .out) =
+    omega (arith, loop .inv .2, loop .inv .3) in (
       omega arith,
       next-stored _ _ _ (loop .place) _ inside room (loop .inv .1) line,
       omega (arith, line .fits, loop .inv .2),

@@ -81,7 +81,7 @@ returns-6 c =
 
 pub put-found-spec : {M : Type 1} → statement M
 put-found-spec =
-    tie.close (tie.spec (λ c. search needs) (λ c _. search needs) (λ c. search needs) returns (λ c. search needs)
-    (λ c _. search needs) returns-2 (λ c _. search needs) (λ c. search needs) (λ c _. search needs)
-    (λ c. search needs) (λ c _. search needs) returns-3 (λ c. search needs) returns-4 (λ c. search needs)
-    returns-5 (λ c. search needs) returns-6)
+    tie.close (tie.spec (λ c. search needs) (λ c _. search needs) (λ c. search needs) returns
+    (λ c. search needs) (λ c _. search needs) returns-2 (λ c _. search needs) (λ c. search needs)
+    (λ c _. search needs) (λ c. search needs) (λ c _. search needs) returns-3 (λ c. search needs)
+    returns-4 (λ c. search needs) returns-5 (λ c. search needs) returns-6)

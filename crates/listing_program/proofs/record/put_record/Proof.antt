@@ -41,4 +41,5 @@ returns-2 c =
 
 pub put-record-spec : {M : Type 1} → statement M
 put-record-spec =
-    tie.close (tie.spec (λ c _. search needs) returns (λ c _. search needs) put-found-requires (λ c. search needs) returns-2)
+    tie.close (tie.spec (λ c _. search needs) returns (λ c _. search needs) put-found-requires
+    (λ c. search needs) returns-2)

@@ -29,7 +29,8 @@ fetched size filled next count n b l from to same = record {
 -- what reading once led to
 led : (c : tie.After-fill) {r : Filling}
     → c .fill .result ≡ r
-    → let a = c .before .before .before .before .args in Fills (length (now (a .input))) (a .filled) r
+    → let a = c .before .before .before .before .args in
+    Fills (length (now (a .input))) (a .filled) r
 led c e =
     let a = c .before .before .before .before .args in
     subst (λ (r : Filling). Fills (length (now (a .input))) (a .filled) r) e (c .fill .ensures .0)
@@ -55,5 +56,6 @@ returns-3 c =
 
 pub read-on-spec : {M : Type 1} → statement M
 read-on-spec =
-    tie.close (tie.spec (λ c. search needs) (λ c _. search needs) (λ c. search needs) (λ c. search needs) (λ c. search needs)
-    (λ c. search needs) returns-2 (λ c. search needs) returns-3 (λ c. search needs) (λ c. search needs))
+    tie.close (tie.spec (λ c. search needs) (λ c _. search needs) (λ c. search needs)
+    (λ c. search needs) (λ c. search needs) (λ c. search needs) returns-2 (λ c. search needs)
+    returns-3 (λ c. search needs) (λ c. search needs))

@@ -92,8 +92,9 @@ returns-5 c =
 pub step-spec : {M : Type 1} → statement M
 step-spec =
     tie.close (tie.spec (λ c _. search needs) (λ c _. search needs) (λ c. ready-inside c)
-    slice-aggregate-put-record (λ c _. search needs) (λ c. search needs) (λ c _. search needs) (λ c. search needs)
-    (λ c _. search needs) (λ c. search needs) (λ c. search needs) returns (λ c _. search needs)
-    (λ c. search needs) (λ c. search needs) (λ c _. search needs) (λ c. search needs) (λ c. search needs)
-    returns-2 (λ c. search needs) (λ c. search needs) returns-3 (λ c. search needs) (λ c. search needs) returns-4
-    (λ c. search needs) (λ c. search needs) returns-5)
+    slice-aggregate-put-record (λ c _. search needs) (λ c. search needs) (λ c _. search needs)
+    (λ c. search needs) (λ c _. search needs) (λ c. search needs) (λ c. search needs) returns
+    (λ c _. search needs) (λ c. search needs) (λ c. search needs) (λ c _. search needs)
+    (λ c. search needs) (λ c. search needs) returns-2 (λ c. search needs) (λ c. search needs)
+    returns-3 (λ c. search needs) (λ c. search needs) returns-4 (λ c. search needs)
+    (λ c. search needs) returns-5)

@@ -49,6 +49,7 @@ returns-5 c =
 
 pub fill-spec : {M : Type 1} → statement M
 fill-spec =
-    tie.close (tie.spec (λ c. search needs) (λ c. search needs) (λ c. search needs) (λ c. search needs) (λ c _. search needs)
-    (λ c. search needs) returns-2 (λ c _. search needs) (λ c. search needs) returns-3 (λ c. search needs)
-    returns-4 (λ c _. search needs) (λ c. search needs) (λ c. search needs) returns-5)
+    tie.close (tie.spec (λ c. search needs) (λ c. search needs) (λ c. search needs)
+    (λ c. search needs) (λ c _. search needs) (λ c. search needs) returns-2 (λ c _. search needs)
+    (λ c. search needs) returns-3 (λ c. search needs) returns-4 (λ c _. search needs)
+    (λ c. search needs) (λ c. search needs) returns-5)

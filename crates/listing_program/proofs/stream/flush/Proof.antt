@@ -15,4 +15,5 @@ returns-2 c = λ l. absurd (not-le-of-lt l (c .before .before .if1 .left))
 
 pub flush-spec : {M : Type 1} → statement M
 flush-spec =
-    tie.close (tie.spec (λ c. search needs) slice-aggregate-write-all (λ c _. search needs) returns-2)
+    tie.close (tie.spec (λ c. search needs) slice-aggregate-write-all (λ c _. search needs)
+    returns-2)

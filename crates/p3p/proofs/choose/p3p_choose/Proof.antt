@@ -47,6 +47,6 @@ returns-2 c =
 
 pub p3p-choose-spec : {M : Type 1} → statement M
 p3p-choose-spec =
-    tie.close (tie.spec (λ c _. search needs) (λ c _. search needs) (λ c _. search needs) (λ c _. search needs)
-    (λ c _. search needs) (λ c _. search needs) (λ c _. search needs) (λ c. search needs) (λ c. search needs)
-    returns returns-2)
+    tie.close (tie.spec (λ c _. search needs) (λ c _. search needs) (λ c _. search needs)
+    (λ c _. search needs) (λ c _. search needs) (λ c _. search needs) (λ c _. search needs)
+    (λ c. search needs) (λ c. search needs) returns returns-2)

@@ -21,5 +21,6 @@ returns c =
 
 pub pose-at-spec : {M : Type 1} → statement M
 pose-at-spec =
-    tie.close (tie.spec (λ c _. search needs) (λ c. search needs) (λ c _. search needs) (λ c. search needs)
-    (λ c _. search needs) (λ c. search needs) (λ c _. search needs) (λ c _. search needs) returns)
+    tie.close (tie.spec (λ c _. search needs) (λ c. search needs) (λ c _. search needs)
+    (λ c. search needs) (λ c _. search needs) (λ c. search needs) (λ c _. search needs)
+    (λ c _. search needs) returns)

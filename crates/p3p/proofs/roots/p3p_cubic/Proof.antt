@@ -22,5 +22,5 @@ returns-3 c =
 
 pub p3p-cubic-spec : {M : Type 1} → statement M
 p3p-cubic-spec =
-    tie.close (tie.spec (λ c _. search needs) (λ c. search needs) (λ c. search needs) (λ c. search needs) returns returns-2
-    returns-3)
+    tie.close (tie.spec (λ c _. search needs) (λ c. search needs) (λ c. search needs)
+    (λ c. search needs) returns returns-2 returns-3)

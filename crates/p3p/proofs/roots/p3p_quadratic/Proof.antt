@@ -8,19 +8,22 @@ use Rattle.p3p.proofs.roots.p3p_quadratic.Tie as tie
 returns : tie.Need-returns
 returns c =
     let told = c .before in
-    rw (← told .before .before .quadratic-real-monic .ensures, told .roots .given .1) (refl, (refl, refl))
+    rw (← told .before .before .quadratic-real-monic .ensures, told .roots .given .1)
+    (refl, (refl, refl))
 
 returns-2 : tie.Need-returns-2
 returns-2 c =
     let told = c .before in
-    rw (← told .before .before .quadratic-real-monic .ensures, told .roots2 .given .1) (refl, (refl, refl))
+    rw (← told .before .before .quadratic-real-monic .ensures, told .roots2 .given .1)
+    (refl, (refl, refl))
 
 returns-3 : tie.Need-returns-3
 returns-3 c =
     let told = c .before in
-    rw (← told .before .before .quadratic-real-monic .ensures, told .roots3 .given .1) (refl, (refl, refl))
+    rw (← told .before .before .quadratic-real-monic .ensures, told .roots3 .given .1)
+    (refl, (refl, refl))
 
 pub p3p-quadratic-spec : {M : Type 1} → statement M
 p3p-quadratic-spec =
-    tie.close (tie.spec (λ c _. search needs) (λ c. search needs) (λ c. search needs) (λ c. search needs) returns returns-2
-    returns-3)
+    tie.close (tie.spec (λ c _. search needs) (λ c. search needs) (λ c. search needs)
+    (λ c. search needs) returns returns-2 returns-3)

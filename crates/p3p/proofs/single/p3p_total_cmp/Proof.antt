@@ -14,5 +14,5 @@ returns-3 c = rw (← c .before .before .total-cmp .ensures, c .enum-told3 .give
 
 pub p3p-total-cmp-spec : {M : Type 1} → statement M
 p3p-total-cmp-spec =
-    tie.close (tie.spec (λ c _. search needs) (λ c. search needs) (λ c. search needs) (λ c. search needs) returns returns-2
-    returns-3)
+    tie.close (tie.spec (λ c _. search needs) (λ c. search needs) (λ c. search needs)
+    (λ c. search needs) returns returns-2 returns-3)

@@ -3,7 +3,8 @@
 use borrow.Author.Needs.{needs}
 use Rattle.p3p_common.specs.NearOrthonormal.{hasNearOrthonormalColumns}
 use Rattle.p3p_common.proofs.has_near_orthonormal_columns.has_near_orthonormal_columns.Statement.{statement}
-use Rattle.p3p_common.proofs.has_near_orthonormal_columns.has_near_orthonormal_columns.Tie as tie
+use Rattle.p3p_common.proofs.has_near_orthonormal_columns.has_near_orthonormal_columns.Tie
+    as tie
 
 returns : tie.Need-returns
 unfolding hasNearOrthonormalColumns

@@ -3,7 +3,9 @@
 use borrow.Author.Needs.{needs}
 use borrow.Author.Tests.{not-true, not-false}
 use Rattle.p3p_common.specs.ProjectedPose.{projectedPoseFitsMinimalSample}
-use Rattle.p3p_common.proofs.projected_pose.projected_pose_fits_minimal_sample.Statement.{statement}
+use Rattle.p3p_common.proofs.projected_pose.projected_pose_fits_minimal_sample.Statement.{
+  statement,
+}
 use Rattle.p3p_common.proofs.projected_pose.projected_pose_fits_minimal_sample.Tie as tie
 
 returns : tie.Need-returns

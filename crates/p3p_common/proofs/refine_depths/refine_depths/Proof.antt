@@ -17,7 +17,8 @@ Inv-loop edges cosines iterations a01 a02 a12 tolerance refined₀ updates₀ re
     ≡ refineTurns iterations refined₀ edges cosines tolerance 0 .value)
 
 abbrev μ-loop : tie.MeasureT-loop
-μ-loop edges cosines iterations a01 a02 a12 tolerance refined₀ updates₀ refined updates = iterations - updates
+μ-loop edges cosines iterations a01 a02 a12 tolerance refined₀ updates₀ refined updates =
+    iterations - updates
 
 loop-holds : tie.Need-loop-holds Inv-loop μ-loop
 loop-holds c = (search needs, rw (sub-zero (c .before .before .args .iterations)))

@@ -51,8 +51,11 @@ loop-again c =
     let head = turn .before in
     let start = head .before .before in
     let loop = head .loop in
-    let next = part-next (start .args .s .now) (start .args .at) (loop .i) (omega arith) in
-    (omega arith, cc (next, loop .inv .1, c .widened .ensures), next-lt _ _ _ (loop .inv .2) (small c))
+    let next = part-next (start .args .s .now) (start .args .at) (loop .i) (omega arith) in (
+      omega arith,
+      cc (next, loop .inv .1, c .widened .ensures),
+      next-lt _ _ _ (loop .inv .2) (small c),
+    )
 
 returns : tie.Need-returns Inv-loop μ-loop
 returns c =

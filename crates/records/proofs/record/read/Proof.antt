@@ -17,7 +17,8 @@ returns-2 c = sym (lone-byte _ _ (c .before .if1 .left) (c .if2 .taken))
 returns-3 : tie.Need-returns-3
 returns-3 c =
     let read = c .before in
-    sym (wrong-length _ _ (read .before .if2 .left) (λ e. c .if3 .taken (read .number .ensures ∙ e)))
+    sym
+    (wrong-length _ _ (read .before .if2 .left) (λ e. c .if3 .taken (read .number .ensures ∙ e)))
 
 abbrev start : tie.Else3 → tie.Start
 start c = let two = c .before .before in two .before .before .before
@@ -45,7 +46,8 @@ returns-6 c =
     let whole = version .before .before in
     let sized = whole .before in
     let two = sized .before .before in
-    let read = accepted _ _ (two .if2 .left) (right sized) (whole .if4 .left) (version .if5 .left) in
+    let read =
+    accepted _ _ (two .if2 .left) (right sized) (whole .if4 .left) (version .if5 .left) in
     rw (c .frame-at .ensures) (sym read)
 
 pub read-spec : {M : Type 1} → statement M

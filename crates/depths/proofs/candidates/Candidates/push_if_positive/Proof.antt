@@ -19,4 +19,5 @@ returns-3 c = rw (c .if1 .left)
 
 pub push-if-positive-spec : {M : Type 1} → statement M
 push-if-positive-spec =
-    tie.close (tie.spec (λ c. search needs) (λ c. search needs) (λ c. search needs) returns returns-2 returns-3)
+    tie.close (tie.spec (λ c. search needs) (λ c. search needs) (λ c. search needs) returns
+    returns-2 returns-3)
