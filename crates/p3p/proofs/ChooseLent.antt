@@ -5,8 +5,8 @@ use mathlib.Core.List.{List, [], _∷_}
 use lib.Ieee.{Float}
 use Rattle.choice.specs.Choose.{choose}
 use Rattle.p3p.specs.Types.{Vector3, Pose, Choice}
-use Rattle.frames.specs.Lent.{vectorAt}
-use Rattle.p3p.specs.ChooseLent.{poseAt, chosen}
+use Rattle.frames.specs.Lent.{vectorAt, poseAt}
+use Rattle.p3p.specs.ChooseLent.{chosen}
 
 module _ (poses : List Float) (count : ℕ) (target bearing : List Float) where
   pub as-chosen : {p0 p1 p2 p3 : Pose} {t b : Vector3} {a : Choice}

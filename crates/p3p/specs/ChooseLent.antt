@@ -1,20 +1,12 @@
 -- The choice over lent arrays: the poses that are read, and what is returned and held after it. A
 -- refused choice leaves the best as it was: document 01, "Questions, in order".
-use Prim.Native.Nat.{ℕ, _+_}
+use Prim.Native.Nat.{ℕ}
 use mathlib.Core.List.{List, [], _∷_}
 use lib.Ieee.{Float}
-use Rattle.linalg.specs.Matrices.{fromColumns}
 use Rattle.choice.specs.Choose.{choose}
-use Rattle.p3p.specs.Types.{Pose, Choice}
+use Rattle.p3p.specs.Types.{Choice}
 use Rattle.choice.specs.declared.choose.Choice.the-variants.{Best, Refused}
-use Rattle.frames.specs.Lent.{vectorAt}
-
--- the slot that begins at a place: the rotation by columns, and the translation
-unfoldable pub poseAt : List Float → ℕ → Pose
-poseAt xs at = record {
-  rotation = fromColumns (vectorAt xs at) (vectorAt xs (at + 3)) (vectorAt xs (at + 6));
-  translation = vectorAt xs (at + 9);
-}
+use Rattle.frames.specs.Lent.{vectorAt, poseAt}
 
 unfoldable pub chosen : List Float → ℕ → List Float → List Float → Choice
 chosen poses count target bearing =

@@ -1,28 +1,10 @@
 // The choice of a pose by a fourth target, over lent arrays.
 ghost use mathlib.Core.Path.{_≡_};
-ghost use Prim.Native.Nat.{_+_, _≤_};
-ghost use Rattle.p3p.specs.ChooseLent.{poseAt, chosen, bestAfter};
+ghost use Rattle.p3p.specs.ChooseLent.{chosen, bestAfter};
 ghost use Rattle.choice.specs.Answer.{number};
 use choice::choose::Choice;
+use frames::lent::pose_at;
 use frames::lent::vector_at;
-use frames::pose::Pose;
-use linalg::matrix3::Matrix3;
-
-// The slot that begins at `at`.
-fn pose_at(poses: &[f64; 48], at: usize) -> Pose
-    requires { ⌜ at + 12 ≤ 48 ⌝ }
-    ensures { λ r. ⌜ r ≡ poseAt (now (poses .entry)) at ⌝ }
-{
-    let column0 = vector_at(poses, at);
-    let column1 = vector_at(poses, at + 3);
-    let column2 = vector_at(poses, at + 6);
-    let translation = vector_at(poses, at + 9);
-    let rotation = Matrix3::from_columns(column0, column1, column2);
-    Pose {
-        rotation,
-        translation,
-    }
-}
 
 // The number from 1 of the pose under which the target lies nearest to its bearing. Returns 0, or
 // the refusal number with nothing written.

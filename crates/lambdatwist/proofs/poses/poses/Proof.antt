@@ -26,9 +26,10 @@ loop-holds c = (search needs, refl)
 returns : tie.Need-returns Inv-loop μ-loop
 unfolding poses
 returns c =
-    let loop = c .before .before .loop in
-    let found = c .before .before .before .before .before .args .found in
-    rw (← c .before .before .before .empty .ensures)
+    let turn = c .before .before in
+    let loop = turn .loop in
+    let found = turn .before .before .before .args .found in
+    rw (← turn .before .empty .ensures)
     (turns-end _ _ _ (found .count) (found .depths) (loop .at) (loop .output)
     (omega (arith, c .if1 .taken))
     ∙ loop .inv .1)
@@ -38,25 +39,28 @@ loop-less c = omega arith
 
 loop-again : tie.Need-loop-again Inv-loop μ-loop
 loop-again c =
-    let start = c .before .before .before .before .before .before .before in
-    let loop = c .before .before .before .before .loop in
+    let here = c .before .before in
+    let turn = here .before .before in
+    let start = turn .before .before .before in
+    let loop = turn .loop in
     let four = four-slots (start .args .found) (start .good .1 .1 .1 .0) in (
       search needs,
       rw (c .pose-turn .ensures)
-          (turns-go _ _ _ _ _ (loop .at) (loop .output) _ (c .before .before .if1 .left)
-          (omega (arith, c .before .before .before .loop-test .taken, four))
+          (turns-go _ _ _ _ _ (loop .at) (loop .output) _ (here .if1 .left)
+          (omega (arith, here .before .loop-test .taken, four))
           ∙ loop .inv .1),
     )
 
 returns-2 : tie.Need-returns-2 Inv-loop μ-loop
 unfolding poses
 returns-2 c =
-    let loop = c .before .loop in
-    let start = c .before .before .before .before in
+    let turn = c .before in
+    let loop = turn .loop in
+    let start = turn .before .before .before in
     let four = four-slots (start .args .found) (start .good .1 .1 .1 .0) in
     let past : min (start .args .found .count) (length (start .args .found .depths)) ≤ loop .at =
     omega (arith, c .loop-test .left, four) in
-    rw (← c .before .before .empty .ensures)
+    rw (← turn .before .empty .ensures)
     (turns-end _ _ _ (start .args .found .count) (start .args .found .depths) (loop .at)
     (loop .output) past
     ∙ loop .inv .1)

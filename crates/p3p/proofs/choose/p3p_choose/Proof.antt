@@ -17,17 +17,24 @@ module _ (c : tie.After-choose) where
   abbrev poses : tie.After-pose-at4
   poses = target .before .before
 
+  abbrev third : tie.After-pose-at3
+  third = poses .before .before
+
+  abbrev second : tie.After-pose-at2
+  second = third .before .before
+
+  abbrev first : tie.After-pose-at
+  first = second .before .before
+
   abbrev start : tie.Start
-  start = poses .before .before .before .before
+  start = first .before .before
 
   -- the choice that was made is the one of the definition
   found : let a = start .args in
       c .choose .result ≡ chosen (a .poses .now) (a .count) (a .target .now) (a .bearing .now)
   found =
-      let third = poses .before in
-      let second = third .before in
       as-chosen _ _ _ _
-      (second .before .pose-at .ensures)
+      (first .pose-at .ensures)
       (second .pose-at2 .ensures)
       (third .pose-at3 .ensures)
       (poses .pose-at4 .ensures)
