@@ -1,12 +1,7 @@
--- Every definition up to the depth candidates, opened at once: under `unfolding evaluated` they
+-- Every definition from the matrix to the depth candidates, opened at once: under `unfolding evaluated` they
 -- compute. Assumes nothing.
 use Rattle.linalg.proofs.Evaluated.{evaluated as vectors-evaluated}
 use Rattle.polynomial.proofs.Evaluated.{evaluated as roots-evaluated}
-use Rattle.depths.specs.Edges.{edgeVectors, squaredEdges}
-use Rattle.depths.specs.Angles.{cosine, cosines, squaredSines, bearingFactors}
-use Rattle.depths.specs.Cubic.{cubicCoefficients, coefficientScale, isUnusable}
-use Rattle.depths.specs.Measure.{measure, measuredCubic}
-use Rattle.depths.specs.Condition.{foldedScale, leadingShare, leadingCubicCondition}
 use Rattle.depths.specs.Matrix.{singularMatrix}
 use Rattle.depths.specs.RatioOf.{isNotReal, ratioOf}
 use Rattle.depths.specs.DepthSlots.{noCandidates, pushIfPositive}
@@ -15,10 +10,7 @@ use Rattle.depths.specs.Charts.{secondChartDepths, weightChart, secondCh
 use Rattle.depths.specs.Signs.{signTurn, candidates}
 
 unfoldable pub evaluated : Unit {0}
-unfolding vectors-evaluated roots-evaluated edgeVectors squaredEdges cosine cosines squaredSines
-    bearingFactors cubicCoefficients coefficientScale isUnusable measure measuredCubic foldedScale
-    leadingShare leadingCubicCondition singularMatrix isNotReal ratioOf noCandidates pushIfPositive
-    forRoots
-    noDivisor firstChartDepths firstChart secondChartDepths weightChart secondChart chart signTurn
-    candidates
+unfolding vectors-evaluated roots-evaluated singularMatrix isNotReal ratioOf noCandidates
+    pushIfPositive forRoots noDivisor firstChartDepths firstChart secondChartDepths weightChart
+    secondChart chart signTurn candidates
 evaluated = tt

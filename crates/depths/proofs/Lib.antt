@@ -1,9 +1,6 @@
 -- How many slots candidates have; the scaling laws of the stages, in the order of a solve; and the
 -- definitions that compute.
 pub mod CandidateSlots
-pub mod EdgeScaling
-pub mod CubicScaling
-pub mod MeasureScaling
 pub mod MatrixScaling
 pub mod RatioScaling
 pub mod ChartScaling

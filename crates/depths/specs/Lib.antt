@@ -1,11 +1,6 @@
 -- The definitions that the contracts of this crate cite, in the order of a solve: what
 -- lambdatwist.rs computes up to the depth candidates, line by line.
 pub mod Types
-pub mod Edges
-pub mod Angles
-pub mod Cubic
-pub mod Measure
-pub mod Condition
 pub mod Matrix
 pub mod RatioOf
 pub mod DepthSlots

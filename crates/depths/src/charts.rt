@@ -4,13 +4,13 @@
 ghost use mathlib.Core.Path.{_≡_};
 ghost use Rattle.depths.specs.Charts.{noDivisor, firstChartDepths, firstChart};
 ghost use Rattle.depths.specs.Charts.{secondChartDepths, weightChart, secondChart, chart};
-use crate::angles::Factors;
 use crate::candidates::Candidates;
 use frames::squared_edges::SquaredEdges;
 use ieee754::abs::abs;
 use ieee754::is_finite::is_finite;
 use ieee754::sqrt::sqrt;
 use linalg::vector3::Vector3;
+use orderings::angles::Factors;
 use polynomial::Roots;
 use polynomial::quadratic::quadratic_real_monic;
 

@@ -3,9 +3,9 @@
 // twice.
 ghost use mathlib.Core.Path.{_≡_};
 ghost use Rattle.depths.specs.Matrix.{singularMatrix};
-use crate::angles::Factors;
 use frames::squared_edges::SquaredEdges;
 use linalg::matrix3::Matrix3;
+use orderings::angles::Factors;
 
 pub fn singular_matrix(squares: SquaredEdges, factors: Factors, g: f64) -> Matrix3
     ensures { λ r. ⌜ r ≡ singularMatrix squares factors g .value ⌝ }

@@ -2,11 +2,11 @@
 // solve_ordered (lambdatwist.rs).
 ghost use mathlib.Core.Path.{_≡_};
 ghost use Rattle.depths.specs.Signs.{signTurn, candidates};
-use crate::angles::Factors;
 use crate::candidates::Candidates;
 use crate::charts::chart;
 use frames::squared_edges::SquaredEdges;
 use linalg::matrix3::Matrix3;
+use orderings::angles::Factors;
 
 // The turn of one sign of the ratio.
 pub fn sign_turn(

@@ -5,8 +5,6 @@ mod PoseTurns
 pub mod KeptPoses
 pub mod AnswerSlots
 mod Retries
-pub mod NanCondition
 pub mod PoseScaling
-pub mod PermutationScaling
 pub mod SolveScaling
 pub mod Evaluated

@@ -3,8 +3,8 @@
 use mathlib.Core.Path.{_≡_}
 use mathlib.Core.Bool.{true, false}
 use Prim.Native.Nat.{ℕ, zero, suc}
-use Rattle.depths.specs.Measure.{measure, measuredCubic}
-use Rattle.depths.specs.Cubic.{isUnusable}
+use Rattle.orderings.specs.Measure.{measure, measuredCubic}
+use Rattle.orderings.specs.Cubic.{isUnusable}
 use Rattle.lambdatwist.specs.Solve.{refused, orderedOr, solveCubic, solveOrdered}
 use Rattle.lambdatwist.specs.Solve.{solveBestConditionedPermutation}
 use Rattle.lambdatwist.specs.Types.{World, Bearings, P3pInput, Measured, Coefficients}

@@ -27,8 +27,8 @@ use Rattle.lambdatwist.specs.Solve.{answered, refused, ifKept, stopped, 
 use Rattle.lambdatwist.specs.Solve.{solveRoot, solveCubic, orderedOr, bestOr, solveOrdered}
 use Rattle.lambdatwist.specs.Solve.{solve}
 use Rattle.lambdatwist.specs.Types.{Matrix3, World, Bearings, P3pInput, Solutions, Factors, Measured, Coefficients, Candidates, Answer}
-use Rattle.depths.proofs.CubicScaling.{AtCoefficients, isUnusable-same}
-use Rattle.depths.proofs.MeasureScaling.{AtMeasured, measure-scales, measuredCubic-scales}
+use Rattle.orderings.proofs.CubicScaling.{AtCoefficients, isUnusable-same}
+use Rattle.orderings.proofs.MeasureScaling.{AtMeasured, measure-scales, measuredCubic-scales}
 use Rattle.depths.specs.Matrix.{singularMatrix}
 use Rattle.depths.specs.Signs.{candidates}
 use Rattle.depths.proofs.MatrixScaling.{singularMatrix-scales}
@@ -37,7 +37,7 @@ use Rattle.eigen.proofs.SystemScaling.{withSystem-scales, eigWithKnownZero-scal
 use Rattle.depths.proofs.ChartScaling.{AtCandidates}
 use Rattle.depths.proofs.SignScaling.{candidates-scales}
 use Rattle.lambdatwist.proofs.PoseScaling.{poses-scales}
-use Rattle.lambdatwist.proofs.PermutationScaling.{bestPermutation-scales}
+use Rattle.orderings.proofs.PermutationScaling.{bestPermutation-scales}
 
 pub record AtAnswer (k : ℤ) (a a' : Answer) : Type 0 where
   pub refusal : a .refusal ≡ a' .refusal

@@ -2,5 +2,4 @@
 -- depth candidates on, the retry, and the solve, line by line.
 pub mod Types
 pub mod Poses
-pub mod Permutation
 pub mod Solve

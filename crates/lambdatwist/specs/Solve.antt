@@ -13,14 +13,14 @@ use Rattle.polynomial.specs.PolishedRoot.{polishedCubicRoot}
 use Rattle.p3p_common.specs.Input.{inputFinite}
 use Rattle.p3p_common.specs.Slots.{empty}
 use Rattle.p3p_common.specs.WorldBasisInverse.{withInverse, worldBasisInverse}
-use Rattle.depths.specs.Measure.{measure, measuredCubic}
-use Rattle.depths.specs.Cubic.{isUnusable}
+use Rattle.orderings.specs.Measure.{measure, measuredCubic}
+use Rattle.orderings.specs.Cubic.{isUnusable}
 use Rattle.depths.specs.Matrix.{singularMatrix}
 use Rattle.depths.specs.RatioOf.{withRatio, ratioOf}
 use Rattle.depths.specs.Signs.{candidates}
 use Rattle.eigen.specs.KnownZero.{withSystem, eigWithKnownZero}
 use Rattle.lambdatwist.specs.Poses.{poses}
-use Rattle.lambdatwist.specs.Permutation.{bestPermutation}
+use Rattle.orderings.specs.Permutation.{bestPermutation}
 use Rattle.lambdatwist.specs.Types.{World, Bearings, P3pInput, Solutions, Measured, Coefficients, Candidates, Answer}
 
 -- ---- an answer: number 0 with the poses that were kept, or a refusal's number with count 0 and

@@ -7,9 +7,8 @@ pub use Rattle.frames.specs.declared.world.World.{World}
 pub use Rattle.p3p_common.specs.declared.input.P3pInput.{P3pInput}
 pub use Rattle.p3p_common.specs.declared.refine_depths.Refined.{Refined}
 pub use Rattle.p3p_common.specs.declared.solutions.Solutions.{Solutions}
-pub use Rattle.depths.specs.declared.angles.Factors.{Factors}
+pub use Rattle.orderings.specs.declared.angles.Factors.{Factors}
+pub use Rattle.orderings.specs.declared.cubic.Coefficients.{Coefficients}
+pub use Rattle.orderings.specs.declared.measured.Measured.{Measured}
 pub use Rattle.depths.specs.declared.candidates.Candidates.{Candidates}
-pub use Rattle.depths.specs.declared.cubic.Coefficients.{Coefficients}
-pub use Rattle.depths.specs.declared.measured.Measured.{Measured}
-pub use Rattle.lambdatwist.specs.declared.permutation.Conditioned.{Conditioned}
 pub use Rattle.lambdatwist.specs.declared.solve.Answer.{Answer}

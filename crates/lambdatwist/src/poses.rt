@@ -3,9 +3,9 @@
 ghost use mathlib.Core.Path.{_≡_};
 ghost use Rattle.lambdatwist.specs.Poses.{allPositive, pushDepths, poseTurn, poses};
 use depths::candidates::Candidates;
-use depths::measured::Measured;
 use linalg::matrix3::Matrix3;
 use linalg::vector3::Vector3;
+use orderings::measured::Measured;
 use p3p_common::input::P3pInput;
 use p3p_common::push_pose::push_pose;
 use p3p_common::refine_depths::Refined;

@@ -4,7 +4,6 @@ use crate::record::input;
 use crate::record::matrix_agrees;
 use crate::record::matrix_at;
 use crate::record::vector_agrees;
-use depths::condition::leading_cubic_condition;
 use eigen::known_zero::Eigensystem;
 use eigen::known_zero::eig_with_known_zero;
 use eigen::row_crosses::Eigenvector;
@@ -12,6 +11,7 @@ use eigen::row_crosses::eigenvector_from_row_crosses;
 use frames::pose::Pose;
 use ieee754::bits::from_bits;
 use lambdatwist::solve::solve;
+use orderings::condition::leading_cubic_condition;
 use replay_words::agrees;
 use replay_words::word;
 

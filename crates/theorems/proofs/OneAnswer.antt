@@ -23,7 +23,7 @@ use Rattle.depths.specs.Signs.{candidates}
 use Rattle.lambdatwist.specs.Poses.{poses}
 use Rattle.p3p_common.specs.Slots.{empty}
 use Rattle.p3p_common.proofs.SlotLaws.{Kept}
-use Rattle.lambdatwist.specs.Permutation.{bestPermutation}
+use Rattle.orderings.specs.Permutation.{bestPermutation}
 use Rattle.lambdatwist.specs.Solve.{answered, refused, ifKept, stopped, solveCandidates, solveRoot}
 use Rattle.lambdatwist.specs.Solve.{solveCubic, orderedOr, bestOr, solveOrdered, solve}
 use Rattle.theorems.specs.OneAnswer.{Accepted, Refused, orderingUnusable, noOrdering}

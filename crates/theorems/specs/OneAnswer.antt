@@ -11,9 +11,9 @@ use Rattle.ieee754.specs.Literal.{sixtyFour, epsilon}
 use Rattle.frames.specs.Poses.{zeroPose}
 use Rattle.p3p_common.specs.Input.{inputFinite}
 use Rattle.p3p_common.specs.PoseSlots.{PoseSlots}
-use Rattle.depths.specs.Measure.{measure, measuredCubic}
-use Rattle.depths.specs.Cubic.{isUnusable}
-use Rattle.lambdatwist.specs.Permutation.{bestPermutation}
+use Rattle.orderings.specs.Measure.{measure, measuredCubic}
+use Rattle.orderings.specs.Cubic.{isUnusable}
+use Rattle.orderings.specs.Permutation.{bestPermutation}
 use Rattle.theorems.specs.Types.{World, Bearings, P3pInput, Answer}
 
 -- One to four poses and no refusal. `PoseSlots` says that there are at most four, that their twelve

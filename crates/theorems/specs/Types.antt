@@ -11,9 +11,9 @@ pub use Rattle.p3p_common.specs.declared.world_basis_inverse.Basis.{Basis}
 pub use Rattle.p3p_common.specs.declared.world_basis_inverse.Basis.the-variants.{Inverse, Singular}
 pub use Rattle.eigen.specs.declared.known_zero.Eigensystem.{Eigensystem}
 pub use Rattle.eigen.specs.declared.known_zero.Eigensystem.the-variants.{Found, NotFound}
+pub use Rattle.orderings.specs.declared.cubic.Coefficients.{Coefficients}
+pub use Rattle.orderings.specs.declared.measured.Measured.{Measured}
 pub use Rattle.depths.specs.declared.candidates.Candidates.{Candidates}
-pub use Rattle.depths.specs.declared.cubic.Coefficients.{Coefficients}
-pub use Rattle.depths.specs.declared.measured.Measured.{Measured}
 pub use Rattle.depths.specs.declared.ratio.Ratio.{Ratio}
 pub use Rattle.depths.specs.declared.ratio.Ratio.the-variants.{Real, NotReal}
 pub use Rattle.lambdatwist.specs.declared.solve.Answer.{Answer}

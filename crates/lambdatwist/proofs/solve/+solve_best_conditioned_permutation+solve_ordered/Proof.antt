@@ -16,11 +16,11 @@ use Rattle.lambdatwist.proofs.solve.+solve_best_conditioned_permutation
 use Rattle.lambdatwist.proofs.solve.solve_ordered.Reads as ordered
 use Rattle.lambdatwist.proofs.solve.solve_ordered.Kinds as ordered-kinds
 use Rattle.lambdatwist.proofs.solve.+solve_best_conditioned_permutation+solve_ordered.Lts-solve_ordered as ordered-lts
-use Rattle.depths.proofs.measured.measure.Reads as measure-reads
-use Rattle.depths.proofs.measured.measured_cubic.Reads as measured-cubic-reads
-use Rattle.depths.proofs.cubic.is_unusable.Reads as is-unusable-reads
+use Rattle.orderings.proofs.measured.measure.Reads as measure-reads
+use Rattle.orderings.proofs.measured.measured_cubic.Reads as measured-cubic-reads
+use Rattle.orderings.proofs.cubic.is_unusable.Reads as is-unusable-reads
 use Rattle.lambdatwist.proofs.solve.refused.Reads as refused-reads
-use Rattle.lambdatwist.proofs.permutation.best_permutation.Reads as best-permutation-reads
+use Rattle.orderings.proofs.permutation.best_permutation.Reads as best-permutation-reads
 use Rattle.lambdatwist.proofs.solve.solve_cubic.Reads as solve-cubic-reads
 use Rattle.lambdatwist.proofs.solve.+solve_best_conditioned_permutation+solve_ordered.{
   statement,
