@@ -1,5 +1,5 @@
--- Every definition from the matrix to the depth candidates, opened at once: under `unfolding evaluated` they
--- compute. Assumes nothing.
+-- Every definition from the matrix to the depth candidates, opened at once: under
+-- `unfolding evaluated` they compute. Assumes nothing.
 use Rattle.linalg.proofs.Evaluated.{evaluated as vectors-evaluated}
 use Rattle.polynomial.proofs.Evaluated.{evaluated as roots-evaluated}
 use Rattle.depths.specs.Matrix.{singularMatrix}

@@ -1,5 +1,5 @@
--- Points, bearings and poses among lent doubles, in the layout of include/p3p.h: x, y, z from a place on.
--- (The NaN stands past the end, where no function reads.)
+-- Points, bearings and poses among lent doubles, in the layout of include/p3p.h: x, y, z from a
+-- place on. (The NaN stands past the end, where no function reads.)
 use Prim.Native.Nat.{ℕ, _+_}
 use mathlib.Core.List.{List}
 use lib.Ieee.{Float, nan}

@@ -1,8 +1,6 @@
 // The listing of a whole input: frame records are read from a file descriptor, and the lines of
 // each are written to standard output. Document 01, "Frame records and their listing". The input is
 // read in parts and the listing is written in parts, so that neither's length is bounded.
-pub mod frame;
-pub mod record;
 mod run;
 mod stream;
 

@@ -4,12 +4,12 @@ ghost use mathlib.Core.Path.{_≡_};
 ghost use Prim.Native.Nat.{_%_, _≤_, min};
 ghost use lib.ListN.{length, take};
 ghost use Rattle.listing_program.specs.Goes.{Writes, Reads, Steps};
-use crate::record::Course;
-use crate::record::put_record;
 use crate::stream::Filling;
 use crate::stream::fill;
 use crate::stream::flush;
 use listing::line::put_header;
+use listing_records::record::Course;
+use listing_records::record::put_record;
 
 pub struct State {
     // How many bytes of the input's buffer are filled, and where in it the next record begins.

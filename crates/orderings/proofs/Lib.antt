@@ -1,5 +1,5 @@
--- What is stated of the choice of another ordering; the scaling laws of the stages, in the order of a
--- solve; and the definitions that compute.
+-- What is stated of the choice of another ordering; the scaling laws of the stages, in the order of
+-- a solve; and the definitions that compute.
 pub mod NanCondition
 pub mod EdgeScaling
 pub mod CubicScaling

@@ -1,5 +1,5 @@
--- The definitions that the contracts of this crate cite, in the order of a solve: what lambdatwist.rs
--- measures of an ordering, line by line, and the choice of another.
+-- The definitions that the contracts of this crate cite, in the order of a solve: what
+-- lambdatwist.rs measures of an ordering, line by line, and the choice of another.
 pub mod Types
 pub mod Edges
 pub mod Angles

@@ -10,7 +10,7 @@ use lib.ListN.{length, take, length-take}
 use Rattle.records.specs.Record.{recordAt}
 use Rattle.listing.specs.Lines.{roomy, Written}
 use Rattle.listing_program.specs.Types.{State, Record}
-use Rattle.listing_program.specs.RecordLines.{turnLines, courseOf}
+use Rattle.listing_records.specs.RecordLines.{turnLines, courseOf}
 use Rattle.listing_program.proofs.run.step.Statement.{statement}
 use Rattle.listing_program.proofs.run.step.Tie as tie
 

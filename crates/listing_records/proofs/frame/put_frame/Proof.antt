@@ -1,13 +1,13 @@
--- `listing_program::frame::put_frame` meets its contract. Assumes nothing.
+-- `listing_records::frame::put_frame` meets its contract. Assumes nothing.
 use borrow.Author.Needs.{needs}
 use native.Mathlib.Omega.{arith}
 use mathlib.Core.Path.{ap}
-use Rattle.listing_program.specs.Types.{Answer}
+use Rattle.listing_records.specs.Types.{Answer}
 use Rattle.listing.proofs.Storing.{stored-as}
 use Rattle.listing.proofs.Writing.{written, not-written}
-use Rattle.listing_program.specs.FrameLines.{answerLines, frameLines}
-use Rattle.listing_program.proofs.frame.put_frame.Statement.{statement}
-use Rattle.listing_program.proofs.frame.put_frame.Tie as tie
+use Rattle.listing_records.specs.FrameLines.{answerLines, frameLines}
+use Rattle.listing_records.proofs.frame.put_frame.Statement.{statement}
+use Rattle.listing_records.proofs.frame.put_frame.Tie as tie
 
 returns : tie.Need-returns
 returns c = not-written (c .before .left .ensures) (c .if1 .taken)

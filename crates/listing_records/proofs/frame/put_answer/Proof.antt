@@ -1,4 +1,4 @@
--- `listing_program::frame::put_answer` meets its contract. Assumes nothing.
+-- `listing_records::frame::put_answer` meets its contract. Assumes nothing.
 use borrow.Author.Needs.{needs}
 use native.Mathlib.Omega.{arith}
 use mathlib.Core.Path.{ap, _∙_}
@@ -7,9 +7,9 @@ use Rattle.listing.specs.Lines.{acceptedLine}
 use Rattle.listing.proofs.Storing.{_and-then_, stored-as}
 use Rattle.listing.proofs.Writing.{stored, stored-length}
 use Rattle.choice.specs.Answer.{place}
-use Rattle.listing_program.proofs.AnswerLines.{refused-lines, accepted-lines}
-use Rattle.listing_program.proofs.frame.put_answer.Statement.{statement}
-use Rattle.listing_program.proofs.frame.put_answer.Tie as tie
+use Rattle.listing_records.proofs.AnswerLines.{refused-lines, accepted-lines}
+use Rattle.listing_records.proofs.frame.put_answer.Statement.{statement}
+use Rattle.listing_records.proofs.frame.put_answer.Tie as tie
 
 returns : tie.Need-returns
 returns c =

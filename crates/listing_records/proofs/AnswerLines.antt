@@ -3,10 +3,10 @@ use Prim.Native.Nat.{ℕ, min}
 use mathlib.Core.Path.{_≡_}
 use mathlib.Core.List.{_++_}
 use borrow.Author.Tests.{eq-eqb, ne-eqb}
-use Rattle.listing_program.specs.Types.{Vector3, Answer}
+use Rattle.listing_records.specs.Types.{Vector3, Answer}
 use Rattle.choice.specs.Choose.{choose}
 use Rattle.listing.specs.Lines.{refusedLine, acceptedLine}
-use Rattle.listing_program.specs.FrameLines.{poseLines, answerLines}
+use Rattle.listing_records.specs.FrameLines.{poseLines, answerLines}
 use Rattle.choice.specs.Answer.{place}
 
 module _ (n : ℕ) (answer : Answer) (target bearing : Vector3) where

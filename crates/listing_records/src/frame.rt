@@ -5,7 +5,7 @@ ghost use lib.ListN.{length};
 ghost use Rattle.choice.specs.Answer.{place};
 ghost use Rattle.listing.specs.Bytes.{Stored};
 ghost use Rattle.listing.specs.Lines.{Written};
-ghost use Rattle.listing_program.specs.FrameLines.{poseLines, answerLines, frameLines};
+ghost use Rattle.listing_records.specs.FrameLines.{poseLines, answerLines, frameLines};
 use choice::choose::Choice;
 use choice::choose::choose;
 use choice::count::at_most_four;

@@ -1,4 +1,4 @@
--- `listing_program::record::put_found` meets its contract. Assumes nothing.
+-- `listing_records::record::put_found` meets its contract. Assumes nothing.
 use borrow.Author.Needs.{needs}
 use native.Mathlib.Omega.{arith}
 use Prim.Native.Nat.{ℕ, _+_, _≤_}
@@ -9,10 +9,10 @@ use Rattle.listing.specs.Bytes.{Stored}
 use Rattle.listing.specs.Lines.{Written}
 use Rattle.listing.proofs.Storing.{none}
 use Rattle.listing.proofs.Writing.{stored}
-use Rattle.listing_program.specs.RecordLines.{recordLines, following, waits}
-use Rattle.listing_program.specs.RecordLines.{turnLines, turnCourse}
-use Rattle.listing_program.proofs.record.put_found.Statement.{statement}
-use Rattle.listing_program.proofs.record.put_found.Tie as tie
+use Rattle.listing_records.specs.RecordLines.{recordLines, following, waits}
+use Rattle.listing_records.specs.RecordLines.{turnLines, turnCourse}
+use Rattle.listing_records.proofs.record.put_found.Statement.{statement}
+use Rattle.listing_records.proofs.record.put_found.Tie as tie
 
 -- a line is stored where there is room for a frame's
 line : {l text l′ : List ℕ} {at next : ℕ}

@@ -6,12 +6,12 @@ use native.Mathlib.Numerals.{add-one}
 use lib.ListN.{length, getD}
 use Rattle.ieee754_laws.proofs.Entries.{inside-same}
 use Rattle.frames.specs.Poses.{zeroPose}
-use Rattle.listing_program.specs.Types.{Pose}
+use Rattle.listing_records.specs.Types.{Pose}
 use Rattle.listing.specs.Bytes.{Stored}
 use Rattle.listing.specs.Lines.{Written, poseLine}
 use Rattle.listing.proofs.Storing.{none, _and-then_, stored-as}
 use Rattle.listing.proofs.Writing.{stored}
-use Rattle.listing_program.specs.FrameLines.{poseLines}
+use Rattle.listing_records.specs.FrameLines.{poseLines}
 
 module _ (n : ℕ) (poses : List Pose) (updates : List ℕ) where
   pub none-stored : (l : List ℕ) (at : ℕ) → Stored l at (poseLines n poses updates 0) at l

@@ -1,4 +1,4 @@
--- `listing_program::frame::put_poses` meets its contract: after k turns the lines of the first k
+-- `listing_records::frame::put_poses` meets its contract: after k turns the lines of the first k
 -- poses are in place. Assumes nothing.
 use borrow.Author.Needs.{needs}
 use native.Mathlib.Omega.{arith}
@@ -8,10 +8,10 @@ use mathlib.Core.Path.{_≡_, refl, _∙_}
 use lib.ListN.{length}
 use Rattle.listing.specs.Bytes.{Stored}
 use Rattle.listing.proofs.Writing.{stored, stored-length}
-use Rattle.listing_program.specs.FrameLines.{poseLines}
-use Rattle.listing_program.proofs.PoseLines.{none-stored, next-stored}
-use Rattle.listing_program.proofs.frame.put_poses.Statement.{statement}
-use Rattle.listing_program.proofs.frame.put_poses.Tie as tie
+use Rattle.listing_records.specs.FrameLines.{poseLines}
+use Rattle.listing_records.proofs.PoseLines.{none-stored, next-stored}
+use Rattle.listing_records.proofs.frame.put_poses.Statement.{statement}
+use Rattle.listing_records.proofs.frame.put_poses.Tie as tie
 
 abbrev Inv-loop : tie.InvT-loop
 Inv-loop out₀ at number count poses updates n next₀ place₀ out next place =

@@ -1,13 +1,13 @@
--- `listing_program::record::put_record` meets its contract. Assumes nothing.
+-- `listing_records::record::put_record` meets its contract. Assumes nothing.
 use borrow.Author.Needs.{needs}
 use borrow.Author.Tests.{le-leb, lt-leb}
 use native.Mathlib.Omega.{arith}
 use mathlib.Core.Path.{ap, _∙_}
 use Rattle.listing.proofs.Storing.{stored-as}
 use Rattle.listing.proofs.Writing.{written, not-written}
-use Rattle.listing_program.specs.RecordLines.{turnLines, turnCourse, courseOf}
-use Rattle.listing_program.proofs.record.put_record.Statement.{statement}
-use Rattle.listing_program.proofs.record.put_record.Tie as tie
+use Rattle.listing_records.specs.RecordLines.{turnLines, turnCourse, courseOf}
+use Rattle.listing_records.proofs.record.put_record.Statement.{statement}
+use Rattle.listing_records.proofs.record.put_record.Tie as tie
 
 returns : tie.Need-returns
 unfolding courseOf

@@ -7,7 +7,7 @@ use lib.ListN.{getD}
 use Rattle.ieee754.specs.Traced.{if_then_else_}
 use Rattle.frames.specs.Poses.{zeroPose}
 use Rattle.lambdatwist.specs.Solve.{solve}
-use Rattle.listing_program.specs.Types.{Vector3, Pose, Frame, Answer}
+use Rattle.listing_records.specs.Types.{Vector3, Pose, Frame, Answer}
 use Rattle.choice.specs.Answer.{place}
 use Rattle.choice.specs.Choose.{choose}
 use Rattle.listing.specs.Lines.{refusedLine, acceptedLine, poseLine}
