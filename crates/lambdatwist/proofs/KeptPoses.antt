@@ -11,8 +11,7 @@ use Rattle.p3p_common.specs.RefineDepths.{refineDepths}
 use Rattle.p3p_common.specs.Slots.{empty}
 use Rattle.p3p_common.proofs.SlotLaws.{Kept, empty-kept, pushPose-kept, updates-few}
 use Rattle.lambdatwist.specs.Poses.{allPositive, pushDepths, poseTurn, poseTurns, poses}
-use Rattle.lambdatwist.specs.Types.{Vector3, Matrix3, P3pInput, Measured, Refined, Solutions}
-use Rattle.lambdatwist.specs.Types.{Candidates}
+use Rattle.lambdatwist.specs.Types.{Vector3, Matrix3, P3pInput, Measured, Refined, Solutions, Candidates}
 
 module _ (input : P3pInput) (measured : Measured) (inverse : Matrix3) where
   pushDepths-kept : (s : Solutions) (r : Refined)

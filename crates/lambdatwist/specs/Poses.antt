@@ -12,8 +12,7 @@ use Rattle.p3p_common.specs.RefineDepths.{refineDepths}
 use Rattle.p3p_common.specs.RotationFromEdges.{rotationFromEdges}
 use Rattle.p3p_common.specs.Slots.{empty}
 use Rattle.p3p_common.specs.PushPose.{pushPose}
-use Rattle.lambdatwist.specs.Types.{Vector3, Matrix3, P3pInput, Refined, Solutions, Measured}
-use Rattle.lambdatwist.specs.Types.{Candidates}
+use Rattle.lambdatwist.specs.Types.{Vector3, Matrix3, P3pInput, Refined, Solutions, Measured, Candidates}
 
 -- !depth.iter().any(|value| !value.is_finite() || *value <= 0.0)
 unfoldable pub allPositive : Vector3 → Bool

@@ -1,7 +1,7 @@
 // The root finders. Each returns 0, or the refusal number of document 01 with nothing written.
 ghost use mathlib.Core.Path.{_≡_};
 ghost use Rattle.polynomial.specs.Answer.{number};
-ghost use Rattle.polynomial.specs.FastCbrt.{fastCbrt};
+ghost use Rattle.cubic_parts.specs.FastCbrt.{fastCbrt};
 ghost use Rattle.polynomial.specs.PolishedRoot.{polishedCubicRoot};
 ghost use Rattle.polynomial.specs.Quadratic.{quadraticRealMonic};
 ghost use Rattle.p3p.specs.RootsLent.{firstAfter, secondAfter};

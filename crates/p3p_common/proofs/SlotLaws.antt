@@ -17,9 +17,7 @@ use Rattle.ieee754_laws.proofs.Entries.{replicate-entry}
 use Rattle.linalg.specs.Vectors.{allFinite}
 use Rattle.linalg.specs.Matrices.{matFinite}
 use Rattle.frames.specs.Poses.{zeroPose}
-use Rattle.p3p_common.specs.Types.{Vector3, Matrix3, Pose, SquaredEdges, Cosines, P3pInput}
-use Rattle.p3p_common.specs.Types.{Gated, Passed, Projected, Dropped, Solutions, Step, Next}
-use Rattle.p3p_common.specs.Types.{Stop, Refined}
+use Rattle.p3p_common.specs.Types.{Vector3, Matrix3, Pose, SquaredEdges, Cosines, P3pInput, Gated, Passed, Projected, Dropped, Solutions, Step, Next, Stop, Refined}
 use Rattle.p3p_common.specs.RefineDepths.{depthStep, afterStep, refineTurns, refineDepths}
 use Rattle.p3p_common.specs.Gate.{gate}
 use Rattle.p3p_common.specs.Slots.{empty, push}

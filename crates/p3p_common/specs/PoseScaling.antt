@@ -5,8 +5,7 @@ use mathlib.Core.List.{Forall₂}
 use lib.IntN.{ℤ, pos, negsuc}
 use Rattle.linalg.specs.VectorScaling.{AtVector, AtRows}
 use Rattle.frames.specs.FrameScaling.{AtWorld, AtPose}
-use Rattle.p3p_common.specs.Types.{Matrix3, Pose, P3pInput, Refined, Basis, Inverse, Singular}
-use Rattle.p3p_common.specs.Types.{Gated, Passed, Projected, Dropped, Solutions}
+use Rattle.p3p_common.specs.Types.{Matrix3, Pose, P3pInput, Refined, Basis, Inverse, Singular, Gated, Passed, Projected, Dropped, Solutions}
 
 pub record AtInput (k : ℤ) (input input' : P3pInput) : Type 0 where
   pub world : AtWorld k (input .world) (input' .world)

@@ -1,12 +1,10 @@
--- What the enums of this crate stand for, and what is made of them. An answer, `Roots`, holds two
--- roots, one root, or the number by which document 01 names a refusal ("Questions, in order"). A
--- `Step` is a value to go on with, or a stop: the Rust returns None there, or breaks off its loop
--- of Newton steps.
+-- What the answers of the root finders stand for, and what is made of them. An answer, `Roots`, holds
+-- two roots, one root, or the number by which document 01 names a refusal ("Questions, in order").
 use Prim.Native.Nat.{ℕ}
 use mathlib.Core.List.{List, [], _∷_}
 use lib.Ieee.{Float}
 use Rattle.ieee754.specs.Traced.{Traced}
-use Rattle.polynomial.specs.Types.{Roots, Two, One, Refused, Step, Next, Stop}
+use Rattle.polynomial.specs.Types.{Roots, Two, One, Refused}
 
 -- ---- the refusals of the root finders
 
@@ -45,8 +43,3 @@ abbrev pub withPair : {A : Type 0} → Roots → Traced A → (Float → Float �
 withPair (Two x y) none k = k x y
 withPair (One x) none k = none
 withPair (Refused n) none k = none
-
--- ---- what follows a step: `none` at a stop, and else what `k` makes of the value
-abbrev pub after : {A : Type 0} → Step → Traced A → (Float → Traced A) → Traced A
-after Stop none k = none
-after (Next x) none k = k x

@@ -3,11 +3,6 @@ pub mod Types
 pub mod Literal
 pub mod Answer
 pub mod Quadratic
-pub mod FastCbrt
-pub mod Cardano
-pub mod CubicScale
-pub mod CubicStart
-pub mod Newton
 pub mod PolishedRoot
 pub mod RootScaling
 pub mod Cases

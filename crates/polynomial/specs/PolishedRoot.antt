@@ -5,10 +5,11 @@ use lib.Ieee.{Float}
 use lib.Ieee.Scale.{finite}
 use Rattle.ieee754.specs.Literal.{plusZero}
 use Rattle.ieee754.specs.Traced.{Traced, pure, _>>=_, if_then_else_, !_, _⊗_}
-use Rattle.polynomial.specs.Answer.{notFinite, noRoot, after}
-use Rattle.polynomial.specs.CubicScale.{allZero, cubicVariableScale, normalised}
-use Rattle.polynomial.specs.CubicStart.{startRoot}
-use Rattle.polynomial.specs.Newton.{newtonSteps}
+use Rattle.polynomial.specs.Answer.{notFinite, noRoot}
+use Rattle.cubic_parts.specs.Steps.{after}
+use Rattle.cubic_parts.specs.CubicScale.{allZero, cubicVariableScale, normalised}
+use Rattle.cubic_parts.specs.CubicStart.{startRoot}
+use Rattle.cubic_parts.specs.Newton.{newtonSteps}
 use Rattle.polynomial.specs.Types.{Monic, Roots, One}
 
 -- at most four Newton steps from the start, and the root of the coefficients as they came

@@ -2,14 +2,14 @@
 ghost use mathlib.Core.Path.{_≡_};
 ghost use Rattle.polynomial.specs.PolishedRoot.{rescaledRoot, polishedRoot};
 ghost use Rattle.polynomial.specs.PolishedRoot.{polishedCubicRoot};
-use crate::Monic;
 use crate::Roots;
-use crate::Step;
-use crate::cubic_scale::all_zero;
-use crate::cubic_scale::cubic_variable_scale;
-use crate::cubic_scale::normalised;
-use crate::cubic_start::start_root;
-use crate::newton::newton_steps;
+use cubic_parts::Monic;
+use cubic_parts::Step;
+use cubic_parts::cubic_scale::all_zero;
+use cubic_parts::cubic_scale::cubic_variable_scale;
+use cubic_parts::cubic_scale::normalised;
+use cubic_parts::cubic_start::start_root;
+use cubic_parts::newton::newton_steps;
 use ieee754::is_finite::is_finite;
 
 // Polished, and back to the scale of the coefficients.

@@ -1,10 +1,10 @@
 // The root finders: the arguments, then the refusal number, 0 where nothing is refused, and the
 // roots; of the cube root, only the root.
 ghost use Prim.Native.Nat.{_≤_};
+use cubic_parts::fast_cbrt::fast_cbrt;
 use ieee754::bits::from_bits;
 use polynomial::Roots;
 use polynomial::cubic::polished_cubic_root;
-use polynomial::fast_cbrt::fast_cbrt;
 use polynomial::quadratic::quadratic_real_monic;
 use replay_words::agrees;
 use replay_words::word;

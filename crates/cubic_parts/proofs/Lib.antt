@@ -1,0 +1,2 @@
+-- What opens every definition.
+pub mod Evaluated
