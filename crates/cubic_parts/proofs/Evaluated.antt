@@ -1,5 +1,5 @@
--- Every definition that a cubic's root is made with, opened at once: under `unfolding evaluated` they
--- compute. Assumes nothing.
+-- Every definition that a cubic's root is made with, opened at once: under `unfolding evaluated`
+-- they compute. Assumes nothing.
 use Rattle.ieee754.proofs.Evaluated.{evaluated as operations-evaluated}
 use Rattle.cubic_parts.specs.FastCbrt.{cbrtStart, cbrtStep, cbrtSteps, fastCbrt}
 use Rattle.cubic_parts.specs.Cardano.{cardanoSingleReal}

@@ -1,5 +1,5 @@
--- The literals of the cubic's parts in polynomial.rs, each by its bit pattern. The powers of ten are the nearest
--- doubles.
+-- The literals of the cubic's parts in polynomial.rs, each by its bit pattern. The powers of ten
+-- are the nearest doubles.
 use lib.Ieee.{Float}
 use Rattle.ieee754.specs.Literal.{double}
 

@@ -1,5 +1,5 @@
-// The parts of a cubic's root: the fast cube root, Cardano's formula, the scale of the variable, the
-// start, and Newton's steps from it. From shared/polynomial.rs, document 01, module 3.
+// The parts of a cubic's root: the fast cube root, Cardano's formula, the scale of the variable,
+// the start, and Newton's steps from it. From shared/polynomial.rs, document 01, module 3.
 pub mod cardano;
 pub mod cubic_scale;
 pub mod cubic_start;

@@ -21,7 +21,8 @@ use Rattle.eigen.specs.RowCrosses.{eigenvectorFromRowCrosses}
 use Rattle.eigen.specs.ZeroVector.{zeroDirection, zeroVector}
 use Rattle.eigen.specs.EigenvectorOf.{precompute, eigenDenominator, denominatorScale}
 use Rattle.eigen.specs.EigenvectorOf.{ifFinite, eigenvectorByDivision, eigenvectorOf}
-use Rattle.eigen.specs.Types.{Order, Less, Equal, Greater, Vector3, Matrix3, Eigenvector, Unit, Missing, Precomputed}
+use Rattle.eigen.specs.Types.{Order, Less, Equal, Greater, Vector3, Matrix3, Eigenvector}
+use Rattle.eigen.specs.Types.{Unit, Missing, Precomputed}
 use Rattle.linalg.proofs.SquaredLength.{squared-normal}
 
 -- what follows an eigenvector that is the same in the two runs, in any relation of them

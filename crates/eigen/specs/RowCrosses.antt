@@ -7,7 +7,8 @@ use Rattle.ieee754.specs.Literal.{minPositive}
 use Rattle.ieee754.specs.TotalOrder.{totalCmp}
 use Rattle.ieee754.specs.Traced.{Traced, pure, _>>=_, if_then_else_, _⊖_, !_}
 use Rattle.linalg.specs.Vectors.{vector, cross, normSquared, norm, vecDiv}
-use Rattle.eigen.specs.Types.{Order, Less, Equal, Greater, Vector3, Matrix3, Eigenvector, Unit, Missing}
+use Rattle.eigen.specs.Types.{Order, Less, Equal, Greater, Vector3, Matrix3, Eigenvector}
+use Rattle.eigen.specs.Types.{Unit, Missing}
 
 -- ---- what follows an eigenvector: what `k` makes of it, and `none` where it is missing
 abbrev pub withVector : {A : Type 0} → Eigenvector → Traced A → (Vector3 → Traced A) → Traced A

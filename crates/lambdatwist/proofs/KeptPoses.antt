@@ -7,11 +7,13 @@ use lib.ListN.{take}
 use Rattle.ieee754.specs.Traced.{Traced}
 use Rattle.ieee754.proofs.Tests.{either-way}
 use Rattle.linalg.proofs.Finite.{rotation-finite}
-use Rattle.p3p_common.specs.RefineDepths.{refineDepths}
+use Rattle.refinement.specs.RefineDepths.{refineDepths}
 use Rattle.p3p_common.specs.Slots.{empty}
-use Rattle.p3p_common.proofs.SlotLaws.{Kept, empty-kept, pushPose-kept, updates-few}
+use Rattle.p3p_common.proofs.SlotLaws.{Kept, empty-kept, pushPose-kept}
+use Rattle.refinement.proofs.FewUpdates.{updates-few}
 use Rattle.lambdatwist.specs.Poses.{allPositive, pushDepths, poseTurn, poseTurns, poses}
-use Rattle.lambdatwist.specs.Types.{Vector3, Matrix3, P3pInput, Measured, Refined, Solutions, Candidates}
+use Rattle.lambdatwist.specs.Types.{Vector3, Matrix3, P3pInput, Measured, Refined, Solutions}
+use Rattle.lambdatwist.specs.Types.{Candidates}
 
 module _ (input : P3pInput) (measured : Measured) (inverse : Matrix3) where
   pushDepths-kept : (s : Solutions) (r : Refined)

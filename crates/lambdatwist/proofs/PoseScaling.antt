@@ -11,13 +11,15 @@ use Rattle.ieee754_laws.proofs.Entries.{take-entries}
 use Rattle.linalg.specs.VectorScaling.{AtVector, AtRows}
 use Rattle.linalg.proofs.VectorDegrees.{same-vector, vecSub-scales, vecMul-scales, allFinite-same}
 use Rattle.linalg.proofs.MatrixDegrees.{same-matrix, columns-at, matVec-scales}
-use Rattle.p3p_common.specs.PoseScaling.{AtInput, AtRefined, AtSolutions}
-use Rattle.p3p_common.specs.RefineDepths.{refineDepths}
-use Rattle.p3p_common.proofs.RefineScaling.{refineDepths-scales}
+use Rattle.p3p_common.specs.PoseScaling.{AtInput, AtSolutions}
+use Rattle.refinement.specs.RefinedScaling.{AtRefined}
+use Rattle.refinement.specs.RefineDepths.{refineDepths}
+use Rattle.refinement.proofs.RefineScaling.{refineDepths-scales}
 use Rattle.p3p_common.proofs.BasisScaling.{rotationFromEdges-same}
 use Rattle.p3p_common.proofs.SlotScaling.{empty-scales, pushPose-scales}
 use Rattle.lambdatwist.specs.Poses.{allPositive, pushDepths, poseTurn, poseTurns, poses}
-use Rattle.lambdatwist.specs.Types.{Vector3, Matrix3, Cosines, P3pInput, Measured, Refined, Solutions, Candidates}
+use Rattle.lambdatwist.specs.Types.{Vector3, Matrix3, Cosines, P3pInput, Measured, Refined}
+use Rattle.lambdatwist.specs.Types.{Solutions, Candidates}
 use Rattle.orderings.proofs.MeasureScaling.{AtMeasured}
 use Rattle.depths.proofs.ChartScaling.{AtCandidates}
 

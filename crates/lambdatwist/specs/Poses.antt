@@ -8,11 +8,12 @@ use Rattle.ieee754.specs.Literal.{plusZero}
 use Rattle.ieee754.specs.Traced.{Traced, pure, _>>=_, if_then_else_}
 use Rattle.linalg.specs.Vectors.{vecSub, vecMul, allFinite}
 use Rattle.linalg.specs.Matrices.{matVec}
-use Rattle.p3p_common.specs.RefineDepths.{refineDepths}
+use Rattle.refinement.specs.RefineDepths.{refineDepths}
 use Rattle.p3p_common.specs.RotationFromEdges.{rotationFromEdges}
 use Rattle.p3p_common.specs.Slots.{empty}
 use Rattle.p3p_common.specs.PushPose.{pushPose}
-use Rattle.lambdatwist.specs.Types.{Vector3, Matrix3, P3pInput, Refined, Solutions, Measured, Candidates}
+use Rattle.lambdatwist.specs.Types.{Vector3, Matrix3, P3pInput, Refined, Solutions, Measured}
+use Rattle.lambdatwist.specs.Types.{Candidates}
 
 -- !depth.iter().any(|value| !value.is_finite() || *value <= 0.0)
 unfoldable pub allPositive : Vector3 → Bool

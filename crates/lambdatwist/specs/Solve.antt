@@ -21,7 +21,8 @@ use Rattle.depths.specs.Signs.{candidates}
 use Rattle.eigen.specs.KnownZero.{withSystem, eigWithKnownZero}
 use Rattle.lambdatwist.specs.Poses.{poses}
 use Rattle.orderings.specs.Permutation.{bestPermutation}
-use Rattle.lambdatwist.specs.Types.{World, Bearings, P3pInput, Solutions, Measured, Coefficients, Candidates, Answer}
+use Rattle.lambdatwist.specs.Types.{World, Bearings, P3pInput, Solutions, Measured}
+use Rattle.lambdatwist.specs.Types.{Coefficients, Candidates, Answer}
 
 -- ---- an answer: number 0 with the poses that were kept, or a refusal's number with count 0 and
 --      plus zeros

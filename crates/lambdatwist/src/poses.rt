@@ -8,10 +8,10 @@ use linalg::vector3::Vector3;
 use orderings::measured::Measured;
 use p3p_common::input::P3pInput;
 use p3p_common::push_pose::push_pose;
-use p3p_common::refine_depths::Refined;
-use p3p_common::refine_depths::refine_depths;
 use p3p_common::rotation_from_edges::rotation_from_edges;
 use p3p_common::solutions::Solutions;
+use refinement::refine_depths::Refined;
+use refinement::refine_depths::refine_depths;
 
 pub fn all_positive(d: Vector3) -> bool
     ensures { λ r. ⌜ r ≡ allPositive d ⌝ }

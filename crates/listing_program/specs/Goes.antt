@@ -9,7 +9,8 @@ use lib.ListN.{length, take}
 use Rattle.records.specs.Record.{recordAt}
 use Rattle.listing.specs.Lines.{roomy, Written}
 use Rattle.listing_records.specs.RecordLines.{turnLines, courseOf}
-use Rattle.listing_program.specs.Types.{Course, Write, Read, Next, Closed, State, Turn, More, Over, Filling, Filled, End, Failed}
+use Rattle.listing_program.specs.Types.{Course, Write, Read, Next, Closed, State, Turn, More}
+use Rattle.listing_program.specs.Types.{Over, Filling, Filled, End, Failed}
 
 -- one record more is listed, its lines end where `put` says, and the next begins at a position of
 -- the same buffer

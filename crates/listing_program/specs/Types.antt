@@ -1,4 +1,5 @@
--- The structs and enums that definitions and laws of this crate name: those of its src/, and those of the crates below.
+-- The structs and enums that definitions and laws of this crate name: those of its src/, and those
+-- of the crates below.
 pub use Rattle.records.specs.declared.record.Record.{Record}
 pub use Rattle.listing_records.specs.declared.record.Course.{Course}
 pub use Rattle.listing_records.specs.declared.record.Course.the-variants.{Write, Read, Next, Closed}
@@ -6,4 +7,5 @@ pub use Rattle.listing_program.specs.declared.run.State.{State}
 pub use Rattle.listing_program.specs.declared.run.Turn.{Turn}
 pub use Rattle.listing_program.specs.declared.run.Turn.the-variants.{More, Over}
 pub use Rattle.listing_program.specs.declared.stream.Filling.{Filling}
-pub use Rattle.listing_program.specs.declared.stream.Filling.the-variants.{Filled, End, Failed}
+pub use Rattle.listing_program.specs.declared.stream.Filling.the-variants.{Filled, End}
+pub use Rattle.listing_program.specs.declared.stream.Filling.the-variants.{Failed}

@@ -9,7 +9,8 @@ use lib.Dec.{eqb}
 use Rattle.ieee754.specs.Traced.{if_then_else_}
 use Rattle.listing.specs.Lines.{refusedLine, stopLine, endLine}
 use Rattle.listing_records.specs.FrameLines.{frameLines}
-use Rattle.listing_records.specs.Types.{End, Stop, Skip, Accepted, Record, Course, Write, Read, Next, Closed}
+use Rattle.listing_records.specs.Types.{End, Stop, Skip, Accepted, Record, Course, Write}
+use Rattle.listing_records.specs.Types.{Read, Next, Closed}
 
 -- the lines of a record, the n-th, after so many listed ones; at the input's end and at a stop the
 -- line that closes the listing

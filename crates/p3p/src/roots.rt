@@ -57,5 +57,5 @@ pub extern "C" fn p3p_cubic(b: f64, c: f64, d: f64, root: &mut f64) -> u32
 pub extern "C" fn p3p_fast_cbrt(x: f64) -> f64
     ensures { λ r. ⌜ r ≡ fastCbrt x .value ⌝ }
 {
-    polynomial::fast_cbrt::fast_cbrt(x)
+    cubic_parts::fast_cbrt::fast_cbrt(x)
 }

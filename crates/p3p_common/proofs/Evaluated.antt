@@ -1,11 +1,8 @@
--- Every definition that the refinement, the basis, the gates and the slots are computed with,
+-- Every definition that the basis, the gates and the slots are computed with, and the refinement,
 -- opened at once: under `unfolding evaluated` they compute on concrete numbers. Assumes nothing.
-use Rattle.ieee754.specs.Maximum.{max}
-use Rattle.linalg.proofs.Evaluated.{evaluated as linalg-evaluated}
-use Rattle.frames.specs.Poses.{cameraPoint}
+use Rattle.frames.proofs.Evaluated.{evaluated as frames-evaluated}
+use Rattle.refinement.proofs.Evaluated.{evaluated as refinement-evaluated}
 use Rattle.p3p_common.specs.Input.{inputFinite}
-use Rattle.p3p_common.specs.RefineDepths.{depthResidual, ifFinite, depthUpdate, depthStep}
-use Rattle.p3p_common.specs.RefineDepths.{refineTurns, refineDepths}
 use Rattle.p3p_common.specs.WorldBasisInverse.{dualBasis, isSingular, worldBasisInverse}
 use Rattle.p3p_common.specs.RotationFromEdges.{rotationFromEdges}
 use Rattle.p3p_common.specs.NearOrthonormal.{hasNearOrthonormalColumns}
@@ -17,9 +14,8 @@ use Rattle.p3p_common.specs.Slots.{empty, push}
 use Rattle.p3p_common.specs.PushPose.{pushGated, pushPose}
 
 unfoldable pub evaluated : Unit {0}
-unfolding linalg-evaluated max cameraPoint inputFinite depthResidual ifFinite depthUpdate depthStep
-    refineTurns refineDepths dualBasis isSingular worldBasisInverse rotationFromEdges
-    hasNearOrthonormalColumns projectToRotation rayFits observationFits
+unfolding frames-evaluated refinement-evaluated inputFinite dualBasis isSingular worldBasisInverse
+    rotationFromEdges hasNearOrthonormalColumns projectToRotation rayFits observationFits
     projectedPoseFitsMinimalSample ifValid keepPoint0 projectedGate gate empty push pushGated
     pushPose
 evaluated = tt

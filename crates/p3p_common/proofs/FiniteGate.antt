@@ -8,7 +8,8 @@ use Rattle.ieee754.proofs.Tests.{either-way}
 use Rattle.linalg.specs.Vectors.{allFinite, vecSub}
 use Rattle.linalg.specs.Matrices.{matVec, matFinite}
 use Rattle.linalg.proofs.Finite.{rotation-finite}
-use Rattle.p3p_common.specs.Types.{Vector3, Matrix3, Pose, P3pInput, Projection, Rotation, Refused, Gated, Passed, Projected, Dropped}
+use Rattle.p3p_common.specs.Types.{Vector3, Matrix3, Pose, P3pInput, Projection, Rotation}
+use Rattle.p3p_common.specs.Types.{Refused, Gated, Passed, Projected, Dropped}
 use Rattle.p3p_common.specs.NearOrthonormal.{hasNearOrthonormalColumns}
 use Rattle.p3p_common.specs.ProjectToRotation.{withRotation, projectToRotation}
 use Rattle.frames.specs.Poses.{cameraPoint}

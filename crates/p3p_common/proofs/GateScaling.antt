@@ -9,7 +9,8 @@ use Rattle.ieee754_laws.proofs.Degrees.{pure, if_then_else_, _>>=_, _>>≡_, ch
 use Rattle.linalg.specs.VectorScaling.{AtVector}
 use Rattle.linalg.proofs.VectorDegrees.{vecSub-scales, allFinite-same}
 use Rattle.linalg.proofs.MatrixDegrees.{same-matrix, columns-at, matVec-scales}
-use Rattle.p3p_common.specs.Types.{Vector3, Matrix3, Pose, P3pInput, Projection, Rotation, Refused, Gated, Passed, Projected}
+use Rattle.p3p_common.specs.Types.{Vector3, Matrix3, Pose, P3pInput, Projection, Rotation}
+use Rattle.p3p_common.specs.Types.{Refused, Gated, Passed, Projected}
 use Rattle.p3p_common.specs.NearOrthonormal.{hasNearOrthonormalColumns}
 use Rattle.p3p_common.specs.ProjectToRotation.{withRotation, projectToRotation}
 use Rattle.p3p_common.specs.Gate.{ifValid, keepPoint0, projectedGate, gate}

@@ -1,6 +1,5 @@
 -- The slots of a solve hold what specs/PoseSlots.antt says: at the start, and after a pose is
--- pushed that took at most five updates. The refinement with five turns makes at most five. Assumes
--- nothing.
+-- pushed that took at most five updates. Assumes nothing.
 use mathlib.Core.Path.{_≡_, refl, _∙_, subst⁻¹}
 use mathlib.Core.Logic.{_⊎_, inl, inr}
 use mathlib.Core.List.{List, [], _∷_}
@@ -17,8 +16,8 @@ use Rattle.ieee754_laws.proofs.Entries.{replicate-entry}
 use Rattle.linalg.specs.Vectors.{allFinite}
 use Rattle.linalg.specs.Matrices.{matFinite}
 use Rattle.frames.specs.Poses.{zeroPose}
-use Rattle.p3p_common.specs.Types.{Vector3, Matrix3, Pose, SquaredEdges, Cosines, P3pInput, Gated, Passed, Projected, Dropped, Solutions, Step, Next, Stop, Refined}
-use Rattle.p3p_common.specs.RefineDepths.{depthStep, afterStep, refineTurns, refineDepths}
+use Rattle.p3p_common.specs.Types.{Matrix3, Vector3, Pose, P3pInput, Gated, Passed, Projected}
+use Rattle.p3p_common.specs.Types.{Dropped, Solutions}
 use Rattle.p3p_common.specs.Gate.{gate}
 use Rattle.p3p_common.specs.Slots.{empty, push}
 use Rattle.p3p_common.specs.PushPose.{pushGated, pushPose}
@@ -93,28 +92,3 @@ pub pushPose-kept : (input : P3pInput) (s : Solutions) (r : Matrix3) (t : Vector
 unfolding pushPose
 pushPose-kept input s r t u whole h k =
     pushGated-kept s (gate input r t .value) u (gate-finite input r t whole) h k
-
--- ---- the updates of a refinement
-module _ (edges : SquaredEdges) (cosines : Cosines) where
-  turns-few : (n : ℕ) (d : Vector3) (tolerance : Float) (u : ℕ)
-      → refineTurns n d edges cosines tolerance u .value .updates ≤ u + n
-  unfolding refineTurns
-  turns-few zero d tolerance u = omega arith
-  turns-few (suc n) d tolerance u =
-      go (depthStep d edges cosines tolerance .value) (λ v. turns-few n v tolerance (u + 1))
-    where
-      rest-from : Vector3 → Traced Refined
-      rest-from v = refineTurns n v edges cosines tolerance (u + 1)
-
-      go : (step : Step)
-          → ((v : Vector3) → rest-from v .value .updates ≤ u + 1 + n)
-          → afterStep step (pure (record { depths = d; updates = u })) rest-from .value .updates
-          ≤ u + suc n
-      go Stop rest = omega arith
-      go (Next v) rest = let r = rest v in omega arith
-
-  pub updates-few : (d : Vector3) (n : ℕ) → refineDepths d edges cosines n .value .updates ≤ n
-  unfolding refineDepths
-  updates-few d n =
-      let h : refineDepths d edges cosines n .value .updates ≤ 0 + n = turns-few n d _ 0 in
-      omega arith

@@ -9,7 +9,7 @@ use lib.Ieee.{Float, binary64, toBits}
 use Rattle.ieee754.specs.Literal.{double}
 use Rattle.linalg.specs.Vectors.{vector}
 use Rattle.p3p_common.specs.Types.{Vector3, Refined}
-use Rattle.p3p_common.specs.RefineDepths.{refineDepths}
+use Rattle.refinement.specs.RefineDepths.{refineDepths}
 use Rattle.p3p_common.specs.RayFits.{rayFits}
 
 -- a row: of the refinement, the three depths alike, the three squared edges, the three cosines, the

@@ -6,7 +6,8 @@ use Rattle.ieee754.specs.Traced.{Traced, pure, _>>=_, if_then_else_}
 use Rattle.linalg.specs.Vectors.{allFinite, vecSub}
 use Rattle.linalg.specs.Matrices.{matVec}
 use Rattle.frames.specs.Poses.{cameraPoint}
-use Rattle.p3p_common.specs.Types.{Vector3, Matrix3, Pose, P3pInput, Gated, Passed, Projected, Dropped}
+use Rattle.p3p_common.specs.Types.{Vector3, Matrix3, Pose, P3pInput, Gated, Passed, Projected}
+use Rattle.p3p_common.specs.Types.{Dropped}
 use Rattle.p3p_common.specs.NearOrthonormal.{hasNearOrthonormalColumns}
 use Rattle.p3p_common.specs.ProjectToRotation.{withRotation, projectToRotation}
 use Rattle.p3p_common.specs.ProjectedPose.{projectedPoseFitsMinimalSample}

@@ -3,7 +3,6 @@
 pub mod Types
 pub mod Literal
 pub mod Input
-pub mod RefineDepths
 pub mod WorldBasisInverse
 pub mod RotationFromEdges
 pub mod NearOrthonormal

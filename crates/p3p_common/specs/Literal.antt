@@ -1,12 +1,9 @@
 -- The literals and constants of pose/p3p/common.rs, each by its bit pattern.
 use lib.Ieee.{Float}
 use Rattle.ieee754.specs.Literal.{double}
+use Rattle.refinement.specs.Literal.{ten⁻¹⁰}
 
--- 1e-10, the nearest double
-abbrev pub ten⁻¹⁰ : Float
-ten⁻¹⁰ = double 0x3ddb_7cdf_d9d7_bdbb
-
--- NEAR_ROTATION_TOLERANCE
+-- NEAR_ROTATION_TOLERANCE, 1e-10
 abbrev pub nearRotationTolerance : Float
 nearRotationTolerance = ten⁻¹⁰
 

@@ -1,19 +1,16 @@
--- What the scaling rule says of two runs' inputs, depths, bases, gates and solutions: depths at
--- degree 1, bearings and counts equal.
+-- What the scaling rule says of two runs' inputs, bases, gates and solutions: bearings and counts
+-- equal, the inverse basis's rows at their degrees.
 use mathlib.Core.Path.{_≡_}
 use mathlib.Core.List.{Forall₂}
-use lib.IntN.{ℤ, pos, negsuc}
-use Rattle.linalg.specs.VectorScaling.{AtVector, AtRows}
+use lib.IntN.{ℤ, negsuc}
+use Rattle.linalg.specs.VectorScaling.{AtRows}
 use Rattle.frames.specs.FrameScaling.{AtWorld, AtPose}
-use Rattle.p3p_common.specs.Types.{Matrix3, Pose, P3pInput, Refined, Basis, Inverse, Singular, Gated, Passed, Projected, Dropped, Solutions}
+use Rattle.p3p_common.specs.Types.{Matrix3, Pose, P3pInput, Basis, Inverse, Singular, Gated}
+use Rattle.p3p_common.specs.Types.{Passed, Projected, Dropped, Solutions}
 
 pub record AtInput (k : ℤ) (input input' : P3pInput) : Type 0 where
   pub world : AtWorld k (input .world) (input' .world)
   pub bearings : input .bearings ≡ input' .bearings
-
-pub record AtRefined (k : ℤ) (r r' : Refined) : Type 0 where
-  pub depths : AtVector k (pos 1) (r .depths) (r' .depths)
-  pub updates : r .updates ≡ r' .updates
 
 -- the inverse's rows at -1, -1 and -2, or neither run has one
 pub data AtBasis (k : ℤ) : Basis → Basis → Type 0 where

@@ -2,7 +2,8 @@
 -- solutions where the gate lets it by.
 use Prim.Native.Nat.{ℕ}
 use Rattle.ieee754.specs.Traced.{Traced, pure, _>>=_}
-use Rattle.p3p_common.specs.Types.{Vector3, Matrix3, P3pInput, Gated, Passed, Projected, Dropped, Solutions}
+use Rattle.p3p_common.specs.Types.{Vector3, Matrix3, P3pInput, Gated, Passed, Projected}
+use Rattle.p3p_common.specs.Types.{Dropped, Solutions}
 use Rattle.p3p_common.specs.Gate.{gate}
 use Rattle.p3p_common.specs.Slots.{push}
 

@@ -1,5 +1,6 @@
--- What the answers of the root finders stand for, and what is made of them. An answer, `Roots`, holds
--- two roots, one root, or the number by which document 01 names a refusal ("Questions, in order").
+-- What the answers of the root finders stand for, and what is made of them. An answer, `Roots`,
+-- holds two roots, one root, or the number by which document 01 names a refusal ("Questions, in
+-- order").
 use Prim.Native.Nat.{ℕ}
 use mathlib.Core.List.{List, [], _∷_}
 use lib.Ieee.{Float}

@@ -4,15 +4,15 @@ use mathlib.Core.Path.{refl}
 use Prim.Native.Nat.{_<_, _^_}
 use mathlib.Core.List.{[], _∷_}
 use denote.Struct.Laws as LL
-use Rattle.p3p_common.specs.declared.refine_depths.Refined.{Refined}
+use Rattle.refinement.specs.declared.refine_depths.Refined.{Refined}
 use Rattle.linalg.proofs.vector3.Vector3 as vector
 use Rattle.linalg.proofs.vector3.Vector3.Laws as vector-laws
 use Rattle.frames.proofs.squared_edges.SquaredEdges as edges
 use Rattle.frames.proofs.squared_edges.SquaredEdges.Laws as edges-laws
 use Rattle.frames.proofs.cosines.Cosines as cosines
 use Rattle.frames.proofs.cosines.Cosines.Laws as cosines-laws
-use Rattle.p3p_common.proofs.refine_depths.Refined as refined
-use Rattle.p3p_common.proofs.refine_depths.Refined.Laws as refined-laws
+use Rattle.refinement.proofs.refine_depths.Refined as refined
+use Rattle.refinement.proofs.refine_depths.Refined.Laws as refined-laws
 use Rattle.refine_in_place.proofs.Loan.{PlainStruct, val, Fit}
 
 abbrev pub VectorS : PlainStruct

@@ -1,15 +1,15 @@
 // The refinement of depths in place: the triple is lent by `&mut` and altered there, as in
 // refine_depths of pose/p3p/common.rs (document 01, "What must change shape"). A thin layer over
-// the form by value, p3p_common::refine_depths, which does the work. The prover covers no reference
+// the form by value, refinement::refine_depths, which does the work. The prover covers no reference
 // to a struct, so the proofs of both functions walk through their statements by hand.
 ghost use mathlib.Core.Path.{_≡_};
 ghost use Prim.Native.Nat.{ℕ};
-ghost use Rattle.p3p_common.specs.RefineDepths.{refineDepths};
+ghost use Rattle.refinement.specs.RefineDepths.{refineDepths};
 use frames::cosines::Cosines;
 use frames::squared_edges::SquaredEdges;
 use linalg::vector3::Vector3;
-use p3p_common::refine_depths::Refined;
-use p3p_common::refine_depths::refine_depths;
+use refinement::refine_depths::Refined;
+use refinement::refine_depths::refine_depths;
 
 // At exit the triple holds the definition's depths, all three entries, and the answer is the
 // definition's count of updates.

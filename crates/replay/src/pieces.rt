@@ -16,10 +16,10 @@ use p3p_common::has_near_orthonormal_columns::has_near_orthonormal_columns;
 use p3p_common::project_to_rotation::Projection;
 use p3p_common::project_to_rotation::project_to_rotation;
 use p3p_common::ray_fits::ray_fits;
-use p3p_common::refine_depths::refine_depths;
 use p3p_common::rotation_from_edges::rotation_from_edges;
 use p3p_common::world_basis_inverse::Basis;
 use p3p_common::world_basis_inverse::world_basis_inverse;
+use refinement::refine_depths::refine_depths;
 use replay_words::word;
 
 pub enum Piece {

@@ -28,7 +28,10 @@ use Rattle.lambdatwist.specs.Solve.{answered, refused, ifKept, stopped, solveCa
 use Rattle.lambdatwist.specs.Solve.{solveCubic, orderedOr, bestOr, solveOrdered, solve}
 use Rattle.theorems.specs.OneAnswer.{Accepted, Refused, orderingUnusable, noOrdering}
 use Rattle.theorems.specs.OneAnswer.{OneAnswer, refused-1, refused-2, refused-3, accepted}
-use Rattle.theorems.specs.Types.{Vector3, Matrix3, Roots, World, Bearings, P3pInput, Basis, Inverse, Singular, Solutions, Eigensystem, Found, NotFound, Ratio, Real, NotReal, Coefficients, Candidates, Answer, Measured}
+use Rattle.theorems.specs.Types.{Vector3, Matrix3, Roots, World, Bearings, P3pInput, Basis}
+use Rattle.theorems.specs.Types.{Inverse, Singular, Solutions, Eigensystem, Found, NotFound}
+use Rattle.theorems.specs.Types.{Ratio, Real, NotReal, Coefficients, Candidates, Answer}
+use Rattle.theorems.specs.Types.{Measured}
 use Rattle.lambdatwist.proofs.KeptPoses.{poses-kept}
 
 -- ---- the two kinds of answer

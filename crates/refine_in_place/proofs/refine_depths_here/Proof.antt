@@ -46,9 +46,9 @@ use denote.Triple.Spec.{tripleOf}
 use denote.Triple.Table.{entered, cited}
 use denote.Triple.Walked.{says, Stays, stay-none, walkOf, AllGo, goes-none, Walks, ends-at, walked}
 use denote.Exit.{yes}
-use Rattle.p3p_common.specs.RefineDepths.{refineDepths}
+use Rattle.refinement.specs.RefineDepths.{refineDepths}
 use Rattle.linalg.specs.declared.vector3.Vector3.{Vector3}
-use Rattle.p3p_common.specs.declared.refine_depths.Refined.{Refined}
+use Rattle.refinement.specs.declared.refine_depths.Refined.{Refined}
 use Rattle.refine_in_place.proofs.Loan.{meets, Row, val, Fit, ref, typed, had, lends-local}
 use Rattle.refine_in_place.proofs.Loan.{local-back}
 use Rattle.refine_in_place.proofs.Structs.{VectorS, EdgesS, CosinesS, RefinedS, refined-fits}

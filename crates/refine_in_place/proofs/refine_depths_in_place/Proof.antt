@@ -47,9 +47,9 @@ use denote.Triple.Entry.{onEntry}
 use denote.Triple.Spec.{tripleOf}
 use denote.Triple.Table.{entered, cited}
 use denote.Triple.Walked.{says, Stays, stay-ref, walkOf, AllGo, goes-ref, Walks, ends-at, walked}
-use Rattle.p3p_common.specs.RefineDepths.{refineDepths}
+use Rattle.refinement.specs.RefineDepths.{refineDepths}
 use Rattle.linalg.specs.declared.vector3.Vector3.{Vector3}
-use Rattle.p3p_common.specs.declared.refine_depths.Refined.{Refined}
+use Rattle.refinement.specs.declared.refine_depths.Refined.{Refined}
 use Rattle.refine_in_place.proofs.Loan.{meets, Row, val, Fit, Mir, ref, returned, typed}
 use Rattle.refine_in_place.proofs.Loan.{had, shut, opens-lent, closes-lent}
 use Rattle.refine_in_place.proofs.Structs.{VectorS, EdgesS, CosinesS, RefinedS, depths-fit}
@@ -57,10 +57,10 @@ use Rattle.refine_in_place.proofs.Structs.{updates-fit}
 use Rattle.refine_in_place.proofs.Others.{Others, Args as OtherArgs, args as others, of}
 use Rattle.refine_in_place.proofs.Others.{vals, rows, spelt, tells, stayed as others-stayed}
 use Rattle.refine_in_place.proofs.Others.{gone as others-gone, had-others}
-use Rattle.p3p_common.proofs.refine_depths.refine_depths as core
-use Rattle.p3p_common.proofs.refine_depths.refine_depths.Symbol as core-def
-use Rattle.p3p_common.proofs.refine_depths.refine_depths.Symbol.{name as #core}
-use Rattle.p3p_common.proofs.refine_depths.refine_depths.Met as core-thm
+use Rattle.refinement.proofs.refine_depths.refine_depths as core
+use Rattle.refinement.proofs.refine_depths.refine_depths.Symbol as core-def
+use Rattle.refinement.proofs.refine_depths.refine_depths.Symbol.{name as #core}
+use Rattle.refinement.proofs.refine_depths.refine_depths.Met as core-thm
 use Rattle.refine_in_place.proofs.refine_depths_in_place.Key.{name as #in-place}
 use Rattle.refine_in_place.proofs.refine_depths_in_place as f
 use Rattle.refine_in_place.proofs.refine_depths_in_place.Statement as stated
@@ -263,7 +263,7 @@ refine-depths-in-place-spec 𝓤 H 𝓜 𝓖 𝓡 =
     let all = tables 𝓤 H 𝓜 𝓡 code.env in
     let by-value = Core 𝓤 H A mem run in
     let callee = core-def.routine in
-    let calls = code.calls-p3p-common·refine-depths·refine-depths in
+    let calls = code.calls-refinement·refine-depths·refine-depths in
     let known = cited 𝓤 H by-value 𝓜 𝓡 code.env #core callee calls (core-thm.met 𝓤 H 𝓜 𝓖 𝓡) in
     entered 𝓤 H (tripleOf 𝓤 H A f.signature (f.spec 𝓤 H A mem run))
     (all .C) (all .Λ) #in-place code.function (code.unfolded 𝓤 H 𝓜 𝓡)

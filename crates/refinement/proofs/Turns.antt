@@ -4,8 +4,8 @@ use Prim.Native.Nat.{ℕ, suc, _-_, _+_, _≤_, _<_}
 use native.Mathlib.Omega.{arith}
 use mathlib.Core.Path.{_≡_}
 use lib.Ieee.{Float}
-use Rattle.p3p_common.specs.Types.{Vector3, SquaredEdges, Cosines, Next, Stop}
-use Rattle.p3p_common.specs.RefineDepths.{depthStep, refineTurns}
+use Rattle.refinement.specs.Types.{Vector3, SquaredEdges, Cosines, Next, Stop}
+use Rattle.refinement.specs.RefineDepths.{depthStep, refineTurns}
 
 module _ (depths : Vector3) (edges : SquaredEdges) (cosines : Cosines) (tolerance : Float)
     (n u : ℕ) where

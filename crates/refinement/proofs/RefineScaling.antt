@@ -12,12 +12,12 @@ use Rattle.ieee754_laws.proofs.Degrees.{same, null, !_, ⊝_, _⊗_, _⊘_, _�
 use Rattle.ieee754_laws.proofs.Degrees.{_>>=_, choose, max-at, lt-same, eq-same, finite-same}
 use Rattle.linalg.specs.VectorScaling.{AtVector}
 use Rattle.linalg.proofs.VectorDegrees.{absSum-scales, allFinite-same}
-use Rattle.p3p_common.specs.Types.{Vector3, SquaredEdges, Cosines, Step, Next, Stop}
-use Rattle.p3p_common.specs.Literal.{ten⁻¹⁰}
-use Rattle.p3p_common.specs.RefineDepths.{depthResidual, ifFinite, depthUpdate, depthStep}
-use Rattle.p3p_common.specs.RefineDepths.{afterStep, refineTurns, refineDepths}
+use Rattle.refinement.specs.Types.{Vector3, SquaredEdges, Cosines, Step, Next, Stop}
+use Rattle.refinement.specs.Literal.{ten⁻¹⁰}
+use Rattle.refinement.specs.RefineDepths.{depthResidual, ifFinite, depthUpdate, depthStep}
+use Rattle.refinement.specs.RefineDepths.{afterStep, refineTurns, refineDepths}
 use Rattle.frames.specs.FrameScaling.{AtEdges}
-use Rattle.p3p_common.specs.PoseScaling.{AtRefined}
+use Rattle.refinement.specs.RefinedScaling.{AtRefined}
 
 -- both stop, or both go on
 pub data AtStep (k : ℤ) : Step → Step → Type 0 where

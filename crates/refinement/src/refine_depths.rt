@@ -1,8 +1,8 @@
 // The refinement of three depths by Newton's method (refine_depths of pose/p3p/common.rs; document
 // 01, module 4).
 ghost use mathlib.Core.Path.{_≡_};
-ghost use Rattle.p3p_common.specs.RefineDepths.{depthResidual, depthUpdate, depthStep};
-ghost use Rattle.p3p_common.specs.RefineDepths.{refineDepths};
+ghost use Rattle.refinement.specs.RefineDepths.{depthResidual, depthUpdate, depthStep};
+ghost use Rattle.refinement.specs.RefineDepths.{refineDepths};
 use frames::cosines::Cosines;
 use frames::squared_edges::SquaredEdges;
 use ieee754::is_finite::is_finite;

@@ -1,14 +1,14 @@
--- `p3p_common::refine_depths::refine_depths` meets its contract: what is left of the loop gives
+-- `refinement::refine_depths::refine_depths` meets its contract: what is left of the loop gives
 -- what the whole does. Assumes nothing.
 use borrow.Author.Needs.{needs}
 use native.Mathlib.Nat.{sub-zero}
 use native.Mathlib.Omega.{arith}
 use Prim.Native.Nat.{_-_, _≤_}
 use mathlib.Core.Path.{_≡_, sym, _∙_}
-use Rattle.p3p_common.specs.RefineDepths.{refineTurns, refineDepths}
-use Rattle.p3p_common.proofs.Turns.{turns-stop, turns-go, turns-end}
-use Rattle.p3p_common.proofs.refine_depths.refine_depths.Statement.{statement}
-use Rattle.p3p_common.proofs.refine_depths.refine_depths.Tie as tie
+use Rattle.refinement.specs.RefineDepths.{refineTurns, refineDepths}
+use Rattle.refinement.proofs.Turns.{turns-stop, turns-go, turns-end}
+use Rattle.refinement.proofs.refine_depths.refine_depths.Statement.{statement}
+use Rattle.refinement.proofs.refine_depths.refine_depths.Tie as tie
 
 abbrev Inv-loop : tie.InvT-loop
 Inv-loop edges cosines iterations a01 a02 a12 tolerance refined₀ updates₀ refined updates =
