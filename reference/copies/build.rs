@@ -22,10 +22,9 @@ const FILES: [(&str, &str); 3] = [
 
 fn main() {
     println!("cargo:rerun-if-env-changed=P3P_SOURCES");
-    let sources = PathBuf::from(
-        env::var("P3P_SOURCES")
-            .unwrap_or_else(|_| panic!("set P3P_SOURCES to the folder of the original sources (reference/README.md)")),
-    );
+    let sources = PathBuf::from(env::var("P3P_SOURCES").unwrap_or_else(|_| {
+        panic!("set P3P_SOURCES to the folder of the original sources (reference/README.md)")
+    }));
     let out = PathBuf::from(env::var("OUT_DIR").unwrap());
     let edits = Path::new("../../edits");
     let scripts: &[&str] = match env::var("CARGO_PKG_NAME").unwrap().as_str() {
@@ -50,7 +49,8 @@ fn main() {
     for ((name, _), text) in FILES.iter().zip(&texts) {
         fs::write(out.join(name), text).unwrap();
     }
-    let module = |name: &str| format!("#[path = {:?}]\npub mod {name};\n", out.join(format!("{name}.rs")));
+    let module =
+        |name: &str| format!("#[path = {:?}]\npub mod {name};\n", out.join(format!("{name}.rs")));
     fs::write(out.join("shared.rs"), module("polynomial")).unwrap();
     fs::write(out.join("p3p.rs"), module("common") + &module("lambdatwist")).unwrap();
     fs::write(out.join("labels.rs"), format!("&{labels:?}")).unwrap();
@@ -88,8 +88,17 @@ fn parse(script: &str) -> Vec<Edit> {
                 Some(("all", n)) => (None, n.parse().unwrap()),
                 Some((k, n)) => (Some(k.parse().unwrap()), n.parse().unwrap()),
             };
-            list.push(Edit { file, function, place, places, old: String::new(), new: String::new() });
-        } else if let Some((side, text)) = line.split_once(' ').filter(|(side, _)| matches!(*side, "-" | "+")) {
+            list.push(Edit {
+                file,
+                function,
+                place,
+                places,
+                old: String::new(),
+                new: String::new(),
+            });
+        } else if let Some((side, text)) =
+            line.split_once(' ').filter(|(side, _)| matches!(*side, "-" | "+"))
+        {
             let edit = list.last_mut().expect("an edit begins with @");
             let into = if side == "-" { &mut edit.old } else { &mut edit.new };
             if !into.is_empty() {
@@ -111,8 +120,10 @@ fn apply(text: &str, file: &str, list: &[Edit]) -> String {
             tail += &format!("\n{}\n", edit.new);
             continue;
         }
-        let (start, end) = if edit.function == "*" { (0, text.len()) } else { function(text, &edit.function) };
-        let found: Vec<usize> = text[start..end].match_indices(&edit.old).map(|(at, _)| start + at).collect();
+        let (start, end) =
+            if edit.function == "*" { (0, text.len()) } else { function(text, &edit.function) };
+        let found: Vec<usize> =
+            text[start..end].match_indices(&edit.old).map(|(at, _)| start + at).collect();
         assert!(
             found.len() == edit.places,
             "{file}, {}: {:?} stands {} times, not {}",
@@ -157,5 +168,9 @@ fn function(text: &str, name: &str) -> (usize, usize) {
 
 /// The counters' labels: the first string in each call of crate::reach.
 fn labels_of(edit: &Edit) -> Vec<String> {
-    edit.new.split("crate::reach::").skip(1).map(|call| call.split('"').nth(1).expect("a label").to_string()).collect()
+    edit.new
+        .split("crate::reach::")
+        .skip(1)
+        .map(|call| call.split('"').nth(1).expect("a label").to_string())
+        .collect()
 }

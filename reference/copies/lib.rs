@@ -64,7 +64,9 @@ pub mod pose {
         pub bearing: UnitVector3<f64>,
     }
 
-    pub fn camera_pose_from_world_to_camera(_: &SolverPose<f64>) -> SolverResult<WorldToCameraPose> {
+    pub fn camera_pose_from_world_to_camera(
+        _: &SolverPose<f64>,
+    ) -> SolverResult<WorldToCameraPose> {
         unreachable!("above the reference: solve_minimal")
     }
 
@@ -111,7 +113,8 @@ fn words(matrix: &Matrix3<f64>) -> [f64; 9] {
 /// The reference: solve_solver_minimal on three world points and three bearings.
 pub fn solve(input: &[f64; 18]) -> Answer {
     let world = std::array::from_fn(|index| Point3::from(vector(&input[3 * index..])));
-    let bearings = std::array::from_fn(|index| UnitVector3::new_unchecked(vector(&input[9 + 3 * index..])));
+    let bearings =
+        std::array::from_fn(|index| UnitVector3::new_unchecked(vector(&input[9 + 3 * index..])));
     record::start();
     let count = pose::p3p::solve(world, bearings);
     record::answer(count)
@@ -124,7 +127,8 @@ pub fn quadratic(b: f64, c: f64) -> Result<[f64; 2], u32> {
 
 /// One root, or 4 or 6.
 pub fn cubic(b: f64, c: f64, d: f64) -> Result<f64, u32> {
-    polynomial::polished_cubic_root(b, c, d).ok_or(if b.is_finite() && c.is_finite() && d.is_finite() { 6 } else { 4 })
+    polynomial::polished_cubic_root(b, c, d)
+        .ok_or(if b.is_finite() && c.is_finite() && d.is_finite() { 6 } else { 4 })
 }
 
 pub fn fast_cbrt(x: f64) -> f64 {
@@ -132,7 +136,12 @@ pub fn fast_cbrt(x: f64) -> f64 {
 }
 
 /// The updates made and the depths then.
-pub fn refine(depths: [f64; 3], edges: [f64; 3], cosines: [f64; 3], limit: usize) -> (u32, [f64; 3]) {
+pub fn refine(
+    depths: [f64; 3],
+    edges: [f64; 3],
+    cosines: [f64; 3],
+    limit: usize,
+) -> (u32, [f64; 3]) {
     let mut triple = vector(&depths);
     common::refine_depths(&mut triple, edges, cosines, limit);
     (record::updates(), triple.into())
@@ -172,7 +181,11 @@ pub fn push(
     let mut output = common::SolverP3pSolutions::default();
     (0..count).for_each(|_| output.push(pose::SolverPose::identity()));
     record::holding(count, updates);
-    input.push_edge_basis_pose_from_positive_depths(&mut output, matrix(rotation), vector(translation));
+    input.push_edge_basis_pose_from_positive_depths(
+        &mut output,
+        matrix(rotation),
+        vector(translation),
+    );
     (output.len(), record::grown(count, output.len()))
 }
 

@@ -49,7 +49,8 @@ fn nearest_cube_root(x: f64) -> f64 {
     let bits = x.to_bits();
     let field = (bits >> 52) as i64;
     let fraction = bits & ((1 << 52) - 1);
-    let (mut m, mut e) = if field == 0 { (fraction, -1074) } else { (fraction | 1 << 52, field - 1075) };
+    let (mut m, mut e) =
+        if field == 0 { (fraction, -1074) } else { (fraction | 1 << 52, field - 1075) };
     while m >> 52 == 0 {
         m <<= 1;
         e -= 1;

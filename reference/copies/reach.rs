@@ -26,8 +26,11 @@ pub fn here(label: &'static str) {
 }
 
 /// The listed calls' labels, which stand in copies/listed.rs and not in the edits.
-pub const LISTED: [&str; 3] =
-    ["listed call: cbrt", "listed call: total_cmp on a NaN", "listed call: max of zeros of opposite sign"];
+pub const LISTED: [&str; 3] = [
+    "listed call: cbrt",
+    "listed call: total_cmp on a NaN",
+    "listed call: max of zeros of opposite sign",
+];
 
 /// A listed call is made (noted in copy-counted alone).
 pub fn listed(index: usize) {

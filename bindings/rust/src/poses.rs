@@ -53,7 +53,9 @@ pub fn solve(world: &[[f64; 3]; 3], bearings: &[[f64; 3]; 3]) -> Result<Poses, R
     // SAFETY: the references are to arrays of this function's own, of the lengths that the C
     // function reads and writes.
     let number = unsafe { sys::p3p_solve(&input, &mut words, &mut updates, &mut count) };
-    let slots = std::array::from_fn(|slot| Pose::from_slot(&words[12 * slot..12 * slot + 12], updates[slot]));
+    let slots = std::array::from_fn(|slot| {
+        Pose::from_slot(&words[12 * slot..12 * slot + 12], updates[slot])
+    });
     Refusal::unless_zero(number, Poses { slots, count: count as usize })
 }
 

@@ -13,6 +13,17 @@ extern "C" {
 
     pub fn p3p_quadratic(b: f64, c: f64, first: &mut f64, second: &mut f64) -> u32;
     pub fn p3p_cubic(b: f64, c: f64, d: f64, root: &mut f64) -> u32;
-    pub fn p3p_solve(input: &[f64; 18], poses: &mut [f64; 48], updates: &mut [u32; 4], count: &mut u32) -> u32;
-    pub fn p3p_choose(poses: &[f64; 48], count: u32, target: &[f64; 3], bearing: &[f64; 3], best: &mut u32) -> u32;
+    pub fn p3p_solve(
+        input: &[f64; 18],
+        poses: &mut [f64; 48],
+        updates: &mut [u32; 4],
+        count: &mut u32,
+    ) -> u32;
+    pub fn p3p_choose(
+        poses: &[f64; 48],
+        count: u32,
+        target: &[f64; 3],
+        bearing: &[f64; 3],
+        best: &mut u32,
+    ) -> u32;
 }

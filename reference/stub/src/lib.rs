@@ -65,7 +65,12 @@ extern "C" fn p3p_fast_cbrt(x: f64) -> f64 {
 }
 
 #[unsafe(no_mangle)]
-extern "C" fn p3p_solve(input: &[f64; 18], poses: &mut [f64; 48], updates: &mut [u32; 4], count: &mut u32) -> u32 {
+extern "C" fn p3p_solve(
+    input: &[f64; 18],
+    poses: &mut [f64; 48],
+    updates: &mut [u32; 4],
+    count: &mut u32,
+) -> u32 {
     let answer = copy_second::solve(input);
     if answer.refusal != 0 {
         return answer.refusal;
@@ -80,7 +85,13 @@ extern "C" fn p3p_solve(input: &[f64; 18], poses: &mut [f64; 48], updates: &mut 
 }
 
 #[unsafe(no_mangle)]
-extern "C" fn p3p_choose(poses: &[f64; 48], count: u32, target: &[f64; 3], bearing: &[f64; 3], best: &mut u32) -> u32 {
+extern "C" fn p3p_choose(
+    poses: &[f64; 48],
+    count: u32,
+    target: &[f64; 3],
+    bearing: &[f64; 3],
+    best: &mut u32,
+) -> u32 {
     let slots = std::array::from_fn(|slot| std::array::from_fn(|index| poses[12 * slot + index]));
     match choice::best(count as u64, &slots, target, bearing) {
         Some((index, _)) => {

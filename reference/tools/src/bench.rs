@@ -43,7 +43,9 @@ fn spent() -> f64 {
 }
 
 pub fn run(count: u64, seed: u64) -> Result<(), String> {
-    println!("seed {seed}, {count} frames of each sort; of each {PART} frames the least of {PASSES} passes");
+    println!(
+        "seed {seed}, {count} frames of each sort; of each {PART} frames the least of {PASSES} passes"
+    );
     println!("| frames | port / Rust | port, ns | Rust, ns | poses a frame |");
     println!("|---|---:|---:|---:|---:|");
     for (name, sort) in SORTS {
@@ -72,7 +74,9 @@ fn inputs(sort: &Sort, count: u64, seed: u64) -> Vec<Input> {
     let mut list = Vec::new();
     while (list.len() as u64) < count {
         let frame = match sort {
-            Sort::Kind(name) => frames::KINDS.iter().find(|kind| kind.0 == *name).unwrap().2(&mut r),
+            Sort::Kind(name) => {
+                frames::KINDS.iter().find(|kind| kind.0 == *name).unwrap().2(&mut r)
+            }
             Sort::Reaches(label) => {
                 let frame = pieces::any_frame(&mut r);
                 let reached = counts.run("frame", &frame.map(f64::to_bits));
@@ -98,7 +102,10 @@ fn times(inputs: &[Input]) -> (f64, f64) {
         }
     }
     let frames = inputs.len() as f64;
-    (least.iter().map(|time| time.0).sum::<f64>() / frames, least.iter().map(|time| time.1).sum::<f64>() / frames)
+    (
+        least.iter().map(|time| time.0).sum::<f64>() / frames,
+        least.iter().map(|time| time.1).sum::<f64>() / frames,
+    )
 }
 
 fn pass<'a, T>(inputs: impl Iterator<Item = &'a Input>, solve: impl Fn(&Input) -> T) -> f64 {

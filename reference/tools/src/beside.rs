@@ -10,8 +10,18 @@ use crate::table;
 use std::collections::BTreeMap;
 
 /// Functions asked beside the frames, one input of each for every fourth frame.
-const ASKED: &[&str] =
-    &["quadratic", "cubic", "fast_cbrt", "choice", "sqrt", "cbrt", "fma", "copysign", "max", "totalorder"];
+const ASKED: &[&str] = &[
+    "quadratic",
+    "cubic",
+    "fast_cbrt",
+    "choice",
+    "sqrt",
+    "cbrt",
+    "fma",
+    "copysign",
+    "max",
+    "totalorder",
+];
 
 /// Functions that are only compared between the copies.
 const COPIES: &[&str] = &["refine", "basis", "project", "eig", "row_crosses", "condition"];
@@ -103,7 +113,11 @@ fn next_frame(r: &mut Random) -> frames::Frame {
 }
 
 /// Asks the copies, and the port where it is linked; the second copy's answer.
-fn compare<'a>(name: &'a str, input: &[u64], distances: &mut BTreeMap<&'a str, Distance>) -> Result<Vec<u64>, String> {
+fn compare<'a>(
+    name: &'a str,
+    input: &[u64],
+    distances: &mut BTreeMap<&'a str, Distance>,
+) -> Result<Vec<u64>, String> {
     let second = table::second::answer(name, input);
     #[cfg(port)]
     if port::OFFERED.contains(&name) {
@@ -127,12 +141,17 @@ fn compare<'a>(name: &'a str, input: &[u64], distances: &mut BTreeMap<&'a str, D
 /// How many doubles lie from one word to another (0 if either is not a number).
 fn places(a: u64, b: u64) -> u64 {
     let order = |word: u64| if word >> 63 == 0 { word as i64 } else { i64::MIN - word as i64 };
-    if f64::from_bits(a).is_nan() || f64::from_bits(b).is_nan() { 0 } else { order(a).abs_diff(order(b)) }
+    if f64::from_bits(a).is_nan() || f64::from_bits(b).is_nan() {
+        0
+    } else {
+        order(a).abs_diff(order(b))
+    }
 }
 
 #[cfg(port)]
 fn difference(name: &str, input: &[u64], second: &[u64], ported: &[u64]) -> String {
-    let words = |list: &[u64]| list.iter().map(|word| format!("{word:016x}")).collect::<Vec<_>>().join(" ");
+    let words =
+        |list: &[u64]| list.iter().map(|word| format!("{word:016x}")).collect::<Vec<_>>().join(" ");
     format!(
         "The port differs from the second copy.\n{name} {}\nsecond copy {}\nport        {}",
         words(input),

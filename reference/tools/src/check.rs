@@ -14,7 +14,8 @@ pub fn run(files: &[String]) -> Result<(), String> {
             let (left, right) = line.split_once(" -> ").ok_or(format!("{path}: line {number}"))?;
             let (second, asis) = right.split_once(" | asis ").unwrap_or((right, right));
             let (label, words) = left.split_once(' ').ok_or(format!("{path}: line {number}"))?;
-            let name = FUNCTIONS.iter().map(|f| f.name).find(|name| *name == label).unwrap_or("frame");
+            let name =
+                FUNCTIONS.iter().map(|f| f.name).find(|name| *name == label).unwrap_or("frame");
             let input = parse_input(name, words);
             for (copy, expected, found) in [
                 ("the second copy", second, table::second::answer(name, &input)),
@@ -23,13 +24,19 @@ pub fn run(files: &[String]) -> Result<(), String> {
             ] {
                 let expected = parse_answer(name, expected);
                 if expected != found {
-                    return Err(format!("{path}, line {}: {copy}\n{line}\nfound {found:x?}", number + 1));
+                    return Err(format!(
+                        "{path}, line {}: {copy}\n{line}\nfound {found:x?}",
+                        number + 1
+                    ));
                 }
             }
             differ += (second != asis) as usize;
             total += 1;
         }
-        println!("{path}: {} lines, the copies differ on {differ}, as it says", text.lines().count());
+        println!(
+            "{path}: {} lines, the copies differ on {differ}, as it says",
+            text.lines().count()
+        );
     }
     println!("{total} answers equal");
     Ok(())
@@ -73,7 +80,9 @@ fn parse_answer(name: &str, answer: &str) -> Vec<u64> {
         ("quadratic" | "cubic", _) => std::iter::once(0).chain(words(1)).collect(),
         ("refine", _) => std::iter::once(number(1)).chain(words(2)).collect(),
         ("ray_fits" | "near", _) => vec![number(1)],
-        ("project" | "basis" | "eig" | "row_crosses", _) => std::iter::once(1).chain(words(0)).collect(),
+        ("project" | "basis" | "eig" | "row_crosses", _) => {
+            std::iter::once(1).chain(words(0)).collect()
+        }
         ("choice", _) => vec![0, number(1), hex(tokens[2])],
         ("totalorder", word) => vec![word.parse::<i64>().unwrap() as u64],
         _ => words(0).collect(),
@@ -86,7 +95,9 @@ fn parse_answer(name: &str, answer: &str) -> Vec<u64> {
 pub fn inputs(text: &str, name: &str) -> Vec<(String, Vec<u64>)> {
     text.lines()
         .filter_map(|line| line.split(" -> ").next()?.split_once(' '))
-        .filter(|(label, _)| FUNCTIONS.iter().map(|f| f.name).find(|n| n == label).unwrap_or("frame") == name)
+        .filter(|(label, _)| {
+            FUNCTIONS.iter().map(|f| f.name).find(|n| n == label).unwrap_or("frame") == name
+        })
         .map(|(label, words)| (label.to_string(), parse_input(name, words)))
         .collect()
 }

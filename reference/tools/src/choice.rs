@@ -4,7 +4,12 @@
 
 use nalgebra::{Matrix3, Vector3};
 
-pub fn best(count: u64, poses: &[[f64; 12]; 4], target: &[f64], bearing: &[f64]) -> Option<(usize, f64)> {
+pub fn best(
+    count: u64,
+    poses: &[[f64; 12]; 4],
+    target: &[f64],
+    bearing: &[f64],
+) -> Option<(usize, f64)> {
     let target = Vector3::from_column_slice(target);
     let bearing = Vector3::from_column_slice(bearing);
     poses

@@ -49,7 +49,10 @@ const UNREACHABLE: &str = include_str!("unreachable.txt");
 fn reason(label: &str, side: &str) -> Option<(&'static str, &'static str)> {
     UNREACHABLE.lines().filter(|line| !line.starts_with('#')).find_map(|line| {
         let parts: Vec<&str> = line.split(" | ").collect();
-        assert!(parts.len() == 4 && ["never", "by no frame", "none found"].contains(&parts[0]), "{line}");
+        assert!(
+            parts.len() == 4 && ["never", "by no frame", "none found"].contains(&parts[0]),
+            "{line}"
+        );
         (parts[1] == side && parts[2] == label).then_some((parts[0], parts[3]))
     })
 }
@@ -74,7 +77,12 @@ fn count(folder: &Path) -> Result<[(Counts, usize); 2], String> {
 
 /// Why one side of a test is not reached, where it is not; an error where it is reached and named
 /// as unreachable.
-fn note(frames: &Counts, all: &Counts, label: &str, outcome: bool) -> Result<Option<String>, String> {
+fn note(
+    frames: &Counts,
+    all: &Counts,
+    label: &str,
+    outcome: bool,
+) -> Result<Option<String>, String> {
     let side = if outcome { "yes" } else { "no" };
     let reason = reason(label, side);
     let claimed = reason.is_some_and(|(far, _)| far != "by no frame");
@@ -101,16 +109,25 @@ pub fn print(folder: &Path) -> Result<(), String> {
     let mut missing = 0;
     for &label in reach::LABELS.iter().chain(&reach::LISTED) {
         let outcomes: &[bool] = if is_place(label) { &[true] } else { &[true, false] };
-        let notes: Vec<Option<String>> =
-            outcomes.iter().map(|&outcome| note(&frames, &all, label, outcome)).collect::<Result<_, _>>()?;
+        let notes: Vec<Option<String>> = outcomes
+            .iter()
+            .map(|&outcome| note(&frames, &all, label, outcome))
+            .collect::<Result<_, _>>()?;
         let notes: Vec<String> = notes.into_iter().flatten().collect();
         missing += notes.iter().filter(|note| note.ends_with(NOT_REACHED)).count();
         let shown = |counts: &Counts, outcome: bool| {
-            if !outcome && is_place(label) { String::new() } else { counts.of(label, outcome).to_string() }
+            if !outcome && is_place(label) {
+                String::new()
+            } else {
+                counts.of(label, outcome).to_string()
+            }
         };
         let [frames_yes, frames_no] = [true, false].map(|outcome| shown(&frames, outcome));
         let [all_yes, all_no] = [true, false].map(|outcome| shown(&all, outcome));
-        println!("| {label} | {frames_yes} | {frames_no} | {all_yes} | {all_no} | {} |", notes.join(". "));
+        println!(
+            "| {label} | {frames_yes} | {frames_no} | {all_yes} | {all_no} | {} |",
+            notes.join(". ")
+        );
     }
     println!("\nOutcomes neither reached nor named as unreachable: {missing}");
     Ok(())

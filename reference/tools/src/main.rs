@@ -51,7 +51,9 @@ fn main() {
         #[cfg(port)]
         ["bench", count] => number(count).and_then(|count| bench::run(count, vectors::SEED)),
         #[cfg(not(port))]
-        ["bench", ..] => Err("built without the port (set P3P_PORT to its static library)".to_string()),
+        ["bench", ..] => {
+            Err("built without the port (set P3P_PORT to its static library)".to_string())
+        }
         ["search", name, enough, seed, count] => (|| {
             let source = vectors::Source::Random { seed: number(seed)?, count: number(count)? };
             vectors::search(name, source, number(enough)? as usize);

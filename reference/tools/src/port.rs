@@ -14,7 +14,13 @@ unsafe extern "C" {
     fn p3p_quadratic(b: f64, c: f64, first: *mut f64, second: *mut f64) -> u32;
     fn p3p_cubic(b: f64, c: f64, d: f64, root: *mut f64) -> u32;
     fn p3p_solve(input: *const f64, poses: *mut f64, updates: *mut u32, count: *mut u32) -> u32;
-    fn p3p_choose(poses: *const f64, count: u32, target: *const f64, bearing: *const f64, best: *mut u32) -> u32;
+    fn p3p_choose(
+        poses: *const f64,
+        count: u32,
+        target: *const f64,
+        bearing: *const f64,
+        best: *mut u32,
+    ) -> u32;
 }
 
 /// What lent memory holds before a call: a refusal must leave it.
@@ -25,8 +31,19 @@ const LENT_WHOLE: u32 = 0xdead_beef;
 const WROTE: u64 = 0xbad0_bad0_bad0_bad0;
 
 /// The functions that the port offers.
-pub const OFFERED: &[&str] =
-    &["frame", "quadratic", "cubic", "fast_cbrt", "choice", "sqrt", "cbrt", "fma", "copysign", "max", "totalorder"];
+pub const OFFERED: &[&str] = &[
+    "frame",
+    "quadratic",
+    "cubic",
+    "fast_cbrt",
+    "choice",
+    "sqrt",
+    "cbrt",
+    "fma",
+    "copysign",
+    "max",
+    "totalorder",
+];
 
 pub fn answer(name: &str, input: &[u64]) -> Vec<u64> {
     let d = |index: usize| f64::from_bits(input[index]);
@@ -48,7 +65,8 @@ pub fn answer(name: &str, input: &[u64]) -> Vec<u64> {
             let poses: [f64; 48] = std::array::from_fn(|index| d(1 + index));
             let target: [f64; 3] = std::array::from_fn(|index| d(49 + index));
             let bearing: [f64; 3] = std::array::from_fn(|index| d(52 + index));
-            let (number, best) = choose(&poses, input[0].min(u32::MAX as u64) as u32, &target, &bearing);
+            let (number, best) =
+                choose(&poses, input[0].min(u32::MAX as u64) as u32, &target, &bearing);
             vec![number as u64, best]
         }
         "sqrt" => vec![word(unsafe { p3p_sqrt(d(0)) })],
@@ -64,7 +82,8 @@ pub fn answer(name: &str, input: &[u64]) -> Vec<u64> {
 /// A solve alone, for its time: the number, the slots, their updates and the count.
 pub fn solve(input: &[f64; 18]) -> (u32, [f64; 48], [u32; 4], u32) {
     let (mut poses, mut updates, mut count) = ([0.0; 48], [0; 4], 0);
-    let number = unsafe { p3p_solve(input.as_ptr(), poses.as_mut_ptr(), updates.as_mut_ptr(), &mut count) };
+    let number =
+        unsafe { p3p_solve(input.as_ptr(), poses.as_mut_ptr(), updates.as_mut_ptr(), &mut count) };
     (number, poses, updates, count)
 }
 
@@ -80,7 +99,8 @@ fn result(number: u32, roots: &[f64]) -> Vec<u64> {
 /// The number and the best, from 1.
 fn choose(poses: &[f64; 48], count: u32, target: &[f64; 3], bearing: &[f64; 3]) -> (u32, u64) {
     let mut best = LENT_WHOLE;
-    let number = unsafe { p3p_choose(poses.as_ptr(), count, target.as_ptr(), bearing.as_ptr(), &mut best) };
+    let number =
+        unsafe { p3p_choose(poses.as_ptr(), count, target.as_ptr(), bearing.as_ptr(), &mut best) };
     match number {
         0 => (0, best as u64),
         _ => (number, if best == LENT_WHOLE { 0 } else { WROTE }),
@@ -89,10 +109,12 @@ fn choose(poses: &[f64; 48], count: u32, target: &[f64; 3], bearing: &[f64; 3]) 
 
 fn frame(input: &[f64; 24]) -> Vec<u64> {
     let (mut poses, mut updates, mut count) = ([LENT; 48], [LENT_WHOLE; 4], LENT_WHOLE);
-    let number = unsafe { p3p_solve(input.as_ptr(), poses.as_mut_ptr(), updates.as_mut_ptr(), &mut count) };
+    let number =
+        unsafe { p3p_solve(input.as_ptr(), poses.as_mut_ptr(), updates.as_mut_ptr(), &mut count) };
     if number != 0 {
-        let kept =
-            poses.iter().all(|x| x.to_bits() == LENT.to_bits()) && updates == [LENT_WHOLE; 4] && count == LENT_WHOLE;
+        let kept = poses.iter().all(|x| x.to_bits() == LENT.to_bits())
+            && updates == [LENT_WHOLE; 4]
+            && count == LENT_WHOLE;
         let mut words = vec![0; 55];
         (words[0], words[1]) = (number as u64, if kept { 0 } else { WROTE });
         return words;

@@ -7,7 +7,11 @@ pub type Vector = [f64; 3];
 
 /// 2^k for any k from -1074 to 1023.
 pub fn power(k: i64) -> f64 {
-    if k < -1022 { f64::from_bits(1 << (k + 1074)) } else { f64::from_bits(((k + 1023) as u64) << 52) }
+    if k < -1022 {
+        f64::from_bits(1 << (k + 1074))
+    } else {
+        f64::from_bits(((k + 1023) as u64) << 52)
+    }
 }
 
 /// x moved by a number of places among the doubles (x finite and not near zero).

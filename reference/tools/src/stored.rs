@@ -13,7 +13,9 @@ pub fn read(folder: &Path, function: &Function) -> Result<Vec<Vec<u64>>, String>
     }
     Ok(bytes
         .chunks(size)
-        .map(|record| record.chunks(8).map(|word| u64::from_be_bytes(word.try_into().unwrap())).collect())
+        .map(|record| {
+            record.chunks(8).map(|word| u64::from_be_bytes(word.try_into().unwrap())).collect()
+        })
         .collect())
 }
 

@@ -42,7 +42,10 @@ pub const FUNCTIONS: &[Function] = &[
 ];
 
 pub fn find(name: &str) -> &'static Function {
-    FUNCTIONS.iter().find(|function| function.name == name).unwrap_or_else(|| panic!("no function {name}"))
+    FUNCTIONS
+        .iter()
+        .find(|function| function.name == name)
+        .unwrap_or_else(|| panic!("no function {name}"))
 }
 
 /// A result's word: every NaN is one value.
@@ -112,12 +115,16 @@ macro_rules! answers {
                         );
                         [vec![updates as u64], depths.map(word).to_vec()].concat()
                     }
-                    "ray_fits" => vec![$copy::ray_fits(&doubles(input), &doubles(&input[3..])) as u64],
+                    "ray_fits" => {
+                        vec![$copy::ray_fits(&doubles(input), &doubles(&input[3..])) as u64]
+                    }
                     "near" => vec![$copy::near(&doubles(input)) as u64],
                     "project" => found($copy::project(&doubles(input))),
                     "basis" => found($copy::basis(&doubles(input), &doubles(&input[3..]))),
                     "edges" => {
-                        $copy::edges(&doubles(input), &doubles(&input[3..]), &doubles(&input[6..])).map(word).to_vec()
+                        $copy::edges(&doubles(input), &doubles(&input[3..]), &doubles(&input[6..]))
+                            .map(word)
+                            .to_vec()
                     }
                     "push" => {
                         let (count, pushed) = $copy::push(
@@ -132,15 +139,18 @@ macro_rules! answers {
                     }
                     "eig" => match $copy::eig(&doubles(input)) {
                         Some((vectors, values)) => {
-                            [vec![1], vectors.map(word).to_vec(), values.map(word).to_vec()].concat()
+                            [vec![1], vectors.map(word).to_vec(), values.map(word).to_vec()]
+                                .concat()
                         }
                         None => vec![0; 13],
                     },
                     "row_crosses" => found($copy::row_crosses(&doubles(input), d(9))),
                     "condition" => vec![word($copy::condition(&doubles(input)))],
                     "choice" => {
-                        let poses: [[f64; 12]; 4] = std::array::from_fn(|slot| doubles(&input[1 + 12 * slot..]));
-                        let (target, bearing): ([f64; 3], [f64; 3]) = (doubles(&input[49..]), doubles(&input[52..]));
+                        let poses: [[f64; 12]; 4] =
+                            std::array::from_fn(|slot| doubles(&input[1 + 12 * slot..]));
+                        let (target, bearing): ([f64; 3], [f64; 3]) =
+                            (doubles(&input[49..]), doubles(&input[52..]));
                         match choice::best(input[0], &poses, &target, &bearing) {
                             Some((index, score)) => vec![0, index as u64 + 1, word(score)],
                             None => vec![10, 0, 0],

@@ -84,14 +84,22 @@ pub fn write(folder: &Path) -> Result<(), String> {
             .into_iter()
             .map(|input| {
                 let answer = table::second::answer(function.name, &input);
-                assert_eq!((input.len(), answer.len()), (function.takes, function.gives), "{}", function.name);
+                assert_eq!(
+                    (input.len(), answer.len()),
+                    (function.takes, function.gives),
+                    "{}",
+                    function.name
+                );
                 [input, answer].concat()
             })
             .collect();
         let size = stored::write(folder, function, &records)?;
         let differ = records
             .iter()
-            .filter(|record| table::asis::answer(function.name, &record[..function.takes]) != record[function.takes..])
+            .filter(|record| {
+                table::asis::answer(function.name, &record[..function.takes])
+                    != record[function.takes..]
+            })
             .count();
         println!(
             "| {}.bin | {} | {size} | {differ} | {} |",
@@ -110,7 +118,8 @@ pub fn write(folder: &Path) -> Result<(), String> {
 fn scaled_exactly() -> Result<usize, String> {
     let mut count = 0;
     let list = frames();
-    for group in list.chunks(1 + POWERS.len()).take_while(|group| group[1].0.ends_with(", scaled")) {
+    for group in list.chunks(1 + POWERS.len()).take_while(|group| group[1].0.ends_with(", scaled"))
+    {
         let (answer, best) = table::second::frame(&group[0].1);
         for (k, (_, frame)) in POWERS.into_iter().zip(&group[1..]) {
             let mut expected = answer;
@@ -134,7 +143,11 @@ fn summary(name: &str, records: &[Vec<u64>]) -> String {
         for record in records {
             *counts.entry(record[takes + at]).or_default() += 1;
         }
-        counts.iter().map(|(value, count)| format!("{value}: {count}")).collect::<Vec<_>>().join(", ")
+        counts
+            .iter()
+            .map(|(value, count)| format!("{value}: {count}"))
+            .collect::<Vec<_>>()
+            .join(", ")
     };
     match name {
         "frame" => {
@@ -144,9 +157,18 @@ fn summary(name: &str, records: &[Vec<u64>]) -> String {
                     updates[record[takes + 3 + 13 * slot] as usize] += 1;
                 }
             }
-            let updates: Vec<String> =
-                updates.iter().enumerate().map(|(value, count)| format!("{value}: {count}")).collect();
-            format!("refusals {}; poses {}; best {}; updates {}", tally(0), tally(1), tally(2), updates.join(", "))
+            let updates: Vec<String> = updates
+                .iter()
+                .enumerate()
+                .map(|(value, count)| format!("{value}: {count}"))
+                .collect();
+            format!(
+                "refusals {}; poses {}; best {}; updates {}",
+                tally(0),
+                tally(1),
+                tally(2),
+                updates.join(", ")
+            )
         }
         "quadratic" | "cubic" => format!("numbers {}", tally(0)),
         "refine" => format!("updates {}", tally(0)),
@@ -155,7 +177,9 @@ fn summary(name: &str, records: &[Vec<u64>]) -> String {
             let pushed = records.iter().filter(|record| record[takes] > record[takes - 1]).count();
             format!("pushed 0: {}, 1: {pushed}; poses {}", records.len() - pushed, tally(0))
         }
-        "ray_fits" | "near" | "project" | "basis" | "eig" | "row_crosses" => format!("answers {}", tally(0)),
+        "ray_fits" | "near" | "project" | "basis" | "eig" | "row_crosses" => {
+            format!("answers {}", tally(0))
+        }
         _ => String::new(),
     }
 }
@@ -191,7 +215,10 @@ pub fn search(name: &str, source: Source, enough: usize) {
         let reached = Counts::default().run(name, &input);
         if reached.iter().any(|(label, outcome)| counts.of(label, *outcome) < enough) {
             counts.run(name, &input);
-            println!("{label} {}", input.iter().map(|word| format!("{word:016x}")).collect::<Vec<_>>().join(" "));
+            println!(
+                "{label} {}",
+                input.iter().map(|word| format!("{word:016x}")).collect::<Vec<_>>().join(" ")
+            );
         }
     };
     match source {

@@ -56,7 +56,16 @@ pub(super) fn equal_angles(r: &mut Random) -> Frame {
 
 /// The camera on or near the cylinder over the circle through the three points.
 pub(super) fn danger(r: &mut Random) -> Frame {
-    let circle = [[3.0, 4.0], [-3.0, 4.0], [0.0, -5.0], [5.0, 0.0], [-4.0, 3.0], [4.0, -3.0], [-4.0, -3.0], [0.0, 5.0]];
+    let circle = [
+        [3.0, 4.0],
+        [-3.0, 4.0],
+        [0.0, -5.0],
+        [5.0, 0.0],
+        [-4.0, 3.0],
+        [4.0, -3.0],
+        [-4.0, -3.0],
+        [0.0, 5.0],
+    ];
     let at = |r: &mut Random| {
         let [x, y] = r.pick(&circle);
         [x, y, 0.0]

@@ -55,7 +55,8 @@ pub(super) fn magnitude(r: &mut Random, low: i64, high: i64) -> Frame {
 pub(super) fn brink(r: &mut Random) -> Frame {
     let mut f = if r.chance(2) { posed(r) } else { whole(r) };
     let k = r.pick(&[
-        -538, -512, -358, -341, -268, -256, -170, -135, -128, -85, 85, 127, 128, 170, 200, 252, 254, 255, 256, 340, 511,
+        -538, -512, -358, -341, -268, -256, -170, -135, -128, -85, 85, 127, 128, 170, 200, 252,
+        254, 255, 256, 340, 511,
     ]) + r.between(-3, 3);
     for at in (0..9).chain(18..21) {
         f[at] *= power(k);
@@ -121,7 +122,8 @@ pub(super) fn mixed(r: &mut Random) -> Frame {
     let mut f = posed(r);
     for index in 0..6 {
         if r.chance(2) {
-            let factor = if index < 3 { power(r.between(-300, 300)) } else { power(r.between(-40, 40)) };
+            let factor =
+                if index < 3 { power(r.between(-300, 300)) } else { power(r.between(-40, 40)) };
             let v = times(part(&f, index), factor);
             put(&mut f, index, v);
         }

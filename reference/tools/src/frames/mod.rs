@@ -44,7 +44,8 @@ pub const KINDS: &[(&str, usize, fn(&mut Random) -> Frame)] = &[
 ];
 
 fn frame(world: [Vector; 3], bearings: [Vector; 3], target: Vector, bearing: Vector) -> Frame {
-    let parts = [world[0], world[1], world[2], bearings[0], bearings[1], bearings[2], target, bearing];
+    let parts =
+        [world[0], world[1], world[2], bearings[0], bearings[1], bearings[2], target, bearing];
     std::array::from_fn(|index| parts[index / 3][index % 3])
 }
 
@@ -64,5 +65,7 @@ fn seen(points: [Vector; 4], rotation: &[Vector; 3], translation: Vector) -> Fra
 
 /// World and target times 2^k, which here is exact.
 pub fn scaled(f: &Frame, k: i64) -> Frame {
-    std::array::from_fn(|at| if at < 9 || (18..21).contains(&at) { f[at] * power(k) } else { f[at] })
+    std::array::from_fn(
+        |at| if at < 9 || (18..21).contains(&at) { f[at] * power(k) } else { f[at] },
+    )
 }

@@ -7,10 +7,15 @@ use crate::random::{Random, Vector, cross, dot, plus, power, times, turn, unit};
 /// metre, at the shaft's own zero or at national grid offsets.
 pub(super) fn realistic(r: &mut Random, counts: bool, grid: bool) -> Frame {
     let steps = if counts { 4096.0 } else { 10000.0 };
-    let points: [Vector; 4] = std::array::from_fn(|_| [r.whole(-4000, 4000), r.whole(-4000, 4000), r.whole(-60, 60)]);
+    let points: [Vector; 4] =
+        std::array::from_fn(|_| [r.whole(-4000, 4000), r.whole(-4000, 4000), r.whole(-60, 60)]);
     let offset = if grid {
-        [r.sign() * r.whole(200_000, 800_000), r.sign() * r.whole(3_000_000, 6_000_000), r.whole(0, 4000)]
-            .map(|x| x * steps)
+        [
+            r.sign() * r.whole(200_000, 800_000),
+            r.sign() * r.whole(3_000_000, 6_000_000),
+            r.whole(0, 4000),
+        ]
+        .map(|x| x * steps)
     } else {
         [0.0; 3]
     };
@@ -64,7 +69,8 @@ pub(super) fn close(r: &mut Random) -> Frame {
 
 pub(super) fn whole(r: &mut Random) -> Frame {
     let mut point = |n: i64| -> Vector { std::array::from_fn(|_| r.whole(-n, n)) };
-    let parts: [Vector; 8] = std::array::from_fn(|index| if index < 3 { point(4) } else { point(2) });
+    let parts: [Vector; 8] =
+        std::array::from_fn(|index| if index < 3 { point(4) } else { point(2) });
     let raw = r.chance(2);
     let bearing = |v: Vector| if raw || dot(v, v) == 0.0 { v } else { unit(v) };
     frame(
@@ -77,7 +83,8 @@ pub(super) fn whole(r: &mut Random) -> Frame {
 
 /// A plate seen along its own plane, or nearly.
 pub(super) fn edge_on(r: &mut Random) -> Frame {
-    let points: [Vector; 4] = std::array::from_fn(|_| [r.whole(-4000, 4000), r.whole(-4000, 4000), 0.0]);
+    let points: [Vector; 4] =
+        std::array::from_fn(|_| [r.whole(-4000, 4000), r.whole(-4000, 4000), 0.0]);
     let rotation = r.rotation();
     let tilt = power(r.between(-24, -4)) * r.sign();
     let view = unit([r.range(-1.0, 1.0), r.range(-1.0, 1.0), tilt]);

@@ -1,6 +1,9 @@
 //! Operations with matrices.
 
-use super::{BIG, H, Operation, T, TOP, dot, dot_from_zero, dot_fused, dot_right, m, sum, sum_bare, sum_right, v};
+use super::{
+    BIG, H, Operation, T, TOP, dot, dot_from_zero, dot_fused, dot_right, m, sum, sum_bare,
+    sum_right, v,
+};
 use nalgebra::{Matrix3, RowVector3};
 
 /// A matrix by columns whose first row is given, and the vector beside it.
@@ -72,9 +75,24 @@ pub(super) fn operations() -> Vec<Operation> {
             nalgebra: |x| (m(x) * v(&x[9..])).iter().copied().collect(),
             plain: |x| by_rows(&x[..9], &x[9..], dot),
             wrong: vec![
-                ("right to left", |x| by_rows(&x[..9], &x[9..], dot_right), first_row([1.0, BIG, -BIG], [1.0; 3]), 0),
-                ("start from +0", |x| by_rows(&x[..9], &x[9..], dot_from_zero), first_row([-0.0; 3], [1.0; 3]), 0),
-                ("fused", |x| by_rows(&x[..9], &x[9..], dot_fused), first_row([1.0, H, 0.0], [-T, H, 0.0]), 0),
+                (
+                    "right to left",
+                    |x| by_rows(&x[..9], &x[9..], dot_right),
+                    first_row([1.0, BIG, -BIG], [1.0; 3]),
+                    0,
+                ),
+                (
+                    "start from +0",
+                    |x| by_rows(&x[..9], &x[9..], dot_from_zero),
+                    first_row([-0.0; 3], [1.0; 3]),
+                    0,
+                ),
+                (
+                    "fused",
+                    |x| by_rows(&x[..9], &x[9..], dot_fused),
+                    first_row([1.0, H, 0.0], [-T, H, 0.0]),
+                    0,
+                ),
             ],
         },
         Operation {
@@ -97,9 +115,24 @@ pub(super) fn operations() -> Vec<Operation> {
             nalgebra: |x| (m(x) * &m(&x[9..])).iter().copied().collect(),
             plain: |x| by_columns(x, dot),
             wrong: vec![
-                ("right to left", |x| by_columns(x, dot_right), first_row_twice([1.0, BIG, -BIG], [1.0; 3]), 0),
-                ("start from +0", |x| by_columns(x, dot_from_zero), first_row_twice([-0.0; 3], [1.0; 3]), 0),
-                ("fused", |x| by_columns(x, dot_fused), first_row_twice([1.0, H, 0.0], [-T, H, 0.0]), 0),
+                (
+                    "right to left",
+                    |x| by_columns(x, dot_right),
+                    first_row_twice([1.0, BIG, -BIG], [1.0; 3]),
+                    0,
+                ),
+                (
+                    "start from +0",
+                    |x| by_columns(x, dot_from_zero),
+                    first_row_twice([-0.0; 3], [1.0; 3]),
+                    0,
+                ),
+                (
+                    "fused",
+                    |x| by_columns(x, dot_fused),
+                    first_row_twice([1.0, H, 0.0], [-T, H, 0.0]),
+                    0,
+                ),
             ],
         },
         Operation {
@@ -136,10 +169,16 @@ pub(super) fn operations() -> Vec<Operation> {
             reading: "matrix * vector, then one addition an entry",
             takes: 15,
             nalgebra: |x| (m(x) * v(&x[9..]) + v(&x[12..])).iter().copied().collect(),
-            plain: |x| by_rows(&x[..9], &x[9..12], dot).iter().zip(&x[12..]).map(|(a, b)| a + b).collect(),
+            plain: |x| {
+                by_rows(&x[..9], &x[9..12], dot).iter().zip(&x[12..]).map(|(a, b)| a + b).collect()
+            },
             wrong: vec![(
                 "the translation first",
-                |x| (0..3).map(|i| ((x[12 + i] + x[i] * x[9]) + x[3 + i] * x[10]) + x[6 + i] * x[11]).collect(),
+                |x| {
+                    (0..3)
+                        .map(|i| ((x[12 + i] + x[i] * x[9]) + x[3 + i] * x[10]) + x[6 + i] * x[11])
+                        .collect()
+                },
                 [first_row([1.0, 1.0, -1.0], [BIG, 0.0, BIG]), vec![1.0, 0.0, 0.0]].concat(),
                 0,
             )],
@@ -150,7 +189,8 @@ pub(super) fn operations() -> Vec<Operation> {
             takes: 9,
             nalgebra: |x| {
                 let new = Matrix3::new(x[0], x[1], x[2], x[3], x[4], x[5], x[6], x[7], x[8]);
-                let rows: [RowVector3<f64>; 3] = std::array::from_fn(|i| v(&x[3 * i..]).transpose());
+                let rows: [RowVector3<f64>; 3] =
+                    std::array::from_fn(|i| v(&x[3 * i..]).transpose());
                 let columns = Matrix3::from_columns(&[v(x), v(&x[3..]), v(&x[6..])]);
                 let at = |i: usize| new[(i / 3, i % 3)];
                 new.iter()
@@ -164,7 +204,12 @@ pub(super) fn operations() -> Vec<Operation> {
                 let turned: Vec<f64> = (0..9).map(|i| x[3 * (i % 3) + i / 3]).collect();
                 [&turned[..], &turned[..], x, x].concat()
             },
-            wrong: vec![("by columns throughout", |x| [x, x, x, x].concat(), (0..9).map(f64::from).collect(), 1)],
+            wrong: vec![(
+                "by columns throughout",
+                |x| [x, x, x, x].concat(),
+                (0..9).map(f64::from).collect(),
+                1,
+            )],
         },
     ]
 }

@@ -77,8 +77,12 @@ fn number(r: &mut Random) -> f64 {
 
 pub fn print(seed: u64) -> Result<(), String> {
     const RUNS: usize = 300_000;
-    println!("seed {seed}; each operation equals its reading on {RUNS} random inputs, NaNs counted as one value\n");
-    println!("| operation | order of operations | nearest wrong reading | input | nalgebra | wrong reading |");
+    println!(
+        "seed {seed}; each operation equals its reading on {RUNS} random inputs, NaNs counted as one value\n"
+    );
+    println!(
+        "| operation | order of operations | nearest wrong reading | input | nalgebra | wrong reading |"
+    );
     println!("|---|---|---|---|---|---|");
     let mut r = Random::new(seed);
     let words = |list: Vec<f64>| -> Vec<u64> { list.into_iter().map(word).collect() };
@@ -87,7 +91,10 @@ pub fn print(seed: u64) -> Result<(), String> {
             let x: Vec<f64> = (0..op.takes).map(|_| number(&mut r)).collect();
             let (found, expected) = (words((op.nalgebra)(&x)), words((op.plain)(&x)));
             if found != expected {
-                return Err(format!("{}: {x:?} gives {found:x?}, the reading {expected:x?}", op.name));
+                return Err(format!(
+                    "{}: {x:?} gives {found:x?}, the reading {expected:x?}",
+                    op.name
+                ));
             }
         }
         for (place, (name, wrong, witness, entry)) in op.wrong.iter().enumerate() {
@@ -96,8 +103,11 @@ pub fn print(seed: u64) -> Result<(), String> {
             if found == other || found != words((op.plain)(witness))[*entry] {
                 return Err(format!("{}: the witness does not tell {name}", op.name));
             }
-            let (operation, reading) =
-                if place == 0 { (format!("`{}`", op.name), op.reading) } else { Default::default() };
+            let (operation, reading) = if place == 0 {
+                (format!("`{}`", op.name), op.reading)
+            } else {
+                Default::default()
+            };
             let shown: Vec<String> = witness.iter().map(|x| format!("{x:?}")).collect();
             println!(
                 "| {} | {} | {name} | {} | {found:016x} | {other:016x} |",

@@ -1,6 +1,9 @@
 //! Operations on vectors.
 
-use super::{BIG, H, Operation, T, TOP, dot, dot_from_zero, dot_fused, dot_right, sum, sum_bare, sum_right, v};
+use super::{
+    BIG, H, Operation, T, TOP, dot, dot_from_zero, dot_fused, dot_right, sum, sum_bare, sum_right,
+    v,
+};
 use crate::random::power;
 
 pub(super) fn operations() -> Vec<Operation> {
@@ -12,8 +15,18 @@ pub(super) fn operations() -> Vec<Operation> {
             nalgebra: |x| vec![v(x).dot(&v(&x[3..]))],
             plain: |x| vec![dot(x, &x[3..])],
             wrong: vec![
-                ("right to left", |x| vec![dot_right(x, &x[3..])], [1.0, BIG, -BIG, 1.0, 1.0, 1.0].to_vec(), 0),
-                ("start from +0", |x| vec![dot_from_zero(x, &x[3..])], [-0.0, -0.0, -0.0, 1.0, 1.0, 1.0].to_vec(), 0),
+                (
+                    "right to left",
+                    |x| vec![dot_right(x, &x[3..])],
+                    [1.0, BIG, -BIG, 1.0, 1.0, 1.0].to_vec(),
+                    0,
+                ),
+                (
+                    "start from +0",
+                    |x| vec![dot_from_zero(x, &x[3..])],
+                    [-0.0, -0.0, -0.0, 1.0, 1.0, 1.0].to_vec(),
+                    0,
+                ),
                 ("fused", |x| vec![dot_fused(x, &x[3..])], [1.0, H, 0.0, -T, H, 0.0].to_vec(), 0),
             ],
         },
@@ -71,11 +84,23 @@ pub(super) fn operations() -> Vec<Operation> {
             reading: "a1 b2 - a2 b1, a2 b0 - a0 b2, a0 b1 - a1 b0",
             takes: 6,
             nalgebra: |x| v(x).cross(&v(&x[3..])).iter().copied().collect(),
-            plain: |x| vec![x[1] * x[5] - x[2] * x[4], x[2] * x[3] - x[0] * x[5], x[0] * x[4] - x[1] * x[3]],
+            plain: |x| {
+                vec![
+                    x[1] * x[5] - x[2] * x[4],
+                    x[2] * x[3] - x[0] * x[5],
+                    x[0] * x[4] - x[1] * x[3],
+                ]
+            },
             wrong: vec![
                 (
                     "the middle as -(a0 b2 - a2 b0)",
-                    |x| vec![x[1] * x[5] - x[2] * x[4], -(x[0] * x[5] - x[2] * x[3]), x[0] * x[4] - x[1] * x[3]],
+                    |x| {
+                        vec![
+                            x[1] * x[5] - x[2] * x[4],
+                            -(x[0] * x[5] - x[2] * x[3]),
+                            x[0] * x[4] - x[1] * x[3],
+                        ]
+                    },
                     vec![1.0, 0.0, 1.0, 1.0, 0.0, 1.0],
                     1,
                 ),
@@ -127,11 +152,20 @@ pub(super) fn operations() -> Vec<Operation> {
             name: "a - b, a + b",
             reading: "one operation an entry, left and right as written",
             takes: 6,
-            nalgebra: |x| (v(x) - v(&x[3..])).iter().chain((v(x) + v(&x[3..])).iter()).copied().collect(),
-            plain: |x| (0..3).map(|i| x[i] - x[3 + i]).chain((0..3).map(|i| x[i] + x[3 + i])).collect(),
+            nalgebra: |x| {
+                (v(x) - v(&x[3..])).iter().chain((v(x) + v(&x[3..])).iter()).copied().collect()
+            },
+            plain: |x| {
+                (0..3).map(|i| x[i] - x[3 + i]).chain((0..3).map(|i| x[i] + x[3 + i])).collect()
+            },
             wrong: vec![(
                 "-(b - a)",
-                |x| (0..3).map(|i| -(x[3 + i] - x[i])).chain((0..3).map(|i| x[i] + x[3 + i])).collect(),
+                |x| {
+                    (0..3)
+                        .map(|i| -(x[3 + i] - x[i]))
+                        .chain((0..3).map(|i| x[i] + x[3 + i]))
+                        .collect()
+                },
                 vec![1.0, 0.0, 0.0, 1.0, 0.0, 0.0],
                 0,
             )],

@@ -100,7 +100,8 @@ pub(super) fn eig(r: &mut Random) -> Input {
     if r.chance(12) {
         // Entries of any magnitude, symmetric or not.
         let (low, high) = r.pick(&[(-540, 511), (-60, 60), (400, 511), (-540, -400)]);
-        let mut m: [f64; 9] = std::array::from_fn(|_| if r.chance(3) { 0.0 } else { r.scaled(low, high) });
+        let mut m: [f64; 9] =
+            std::array::from_fn(|_| if r.chance(3) { 0.0 } else { r.scaled(low, high) });
         if r.chance(2) {
             (m[3], m[6], m[7]) = (m[1], m[2], m[5]);
         }

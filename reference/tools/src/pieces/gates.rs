@@ -31,7 +31,8 @@ pub(super) fn hand_rays() -> Vec<Input> {
 }
 
 pub(super) fn ray(r: &mut Random) -> Input {
-    let bearing = if r.chance(3) { times(r.direction(), r.scaled(-6, 6).abs()) } else { r.direction() };
+    let bearing =
+        if r.chance(3) { times(r.direction(), r.scaled(-6, 6).abs()) } else { r.direction() };
     let depth = r.scaled(-4, 8).abs();
     let mut camera = times(bearing, depth);
     match r.below(4) {
@@ -41,7 +42,11 @@ pub(super) fn ray(r: &mut Random) -> Input {
         _ => {
             let length = dot(camera, camera).sqrt();
             let aside = unit(cross(camera, r.direction()));
-            let off = if r.chance(2) { 1.0 + power(r.between(-52, -20)) * r.sign() } else { r.range(0.5, 1.5) };
+            let off = if r.chance(2) {
+                1.0 + power(r.between(-52, -20)) * r.sign()
+            } else {
+                r.range(0.5, 1.5)
+            };
             camera = plus(camera, times(aside, length * power(-20) * off));
         }
     }
@@ -167,12 +172,14 @@ pub(super) fn basis(r: &mut Random) -> Input {
 pub(super) fn edges(r: &mut Random) -> Input {
     let f = any_frame(r);
     let (a, b) = if r.chance(2) {
-        let camera: [Vector; 3] = std::array::from_fn(|i| times(part(&f, 3 + i), r.range(0.5, 3.0)));
+        let camera: [Vector; 3] =
+            std::array::from_fn(|i| times(part(&f, 3 + i), r.range(0.5, 3.0)));
         (minus(camera[0], camera[1]), minus(camera[0], camera[2]))
     } else {
         (r.cube(), r.cube())
     };
-    let inverse = copy_second::basis(&minus(part(&f, 0), part(&f, 1)), &minus(part(&f, 0), part(&f, 2)));
+    let inverse =
+        copy_second::basis(&minus(part(&f, 0), part(&f, 1)), &minus(part(&f, 0), part(&f, 2)));
     let m = match inverse {
         Some(m) if !r.chance(4) => m,
         _ => std::array::from_fn(|_| if r.chance(20) { r.special() } else { r.range(-1.0, 1.0) }),

@@ -69,7 +69,11 @@ impl Push {
         self.disturb(r, -33, -30);
         let bearing = &mut self.bearings[r.index()];
         let aside = unit(cross(*bearing, r.direction()));
-        let off = if r.chance(2) { 1.0 + power(r.between(-20, -8)) * r.sign() } else { r.range(0.5, 1.5) };
+        let off = if r.chance(2) {
+            1.0 + power(r.between(-20, -8)) * r.sign()
+        } else {
+            r.range(0.5, 1.5)
+        };
         *bearing = unit(plus(*bearing, times(aside, power(-20) * off)));
     }
 

@@ -63,7 +63,16 @@ pub(super) fn square_root(r: &mut Random) -> Input {
 
 pub(super) fn hand_cube_roots() -> Vec<Input> {
     let mut list: Vec<f64> = SPECIAL.to_vec();
-    list.extend([2.0, 8.0, 27.0, -27.0, 1e300, 3.4e-310, -2e-320, f64::from_bits(0x000f_ffff_ffff_ffff)]);
+    list.extend([
+        2.0,
+        8.0,
+        27.0,
+        -27.0,
+        1e300,
+        3.4e-310,
+        -2e-320,
+        f64::from_bits(0x000f_ffff_ffff_ffff),
+    ]);
     list.extend((0..60).map(|k| f64::MAX * (1.0 - k as f64 * 0.004)));
     list.extend((0..40).map(|k| power(25 * k - 500) * -3.0));
     list.iter().map(|&x| words(&[x])).collect()
