@@ -39,8 +39,13 @@ class Row:
         if os.path.isdir(specs(self.crate)):
             found = {name.removesuffix(".antt") for name in os.listdir(specs(self.crate))} - {"Lib"}
         listed = set(self.counted + self.spared)
-        return ([f"crates/{self.crate}/specs/{name} is listed and not there" for name in sorted(listed - found)]
-                + [f"crates/{self.crate}/specs/{name} is there and not listed" for name in sorted(found - listed)])
+        return [
+            f"crates/{self.crate}/specs/{name} is listed and not there"
+            for name in sorted(listed - found)
+        ] + [
+            f"crates/{self.crate}/specs/{name} is there and not listed"
+            for name in sorted(found - listed)
+        ]
 
     def count(self):
         total = 0

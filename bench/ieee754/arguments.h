@@ -7,8 +7,16 @@
 #define INFINITE 0x7ff0000000000000u
 #define LEADING 0x0010000000000000u
 
-static inline double of(uint64_t b) { double d; memcpy(&d, &b, 8); return d; }
-static inline uint64_t bits(double d) { uint64_t b; memcpy(&b, &d, 8); return b; }
+static inline double of(uint64_t b) {
+    double d;
+    memcpy(&d, &b, 8);
+    return d;
+}
+static inline uint64_t bits(double d) {
+    uint64_t b;
+    memcpy(&b, &d, 8);
+    return b;
+}
 
 // Marsaglia's xorshift generator with a multiplication.
 static uint64_t seed;
@@ -24,7 +32,9 @@ static inline uint64_t sign(void) { return next() & SIGN; }
 static inline uint64_t leading(void) { return LEADING | next() >> 12; }
 
 // A field of an exponent, held inside the range of the finite doubles.
-static inline uint64_t field(int64_t e) { return (uint64_t)(e < 0 ? 0 : e > 2046 ? 2046 : e) << 52; }
+static inline uint64_t field(int64_t e) {
+    return (uint64_t)(e < 0 ? 0 : e > 2046 ? 2046 : e) << 52;
+}
 
 // 52 digits below the leading one: random, or a row of ones or zeros at the end, or one digit, or
 // nearly the next binade.
@@ -41,9 +51,12 @@ static inline uint64_t fraction(void) {
 
 static inline uint64_t special(void) {
     static const uint64_t values[] = {
-        0, 1, 2, 3, LEADING - 1, LEADING, LEADING + 1, 0x3fefffffffffffff, 0x3ff0000000000000, 0x3ff0000000000001,
-        0x4000000000000000, 0x7fe0000000000000, 0x7feffffffffffffe, 0x7fefffffffffffff, INFINITE, 0x7ff8000000000000,
-        0x0008000000000000, 0x3ca0000000000000, 0x4340000000000000, 0x0360000000000000, 0x1ff0000000000000, 0x5fe0000000000000};
+        0, 1, 2, 3, LEADING - 1, LEADING, LEADING + 1,
+        0x3fefffffffffffff, 0x3ff0000000000000, 0x3ff0000000000001, 0x4000000000000000,
+        0x7fe0000000000000, 0x7feffffffffffffe, 0x7fefffffffffffff, INFINITE,
+        0x7ff8000000000000, 0x0008000000000000, 0x3ca0000000000000, 0x4340000000000000,
+        0x0360000000000000, 0x1ff0000000000000, 0x5fe0000000000000,
+    };
     return values[below(sizeof values / 8)] | sign();
 }
 
@@ -83,8 +96,11 @@ static inline double sqrt_argument(void) {
     case 0: return of(next());
     case 1: return of(special());
     case 2: return of(next() >> (12 + below(52)));
-    case 3: n = 1 + (next() >> (38 + below(26))); return of(moved(bits((double)(n * n)), 2) + below(3) - 1);
-    case 4: case 5: return of(hard_square());
+    case 3:
+        n = 1 + (next() >> (38 + below(26)));
+        return of(moved(bits((double)(n * n)), 2) + below(3) - 1);
+    case 4:
+    case 5: return of(hard_square());
     case 6: return of(field(below(2047)) + below(64) - 32);
     default: return of(next() >> 1);
     }
@@ -106,8 +122,11 @@ static inline double cbrt_argument(void) {
     switch (below(8)) {
     case 0: return of(special());
     case 1: return of(next() >> (12 + below(52)) | sign());
-    case 2: n = 1 + (next() >> (47 + below(17))); return of((moved(bits((double)(n * n * n)), 3) + below(3) - 1) | sign());
-    case 3: case 4: return of(middle_cube() | sign());
+    case 2:
+        n = 1 + (next() >> (47 + below(17)));
+        return of((moved(bits((double)(n * n * n)), 3) + below(3) - 1) | sign());
+    case 3:
+    case 4: return of(middle_cube() | sign());
     case 5: return of((field(below(2047)) + below(64) - 32) ^ sign());
     default: return of(next());
     }
@@ -124,39 +143,68 @@ static inline void fma_arguments(double *x, double *y, double *z) {
     int64_t d, e;
     uint64_t a = sign(), b = sign(), c = sign(), s;
     switch (below(12)) {
-    case 0: a = next(); b = next(); c = next(); break;
-    case 1: case 2: // every exponent, the addend near the product
-        d = below(2047); e = below(2047);
-        a |= field(d) | fraction(); b |= field(e) | fraction(); c |= field(d + e - 1023 + (int64_t)below(260) - 130) | fraction();
+    case 0:
+        a = next();
+        b = next();
+        c = next();
         break;
-    case 3: case 4: // minus the rounded product, or a neighbour
-        a |= field(400 + below(1200)) | fraction(); b |= field(400 + below(1200)) | fraction();
+    case 1:
+    case 2: // every exponent, the addend near the product
+        d = below(2047);
+        e = below(2047);
+        a |= field(d) | fraction();
+        b |= field(e) | fraction();
+        c |= field(d + e - 1023 + (int64_t)below(260) - 130) | fraction();
+        break;
+    case 3:
+    case 4: // minus the rounded product, or a neighbour
+        a |= field(400 + below(1200)) | fraction();
+        b |= field(400 + below(1200)) | fraction();
         c = bits(-(of(a) * of(b)));
         if ((c & ~SIGN) < INFINITE - 4 && (c & ~SIGN) > 4) c += below(9) - 4;
         break;
-    case 5:         // subnormal results
+    case 5: // subnormal results
         d = below(1100);
-        a |= field(d) | fraction(); b |= field(1023 - d - (int64_t)below(140) + 20) | fraction(); c |= field(below(60)) | fraction();
+        a |= field(d) | fraction();
+        b |= field(1023 - d - (int64_t)below(140) + 20) | fraction();
+        c |= field(below(60)) | fraction();
         break;
-    case 6:         // the overflow edge
+    case 6: // the overflow edge
         d = 1023 + below(1024);
-        a |= field(d) | fraction(); b |= field(3069 - d + (int64_t)below(8) - 4) | fraction(); c |= field(2046 - (int64_t)below(60)) | fraction();
+        a |= field(d) | fraction();
+        b |= field(3069 - d + (int64_t)below(8) - 4) | fraction();
+        c |= field(2046 - (int64_t)below(60)) | fraction();
         break;
-    case 7: a = special(); b = special(); c = special(); break;
-    case 8: a = special(); b = below(2) ? special() : next(); c = next(); break;
-    case 9:         // a product one last digit from the middle of two doubles
+    case 7:
+        a = special();
+        b = special();
+        c = special();
+        break;
+    case 8:
+        a = special();
+        b = below(2) ? special() : next();
+        c = next();
+        break;
+    case 9: // a product one last digit from the middle of two doubles
         s = leading() | 1;
         a |= field(700 + below(400)) | (s & (LEADING - 1));
-        b |= field(700 + below(400)) | (((LEADING >> 1) + below(3) - 1) * inverse(s) & (LEADING - 1));
+        b |= field(700 + below(400)) |
+             (((LEADING >> 1) + below(3) - 1) * inverse(s) & (LEADING - 1));
         c = below(2) ? c : c | next() >> 12;
         break;
-    case 10:        // an odd product of 54 digits is a middle; a far addend settles it
-        a |= bits((double)((next() >> 37) | 1 | 1 << 26)); b |= bits((double)((next() >> 37) | 1 | 1 << 26));
+    case 10: // an odd product of 54 digits is a middle; a far addend settles it
+        a |= bits((double)((next() >> 37) | 1 | 1 << 26));
+        b |= bits((double)((next() >> 37) | 1 | 1 << 26));
         c = below(2) ? c : c | field(below(1000)) | fraction();
         break;
     default:
-        d = 900 + below(200); e = 900 + below(200);
-        a |= field(d) | fraction(); b |= field(e) | fraction(); c |= field(d + e - 1023 + (int64_t)below(8) - 4) | fraction();
+        d = 900 + below(200);
+        e = 900 + below(200);
+        a |= field(d) | fraction();
+        b |= field(e) | fraction();
+        c |= field(d + e - 1023 + (int64_t)below(8) - 4) | fraction();
     }
-    *x = of(a); *y = of(b); *z = of(c);
+    *x = of(a);
+    *y = of(b);
+    *z = of(c);
 }

@@ -11,7 +11,9 @@
 typedef unsigned __int128 u128;
 
 // A number below 2^192.
-struct wide { uint64_t word[3]; };
+struct wide {
+    uint64_t word[3];
+};
 
 static int order(struct wide a, struct wide b) {
     for (int i = 2; i >= 0; i--)
@@ -21,7 +23,9 @@ static int order(struct wide a, struct wide b) {
 
 // z^3, for a z below 2^56.
 static struct wide cube(uint64_t z) {
-    u128 square = (u128)z * z, low = (u128)(uint64_t)square * z, high = (u128)(uint64_t)(square >> 64) * z + (uint64_t)(low >> 64);
+    u128 square = (u128)z * z;
+    u128 low = (u128)(uint64_t)square * z;
+    u128 high = (u128)(uint64_t)(square >> 64) * z + (uint64_t)(low >> 64);
     return (struct wide){{(uint64_t)low, (uint64_t)high, (uint64_t)(high >> 64)}};
 }
 
@@ -55,13 +59,16 @@ static int is_root(double x, double r) {
     int s = e + 6 - 3 * k;
     if (s < 0 || s > 138) return 0;
     struct wide power = shifted(m, s); // 4^3 times the cube, in cubes of 2^k
-    return order(cube(4 * q - (q == LEADING ? 1 : 2)), power) < 0 && order(power, cube(4 * q + 2)) < 0;
+    return order(cube(4 * q - (q == LEADING ? 1 : 2)), power) < 0 &&
+           order(power, cube(4 * q + 2)) < 0;
 }
 
 static int same(double a, double b) { return isnan(a) ? isnan(b) : bits(a) == bits(b); }
 
 static const char *kinds[] = {"NaN", "infinite", "zero", "subnormal", "normal"};
-static int kind(double r) { return isnan(r) ? 0 : isinf(r) ? 1 : r == 0 ? 2 : fabs(r) < 0x1p-1022 ? 3 : 4; }
+static int kind(double r) {
+    return isnan(r) ? 0 : isinf(r) ? 1 : r == 0 ? 2 : fabs(r) < 0x1p-1022 ? 3 : 4;
+}
 
 static long report(const char *name, long count, long differ, const long *results) {
     printf("%s %ld compared, %ld differ (results:", name, count, differ);
@@ -75,7 +82,9 @@ static long compare_sqrt(long count) {
     for (long i = 0; i < count; i++) {
         double x = sqrt_argument(), r = p3p_sqrt(x), s = sqrt(x);
         results[kind(s)]++;
-        if (!same(r, s) && differ++ < 10) printf("sqrt %016" PRIx64 ": %016" PRIx64 ", not %016" PRIx64 "\n", bits(x), bits(r), bits(s));
+        if (!same(r, s) && differ++ < 10)
+            printf("sqrt %016" PRIx64 ": %016" PRIx64 ", not %016" PRIx64 "\n", bits(x), bits(r),
+                   bits(s));
     }
     return report("sqrt", count, differ, results);
 }
@@ -88,7 +97,9 @@ static long compare_fma(long count) {
         double r = p3p_fma(x, y, z), s = fma(x, y, z);
         results[kind(s)]++;
         if (!same(r, s) && differ++ < 10)
-            printf("fma %016" PRIx64 " %016" PRIx64 " %016" PRIx64 ": %016" PRIx64 ", not %016" PRIx64 "\n", bits(x), bits(y), bits(z), bits(r), bits(s));
+            printf("fma %016" PRIx64 " %016" PRIx64 " %016" PRIx64 ": %016" PRIx64
+                   ", not %016" PRIx64 "\n",
+                   bits(x), bits(y), bits(z), bits(r), bits(s));
     }
     return report("fma", count, differ, results);
 }
@@ -98,7 +109,8 @@ static long compare_cbrt(long count) {
     for (long i = 0; i < count; i++) {
         double x = cbrt_argument(), r = p3p_cbrt(x);
         results[kind(r)]++;
-        if (!is_root(x, r) && differ++ < 10) printf("cbrt %016" PRIx64 ": not %016" PRIx64 "\n", bits(x), bits(r));
+        if (!is_root(x, r) && differ++ < 10)
+            printf("cbrt %016" PRIx64 ": not %016" PRIx64 "\n", bits(x), bits(r));
     }
     return report("cbrt", count, differ, results);
 }
@@ -113,7 +125,8 @@ static int64_t place(double x) {
 static long compare_pairs(long count) {
     long differ[3] = {0};
     for (long i = 0; i < count; i++) {
-        double x = of(below(2) ? special() : next()), y = of(below(2) ? special() : below(2) ? bits(x) + below(3) - 1 : next());
+        double x = of(below(2) ? special() : next());
+        double y = of(below(2) ? special() : below(2) ? bits(x) + below(3) - 1 : next());
         int64_t a = place(x), b = place(y);
         double larger = isnan(x) ? y : isnan(y) ? x : a < b ? y : x;
         differ[0] += !same(p3p_copysign(x, y), isnan(y) ? fabs(x) : copysign(x, y));
@@ -141,6 +154,7 @@ int main(int argc, char **argv) {
     long count = argc > 1 ? atol(argv[1]) : 1000000;
     seed = argc > 2 ? strtoull(argv[2], 0, 0) : 0x9e3779b97f4a7c15;
     printf("seed %016" PRIx64 "\n", seed);
-    long differ = compare_sqrt(count) + compare_fma(count) + compare_cbrt(count / 100) + compare_pairs(count / 100) + try_the_test(count / 1000);
+    long differ = compare_sqrt(count) + compare_fma(count) + compare_cbrt(count / 100) +
+                  compare_pairs(count / 100) + try_the_test(count / 1000);
     return differ != 0;
 }

@@ -12,9 +12,15 @@
 #define PASSES 40
 
 static double __attribute__((noinline)) alone_one(double x) { return x; }
-static double __attribute__((noinline)) alone_three(double x, double y, double z) { (void)y; (void)z; return x; }
+static double __attribute__((noinline)) alone_three(double x, double y, double z) {
+    (void)y;
+    (void)z;
+    return x;
+}
 static double __attribute__((noinline)) hardware_sqrt(double x) { return __builtin_sqrt(x); }
-static double __attribute__((noinline, target("fma"))) hardware_fma(double x, double y, double z) { return __builtin_fma(x, y, z); }
+static double __attribute__((noinline, target("fma"))) hardware_fma(double x, double y, double z) {
+    return __builtin_fma(x, y, z);
+}
 
 // Arguments: of the roots, all exponents; of fma, exponents from 2^-10 to 2^9, and in the last set
 // the addend is minus the product.
@@ -25,8 +31,10 @@ static void fill(void) {
     for (int i = 0; i < N; i++) {
         arguments[ROOTS][0][i] = of(below(2046) * LEADING + leading());
         for (int set = SUMS; set <= CANCELLING; set++) {
-            for (int k = 0; k < 3; k++) arguments[set][k][i] = of(sign() | field(1013 + below(20)) | next() >> 12);
-            if (set == CANCELLING) arguments[set][2][i] = -(arguments[set][0][i] * arguments[set][1][i]);
+            for (int k = 0; k < 3; k++)
+                arguments[set][k][i] = of(sign() | field(1013 + below(20)) | next() >> 12);
+            if (set == CANCELLING)
+                arguments[set][2][i] = -(arguments[set][0][i] * arguments[set][1][i]);
         }
     }
 }
@@ -59,8 +67,14 @@ static struct row rows[] = {
 static volatile uint64_t no_bits = 0;
 static volatile uint64_t sink;
 
-static double now(void) { struct timespec t; clock_gettime(CLOCK_MONOTONIC, &t); return (double)t.tv_sec * 1e9 + (double)t.tv_nsec; }
-static void keep(double *least, double t) { if (t < *least) *least = t; }
+static double now(void) {
+    struct timespec t;
+    clock_gettime(CLOCK_MONOTONIC, &t);
+    return (double)t.tv_sec * 1e9 + (double)t.tv_nsec;
+}
+static void keep(double *least, double t) {
+    if (t < *least) *least = t;
+}
 
 // `last & mask` is 0, which the compiler does not know: the argument waits for the last result.
 static void measure(struct row *r) {
@@ -84,15 +98,19 @@ int main(void) {
     fill();
     if (!__builtin_cpu_supports("fma")) {
         printf("no fused multiply-add in this hardware: the C library's stands in its place\n");
-        for (int i = 0; i < ROWS; i++) if (rows[i].three == hardware_fma) rows[i].three = fma;
+        for (int i = 0; i < ROWS; i++)
+            if (rows[i].three == hardware_fma) rows[i].three = fma;
     }
     // the least time of many passes: what else runs on the machine only adds
-    for (int pass = 0; pass < PASSES; pass++) for (int i = 0; i < ROWS; i++) measure(&rows[i]);
-    printf("%-30s %10s %10s   ratio to the hardware's (cbrt: the C library's)\n", "ns a call", "throughput", "latency");
+    for (int pass = 0; pass < PASSES; pass++)
+        for (int i = 0; i < ROWS; i++) measure(&rows[i]);
+    printf("%-30s %10s %10s   ratio to the hardware's (cbrt: the C library's)\n", "ns a call",
+           "throughput", "latency");
     for (int i = 0; i < ROWS; i++) {
         const struct row *r = &rows[i], *base = r + r->to;
         printf("%-16s %-13s %10.1f %10.1f", r->operation, r->whose, r->throughput, r->latency);
-        if (r->to) printf(" %8.1f %6.1f", r->throughput / base->throughput, r->latency / base->latency);
+        if (r->to)
+            printf(" %8.1f %6.1f", r->throughput / base->throughput, r->latency / base->latency);
         printf("\n");
     }
     return 0;

@@ -3,7 +3,10 @@
 #include <math.h>
 #include "../../include/p3p.h"
 
-double p3p_sqrt(double x) { double s = sqrt(x); return 0.5 * (s + x / s); }
+double p3p_sqrt(double x) {
+    double s = sqrt(x);
+    return 0.5 * (s + x / s);
+}
 double p3p_cbrt(double x) { return cbrt(x); }
 double p3p_fma(double x, double y, double z) { return x * y + z; }
 double p3p_copysign(double x, double y) { return y < 0 ? -fabs(x) : fabs(x); }

@@ -38,8 +38,7 @@ static size_t depth(unsigned char *area, void *(*run)(void *)) {
     }
     pthread_attr_destroy(&attributes);
     unsigned char *lowest = area;
-    while (*lowest == FILL)
-        lowest++;
+    while (*lowest == FILL) lowest++;
     return above - (uintptr_t)lowest;
 }
 
@@ -61,6 +60,8 @@ int main(int argc, char **argv) {
             at = frames;
         }
     }
-    printf("%ld frames; deepest stack of a solve: %zu bytes (frame %ld); of a thread that does nothing: %zu\n", frames, deepest, at, idle);
+    printf("%ld frames; deepest stack of a solve: %zu bytes (frame %ld); of a thread that does "
+           "nothing: %zu\n",
+           frames, deepest, at, idle);
     return frames == 0;
 }

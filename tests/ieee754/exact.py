@@ -36,7 +36,7 @@ def units(bits):
     """The magnitude of a finite double in units of 2^-1075; of the infinity, 2^1024, where the next
     binade would start."""
     field, digits = divmod(bits % SIGN, 1 << 52)
-    return 2 * digits if field == 0 else (2 ** 52 + digits) << field
+    return 2 * digits if field == 0 else (2**52 + digits) << field
 
 
 def signed_units(bits):
@@ -71,7 +71,7 @@ def of_ratio(numerator, denominator):
 def root(degree, bits):
     """The double nearest to the root of a positive finite double."""
     power = units(bits) << (1075 * (degree - 1))
-    return nearest(lambda n: sign_of(n ** degree - power))
+    return nearest(lambda n: sign_of(n**degree - power))
 
 
 def sqrt(x):
@@ -159,17 +159,17 @@ def total_cmp(x, y):
 def check():
     """Values worked by hand, with the reason above each."""
     two_to = lambda e: (e + 1023) << 52
-    tenth_200 = of_ratio(1, 10 ** 200)
+    tenth_200 = of_ratio(1, 10**200)
     cases = [
         # 1.1 in binary
         (of_ratio(3, 2), 0x3ff8000000000000),
         # half of the smallest double: a tie, to zero
-        (of_ratio(1, 2 ** 1075), 0),
+        (of_ratio(1, 2**1075), 0),
         # one and a half of it: a tie, to the even 2
-        (of_ratio(3, 2 ** 1075), 2),
+        (of_ratio(3, 2**1075), 2),
         # half-way from the largest double to 2^1024
-        (of_ratio(2 ** 1024 - 2 ** 970, 1), INFINITY),
-        (of_ratio(2 ** 1024 - 2 ** 970 - 1, 1), LARGEST),
+        (of_ratio(2**1024 - 2**970, 1), INFINITY),
+        (of_ratio(2**1024 - 2**970 - 1, 1), LARGEST),
         (sqrt(two_to(2)), two_to(1)),
         # 1.6a09e667f3bcc9.. in hexadecimal
         (sqrt(two_to(1)), 0x3ff6a09e667f3bcd),
@@ -203,9 +203,16 @@ def check():
         (fma(0, SIGN | ONE, SIGN), SIGN),
         # 1 - 1
         (fma(ONE, ONE, SIGN | ONE), 0),
-        (maximum(SIGN, 0), 0), (maximum(NAN, SIGN), SIGN), (maximum(NAN, NAN), NAN),
-        (clamp(NAN, 0, ONE), NAN), (clamp(SIGN, 0, ONE), SIGN), (clamp(two_to(1), 0, ONE), ONE),
-        (total_cmp(SIGN, 0), 0), (total_cmp(NAN, INFINITY), 2), (total_cmp(NAN, NAN), 1), (total_cmp(SIGN | ONE, ONE), 0),
+        (maximum(SIGN, 0), 0),
+        (maximum(NAN, SIGN), SIGN),
+        (maximum(NAN, NAN), NAN),
+        (clamp(NAN, 0, ONE), NAN),
+        (clamp(SIGN, 0, ONE), SIGN),
+        (clamp(two_to(1), 0, ONE), ONE),
+        (total_cmp(SIGN, 0), 0),
+        (total_cmp(NAN, INFINITY), 2),
+        (total_cmp(NAN, NAN), 1),
+        (total_cmp(SIGN | ONE, ONE), 0),
     ]
     for i, (got, hand) in enumerate(cases):
         assert got == hand, f"value {i} worked by hand: {got:016x}, not {hand:016x}"

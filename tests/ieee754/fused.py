@@ -58,10 +58,14 @@ def addend_ties(r, count):
     found = []
     for _ in range(count):
         d, e, f = products(r)
-        power = normal(LEADING, d), normal(LEADING, e)      # 2^(d + 52) and 2^(e + 52)
-        z = normal(r.significand(), f + 105) | r.sign()     # its last place is 2^(f + 105)
+        power = normal(LEADING, d), normal(LEADING, e)  # 2^(d + 52) and 2^(e + 52)
+        z = normal(r.significand(), f + 105) | r.sign()  # its last place is 2^(f + 105)
         s = r.sign()
-        found += [(power[0] | s, power[1], z), (power[0] + 1 | s, power[1], z), (power[0] - 1 | s, power[1], z)]
+        found += [
+            (power[0] | s, power[1], z),
+            (power[0] + 1 | s, power[1], z),
+            (power[0] - 1 | s, power[1], z),
+        ]
     return found
 
 
@@ -86,10 +90,15 @@ def far_apart(r, count):
     found = []
     for i in range(count):
         d, e, f = products(r)
-        a, b = normal(r.significand() if i % 2 else LEADING, d), normal(r.significand() if i % 2 else LEADING, e)
+        a, b = normal(r.significand() if i % 2 else LEADING, d), normal(
+            r.significand() if i % 2 else LEADING, e
+        )
         gap = 50 + r.below(12) if i % 4 < 2 else 100 + r.below(500)
         low, high = max(f + 52 - gap, -1074), min(f + 52 + gap, 971)
-        found += [(a, b, normal(r.significand(), low) | r.sign()), (a | r.sign(), b, normal(LEADING if i % 4 else r.significand(), high) | r.sign())]
+        found += [
+            (a, b, normal(r.significand(), low) | r.sign()),
+            (a | r.sign(), b, normal(LEADING if i % 4 else r.significand(), high) | r.sign()),
+        ]
     return found
 
 
@@ -101,16 +110,24 @@ def tiny(r, count):
         d = r.below(700) - 950
         e = -1127 - d + r.below(60) - 56  # the product is from about 2^-1078 to 2^-1018
         a, b = normal(r.significand(), d) | r.sign(), normal(r.significand(), e) | r.sign()
-        found += [(a, b, r.sign()), (a, b, r.bits(1 + r.below(52)) | r.sign()), (a, b, SMALLEST_NORMAL - 2 + r.below(4) | r.sign())]
+        found += [
+            (a, b, r.sign()),
+            (a, b, r.bits(1 + r.below(52)) | r.sign()),
+            (a, b, SMALLEST_NORMAL - 2 + r.below(4) | r.sign()),
+        ]
     half, one = normal(LEADING, -53), ONE
     for s in (0, SIGN):
         for m in (1, 2, 3, 5, SMALLEST_NORMAL - 1, SMALLEST_NORMAL, SMALLEST_NORMAL + 1):
-            found += [(m | s, half, z) for z in (0, 1, SIGN | 1)]    # ties at the smallest double
-            found += [(m | s, one - 1, z) for z in (0, 1, SIGN | 1)] # just below a double
+            found += [(m | s, half, z) for z in (0, 1, SIGN | 1)]  # ties at the smallest double
+            found += [(m | s, one - 1, z) for z in (0, 1, SIGN | 1)]  # just below a double
         # 2^-1022 less a half, a quarter of the smallest double, and less: to the smallest normal
         # double or not
         found += [(SMALLEST_NORMAL | s, one - k, z | s) for k in range(1, 5) for z in (0, 1)]
-        found += [(SMALLEST_NORMAL + k | s, half, SMALLEST_NORMAL // 2 + j | s) for k in range(4) for j in range(-1, 1)]
+        found += [
+            (SMALLEST_NORMAL + k | s, half, SMALLEST_NORMAL // 2 + j | s)
+            for k in range(4)
+            for j in range(-1, 1)
+        ]
     return found
 
 
@@ -123,7 +140,10 @@ def subnormal_factors(r, count):
         e = r.below(900)
         a, b = n | r.sign(), normal(r.significand(), e) | r.sign()
         size = n.bit_length() + e - 1074
-        found += [(a, b, r.sign()), (b, a, normal(r.significand(), max(size + r.below(110) - 55, -1074)) | r.sign())]
+        found += [
+            (a, b, r.sign()),
+            (b, a, normal(r.significand(), max(size + r.below(110) - 55, -1074)) | r.sign()),
+        ]
     return found
 
 
@@ -135,22 +155,33 @@ def huge(r, count):
         d = r.below(900) + 19
         e = 919 - d - r.below(3)
         a, b = normal(r.significand(), d) | r.sign(), normal(r.significand(), e)
-        found += [(a, b, normal(r.significand(), 971 - r.below(60)) | r.sign()), (a, b, LARGEST | r.sign())]
-    half_place = normal(LEADING, 918)                                                       # 2^970
+        found += [
+            (a, b, normal(r.significand(), 971 - r.below(60)) | r.sign()),
+            (a, b, LARGEST | r.sign()),
+        ]
+    half_place = normal(LEADING, 918)  # 2^970
     for s in (0, SIGN):
         found += [(LARGEST | s, ONE, z | t) for z in neighbours(half_place) for t in (0, SIGN)]
         found += [(LARGEST - 1 | s, ONE, z | s) for z in neighbours(half_place + LEADING)]
-        found += [(LARGEST | s, normal(LEADING, -51), z | s ^ SIGN) for z in (LARGEST, LARGEST - 1, half_place)]
-        found += [(normal(LEADING, 459) | s, normal(LEADING, 461), z | s ^ SIGN) for z in neighbours(half_place) + [half_place + LEADING, 1, 0]]
+        found += [
+            (LARGEST | s, normal(LEADING, -51), z | s ^ SIGN)
+            for z in (LARGEST, LARGEST - 1, half_place)
+        ]
+        found += [
+            (normal(LEADING, 459) | s, normal(LEADING, 461), z | s ^ SIGN)
+            for z in neighbours(half_place) + [half_place + LEADING, 1, 0]
+        ]
         found += [(LARGEST | s, ONE + k, SIGN ^ s | normal(LEADING, 919)) for k in range(3)]
     return found
 
 
 def fma_arguments(r):
-    tenth = of_ratio(1, 10 ** 200)
+    tenth = of_ratio(1, 10**200)
     return {
         "special": [(x, y, z) for x in SMALL_GRID for y in SMALL_GRID for z in SMALL_GRID],
-        "signed zero": [(tenth | s, tenth | t, z) for s in (0, SIGN) for t in (0, SIGN) for z in (0, SIGN)],
+        "signed zero": [
+            (tenth | s, tenth | t, z) for s in (0, SIGN) for t in (0, SIGN) for z in (0, SIGN)
+        ],
         "tie": ties(r, 200),
         "near a tie": near_ties(r, 120),
         "tie by the addend": addend_ties(r, 60),
@@ -161,7 +192,11 @@ def fma_arguments(r):
         "overflow edge": huge(r, 80),
         "random": [tuple(r.bits(64) for _ in range(3)) for _ in range(150)],
         "random, of like size": [
-            (normal(r.significand(), d) | r.sign(), normal(r.significand(), e) | r.sign(), normal(r.significand(), f + 40 + r.below(80)) | r.sign())
+            (
+                normal(r.significand(), d) | r.sign(),
+                normal(r.significand(), e) | r.sign(),
+                normal(r.significand(), f + 40 + r.below(80)) | r.sign(),
+            )
             for d, e, f in (products(r) for _ in range(250))
         ],
     }

@@ -21,7 +21,9 @@ from fused import fma_arguments
 from roots import cbrt_arguments, sqrt_arguments
 from values import GRID, GRID_OF_THREE, SEED, Random
 
-DATA = os.path.join(os.path.dirname(os.path.abspath(__file__)), "..", "..", "crates", "replay", "data", "exact")
+DATA = os.path.join(
+    os.path.dirname(os.path.abspath(__file__)), "..", "..", "crates", "replay", "data", "exact"
+)
 
 
 def on_grid(count, grid):

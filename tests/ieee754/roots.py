@@ -6,7 +6,7 @@ from values import GRID, LEADING, NANS, neighbours, normal, whole
 # The cube root of HARD_CUBE * 2^-51 is the middle MIDDLE * 2^-53 of two doubles but for less than
 # 2^-54 of their distance.
 HARD_CUBE, MIDDLE = 0x19b78223aa307c, 13293282978278199
-assert abs(MIDDLE ** 3 - (HARD_CUBE << 108)) * 2 ** 53 < 3 * (MIDDLE - 1) ** 2
+assert abs(MIDDLE**3 - (HARD_CUBE << 108)) * 2**53 < 3 * (MIDDLE - 1) ** 2
 
 
 def roots_modulo(c, digits):
@@ -39,8 +39,11 @@ def near_cubes(r, count, tries):
     sides come up."""
     found = []
     while len(found) < count:
-        best = min((r.odd(54) for _ in range(tries)), key=lambda z: min(z ** 3 % 2 ** 107, -z ** 3 % 2 ** 107))
-        n = (best ** 3 + 2 ** 106) >> 107
+        best = min(
+            (r.odd(54) for _ in range(tries)),
+            key=lambda z: min(z**3 % 2**107, -(z**3) % 2**107),
+        )
+        n = (best**3 + 2**106) >> 107
         t = n.bit_length() - 53
         if n % (1 << t) == 0:
             found.append(normal(n >> t, t - 52))
@@ -74,7 +77,7 @@ def powers(r, degree, count):
     found = []
     for _ in range(count):
         base = 1 + r.bits(1 + r.below(53 // degree))
-        found.append(whole(base ** degree, degree * (r.below(1900 // degree) - 950 // degree)))
+        found.append(whole(base**degree, degree * (r.below(1900 // degree) - 950 // degree)))
     return found
 
 
@@ -92,7 +95,8 @@ def sqrt_arguments(r):
         "special": [(b,) for b in GRID + NANS],
         "exact": [(b,) for b in exact],
         "beside exact": [(n,) for b in exact[:150] for n in (b - 1, b + 1)],
-        "nearest to a middle": [(b,) for b in hard_squares(100)] + [(moved(r, b, 2),) for b in hard_squares(100)],
+        "nearest to a middle": [(b,) for b in hard_squares(100)]
+        + [(moved(r, b, 2),) for b in hard_squares(100)],
         "ends of binades": [(b,) for b in ends_of_binades(r, 100)],
         "subnormal": [(b,) for b in subnormals(r, 250)],
         "negative": [(SIGN | r.bits(63) % INFINITY,) for _ in range(50)],

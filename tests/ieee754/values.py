@@ -25,11 +25,11 @@ class Random:
 
     def bits(self, n):
         s = self.state
-        s ^= (s << 13) & (2 ** 64 - 1)
+        s ^= (s << 13) & (2**64 - 1)
         s ^= s >> 7
-        s ^= (s << 17) & (2 ** 64 - 1)
+        s ^= (s << 17) & (2**64 - 1)
         self.state = s
-        return (s * 2685821657736338717 & (2 ** 64 - 1)) >> (64 - n)
+        return (s * 2685821657736338717 & (2**64 - 1)) >> (64 - n)
 
     def below(self, n):
         return self.bits(60) % n

@@ -48,7 +48,9 @@ from syntax.world import World
 def print_mutants(world, crate):
     for f in functions_of(world, crate):
         for m in mutants_of(f):
-            print(f"{f.path}: {m.place.kind}{' (late)' if m.place.late else ''}: {m.old_line}  =>  {m.new_line}")
+            print(
+                f"{f.path}: {m.place.kind}{' (late)' if m.place.late else ''}: {m.old_line}  =>  {m.new_line}"
+            )
 
 
 def main():

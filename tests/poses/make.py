@@ -42,12 +42,19 @@ class Frame(NamedTuple):
         return self._replace(words=self.words[:21] + [0] * 3, best=0)
 
     def record(self, length=LENGTH, version=VERSION):
-        return length.to_bytes(2, "big") + bytes([version]) + b"".join(word.to_bytes(8, "big") for word in self.words)
+        return (
+            length.to_bytes(2, "big")
+            + bytes([version])
+            + b"".join(word.to_bytes(8, "big") for word in self.words)
+        )
 
     def lines(self, number):
         if self.refusal:
             return f"{number} refused {self.refusal}\n"
-        poses = [f"{number}.{j + 1} updates {u}{''.join(f' {w:016x}' for w in pose)}\n" for j, (u, *pose) in enumerate(self.slots)]
+        poses = [
+            f"{number}.{j + 1} updates {u}{''.join(f' {w:016x}' for w in pose)}\n"
+            for j, (u, *pose) in enumerate(self.slots)
+        ]
         return f"{number} poses {self.count} best {self.best}\n" + "".join(poses[: self.count])
 
 
@@ -73,7 +80,9 @@ def whole(frames):
 
 def stopped(frames, rest, refusal):
     """Frames, and then bytes at which the run stops."""
-    return b"".join(frame.record() for frame in frames) + rest, listing(frames, f"stop {refusal} at {len(frames) + 1}\n")
+    return b"".join(frame.record() for frame in frames) + rest, listing(
+        frames, f"stop {refusal} at {len(frames) + 1}\n"
+    )
 
 
 def runs(frames):
@@ -153,7 +162,9 @@ def compare(program):
     for way, text in listed.items():
         if text != expected.encode():
             sys.exit(f"the listing of the frames from {way} differs from the Rust's answers")
-        print(f"{len(frames)} frames from {way}: {len(text)} bytes, as the Rust's answers have them")
+        print(
+            f"{len(frames)} frames from {way}: {len(text)} bytes, as the Rust's answers have them"
+        )
 
 
 if __name__ == "__main__":

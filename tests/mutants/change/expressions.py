@@ -4,8 +4,13 @@ from change.places import Marks, signature
 from syntax.tokens import LEVELS, number_parts
 from syntax.types import Number, bare, join
 
-KNOWN = {"f64::from_bits": (["u64"], "f64"), "f64::to_bits": (["f64"], "u64"), "u64::leading_zeros": (["u64"], "u32"),
-         "u64::trailing_zeros": (["u64"], "u32"), "u64::count_ones": (["u64"], "u32")}
+KNOWN = {
+    "f64::from_bits": (["u64"], "f64"),
+    "f64::to_bits": (["f64"], "u64"),
+    "u64::leading_zeros": (["u64"], "u32"),
+    "u64::trailing_zeros": (["u64"], "u32"),
+    "u64::count_ones": (["u64"], "u32"),
+}
 
 
 class Expressions(Marks):
@@ -99,7 +104,11 @@ class Expressions(Marks):
         return owner[1] if isinstance(owner, tuple) and owner[0] == "array" else None
 
     def method(self, owner, name, start, at):
-        f = self.world.functions.get(owner[:2] + (owner[2] + "::" + name,)) if owner in self.world.structs else None
+        f = (
+            self.world.functions.get(owner[:2] + (owner[2] + "::" + name,))
+            if owner in self.world.structs
+            else None
+        )
         spans, kinds = self.arguments([t for _, t in f.params[1:]] if f else [])
         if f:
             self.mark_method(f, owner, name, at)
@@ -176,7 +185,11 @@ class Expressions(Marks):
             owner = self.file.named(path[:-1], self.owner)
             if owner in self.world.enums:
                 return self.variant(owner, path[-1], end)
-            method = self.world.functions.get(owner[:2] + (owner[2] + "::" + path[-1],)) if owner in self.world.structs else None
+            method = (
+                self.world.functions.get(owner[:2] + (owner[2] + "::" + path[-1],))
+                if owner in self.world.structs
+                else None
+            )
             if method:
                 return self.given(*signature(method))
             if "::".join(path) in KNOWN:

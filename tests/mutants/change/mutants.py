@@ -26,7 +26,7 @@ class Mutant:
     def within(self, text):
         """The text of the function's file with this change; text may have other changes behind
         it."""
-        return text[: self.place.start] + self.new + text[self.place.end:]
+        return text[: self.place.start] + self.new + text[self.place.end :]
 
 
 def mutants_of(function):
@@ -48,7 +48,9 @@ def ordered(function):
     for late in (False, True):
         for turn in range(max((p[1] for p in draws), default=-1) + 1):
             kinds = {}
-            for p in sorted((p for p in draws if p[0] == late and p[1] == turn), key=lambda p: p[2]):
+            for p in sorted(
+                (p for p in draws if p[0] == late and p[1] == turn), key=lambda p: p[2]
+            ):
                 kinds.setdefault(p[3].kind, []).append(p)
             queues = [kinds[k] for k in sorted(kinds)]
             while queues:

@@ -31,7 +31,9 @@ class Marks(Grammar):
         self.scopes, self.raw = [dict(f.params)], []
 
     def mark(self, kind, start, end, options, late=lambda: False):
-        self.raw.append(lambda: Place(kind, start, end, options() if callable(options) else options, late()))
+        self.raw.append(
+            lambda: Place(kind, start, end, options() if callable(options) else options, late())
+        )
 
     def marked(self):
         return [place for place in (make() for make in self.raw) if place.options]
@@ -47,10 +49,18 @@ class Marks(Grammar):
 
     def mark_operator(self, op, start, end, level, kind):
         whole = level > 2 and op not in "|&^"
-        self.mark("operator", start, end, list(OPERATORS[op]), lambda: whole and settled(kind) != "f64")
+        self.mark(
+            "operator", start, end, list(OPERATORS[op]), lambda: whole and settled(kind) != "f64"
+        )
 
     def mark_assignment(self, op, kind):
-        self.mark("operator", self.start(), self.end(), list(OPERATORS.get(op, [])), lambda: settled(kind) != "f64")
+        self.mark(
+            "operator",
+            self.start(),
+            self.end(),
+            list(OPERATORS.get(op, [])),
+            lambda: settled(kind) != "f64",
+        )
 
     def mark_operand(self, kind, name, start, end):
         """The other locals of a type; where there is none, a literal."""
@@ -62,8 +72,11 @@ class Marks(Grammar):
                 return []
             same = [n for n, t in visible.items() if n != name and settled(t) == own]
             if not same and isinstance(own, str):
-                same = {"f64": ["0.0"], "bool": ["true", "false"]}.get(own, ["0", "1"] if own in INTEGERS else [])
+                same = {"f64": ["0.0"], "bool": ["true", "false"]}.get(
+                    own, ["0", "1"] if own in INTEGERS else []
+                )
             return same
+
         self.mark("operand", start, end, others)
 
     def assigned(self, end):
@@ -79,42 +92,73 @@ class Marks(Grammar):
 
     def mark_short_field(self, field, visible, start, end):
         """A field that is given by a local of its name: the other locals of its type."""
+
         def others():
             own = settled(visible[field])
             if own in (None, "integer"):
                 return []
-            return [field + ": " + n for n, t in visible.items() if n != field and settled(t) == own]
+            return [
+                field + ": " + n for n, t in visible.items() if n != field and settled(t) == own
+            ]
+
         self.mark("operand", start, end, others)
 
     def mark_exchanges(self, spans, kinds):
         """Two arguments of one type exchanged."""
         for i in range(len(spans)):
             for j in range(i + 1, len(spans)):
+
                 def swapped(i=i, j=j):
                     a, b = self.source(*spans[i]), self.source(*spans[j])
-                    if settled(kinds[i]) is None or settled(kinds[i]) != settled(kinds[j]) or a == b:
+                    if (
+                        settled(kinds[i]) is None
+                        or settled(kinds[i]) != settled(kinds[j])
+                        or a == b
+                    ):
                         return []
                     return [b + self.source(spans[i][1], spans[j][0]) + a]
+
                 self.mark("operand", spans[i][0], spans[j][1], swapped)
 
     def mark_receiver(self, owner, name, start, at, spans, kinds):
         """A receiver and its one argument of the same type exchanged."""
         if len(kinds) == 1 and bare(kinds[0]) == owner:
             first, second = self.source(start, at - 1), self.source(*spans[0])
-            if first != second and re.fullmatch(r"[\w.]+", first) and re.fullmatch(r"[\w.]+", second):
+            if (
+                first != second
+                and re.fullmatch(r"[\w.]+", first)
+                and re.fullmatch(r"[\w.]+", second)
+            ):
                 self.mark("operand", start, spans[0][1], [second + "." + name + "(" + first])
 
     def mark_method(self, f, owner, name, at):
         """Another method of the same type."""
-        same = [n for (c, m, n), g in self.world.functions.items()
-                if (c, m) == owner[:2] and n.startswith(owner[2] + "::") and g is not f and g is not self.f and signature(g) == signature(f)]
-        self.mark("called function", at, at + len(name), [n.split("::")[1] for n in same], lambda: True)
+        same = [
+            n
+            for (c, m, n), g in self.world.functions.items()
+            if (c, m) == owner[:2]
+            and n.startswith(owner[2] + "::")
+            and g is not f
+            and g is not self.f
+            and signature(g) == signature(f)
+        ]
+        self.mark(
+            "called function", at, at + len(name), [n.split("::")[1] for n in same], lambda: True
+        )
 
     def mark_called(self, f, start, end):
         """Another function of the same type, of another crate."""
         uses = self.world.uses[self.file.crate]
-        same = ["::".join((c, m, n)) for (c, m, n), g in self.world.functions.items()
-                if g.public and "::" not in n and c in uses and m and g is not f and signature(g) == signature(f)]
+        same = [
+            "::".join((c, m, n))
+            for (c, m, n), g in self.world.functions.items()
+            if g.public
+            and "::" not in n
+            and c in uses
+            and m
+            and g is not f
+            and signature(g) == signature(f)
+        ]
         self.mark("called function", start, end, same, lambda: True)
 
     def mark_constant(self, target, start, end):
@@ -122,9 +166,18 @@ class Marks(Grammar):
         consts = self.world.consts
         kind, value = consts[target]
         near = near_floats(value) if kind == "f64" else near_numbers(value)
-        others = [n for n, k in self.file.names.items() if k != target and k in consts and consts[k][0] == kind]
+        others = [
+            n
+            for n, k in self.file.names.items()
+            if k != target and k in consts and consts[k][0] == kind
+        ]
         self.mark("constant", start, end, others + near)
 
     def mark_variant(self, variants, name, start, end):
         """The other variants of the same parts."""
-        self.mark("constant", start, end, [v for v, p in variants.items() if v != name and p == variants.get(name)])
+        self.mark(
+            "constant",
+            start,
+            end,
+            [v for v, p in variants.items() if v != name and p == variants.get(name)],
+        )

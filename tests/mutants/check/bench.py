@@ -17,7 +17,9 @@ class Bench:
         shutil.copytree(os.path.join(root, "crates"), os.path.join(self.home, "crates"))
         for part in ("rlib", "stamp"):
             if os.path.isdir(os.path.join(root, "target", part)):
-                shutil.copytree(os.path.join(root, "target", part), os.path.join(self.home, "target", part))
+                shutil.copytree(
+                    os.path.join(root, "target", part), os.path.join(self.home, "target", part)
+                )
         self.cache = os.path.join(self.home, "target", "inc", crate)
         self.clean = os.path.join(self.home, "clean")
         self.rounds = 0
@@ -25,8 +27,14 @@ class Bench:
     def check(self):
         """What the checker says, or None where it says nothing in time."""
         try:
-            run = subprocess.run(RT + ["dev", self.crate], cwd=self.home, capture_output=True, text=True, timeout=TIME_LIMIT,
-                                 env=dict(os.environ, RT_CUT="0", RT_JOBS="1"))
+            run = subprocess.run(
+                RT + ["dev", self.crate],
+                cwd=self.home,
+                capture_output=True,
+                text=True,
+                timeout=TIME_LIMIT,
+                env=dict(os.environ, RT_CUT="0", RT_JOBS="1"),
+            )
         except subprocess.TimeoutExpired:
             return None
         return run.stdout + run.stderr
@@ -35,7 +43,9 @@ class Bench:
         """The check of the unchanged crate; what it leaves is kept for the others to begin with."""
         text = self.check()
         if text is None or "\nlogic=proved" not in text:
-            sys.exit(f"{self.crate} is not proved as it stands:\n{(text or 'no verdict in time')[-3000:]}")
+            sys.exit(
+                f"{self.crate} is not proved as it stands:\n{(text or 'no verdict in time')[-3000:]}"
+            )
         shutil.copytree(self.cache, self.clean)
 
     def trial(self, mutants):
@@ -59,7 +69,9 @@ class Bench:
         return said
 
     def write(self, file, text):
-        with open(os.path.join(self.home, "crates", self.crate, file.short), "w", encoding="utf-8") as f:
+        with open(
+            os.path.join(self.home, "crates", self.crate, file.short), "w", encoding="utf-8"
+        ) as f:
             f.write(text)
 
     def end(self):

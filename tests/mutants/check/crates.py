@@ -37,7 +37,11 @@ def source_sum(root, crate):
             for name in sorted(names):
                 path = os.path.join(folder, name)
                 with open(path, encoding="utf-8") as f:
-                    lines = [l.strip() for l in f if l.strip() and not l.strip().startswith(("//", "-- "))]
+                    lines = [
+                        l.strip()
+                        for l in f
+                        if l.strip() and not l.strip().startswith(("//", "-- "))
+                    ]
                 sums.update("\0".join([os.path.relpath(path, top)] + lines).encode())
     return sums.hexdigest()[:16]
 

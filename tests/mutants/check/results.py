@@ -29,14 +29,23 @@ def write_results(root, crate, functions, tried, state):
     os.makedirs(RESULTS, exist_ok=True)
     bench_sum = source_sum(os.path.join(root, "target", "mutants", crate), crate)
     version = subprocess.run(RT + ["version"], capture_output=True, text=True).stdout.strip()
-    commit = subprocess.run(["git", "log", "-1", "--format=%cs"], cwd=root, capture_output=True, text=True).stdout.strip()
+    commit = subprocess.run(
+        ["git", "log", "-1", "--format=%cs"], cwd=root, capture_output=True, text=True
+    ).stdout.strip()
     with open(path_of(crate), "w", encoding="utf-8") as f:
-        f.write(f"# toolchain {version}; seed {SEED}; commit of {commit}; sum of the crate's files {bench_sum}{state}\n")
+        f.write(
+            f"# toolchain {version}; seed {SEED}; commit of {commit}; sum of the crate's files {bench_sum}{state}\n"
+        )
         f.write("# function\tplaces\tverdict\tkind\tfile:line\tbefore\tafter\twhy\tinput\n")
         for g in functions:
             f.write(f"{'pub ' if g.public else ''}{g.path}\t{len(g.places)}\n")
             for m in tried[g.path]:
-                f.write("\t".join(["", "", m.verdict, m.place.kind, m.where, m.old_line, m.new_line, why(m)]) + "\n")
+                f.write(
+                    "\t".join(
+                        ["", "", m.verdict, m.place.kind, m.where, m.old_line, m.new_line, why(m)]
+                    )
+                    + "\n"
+                )
 
 
 def earlier(root, crate):
@@ -70,7 +79,10 @@ def add_witness(crate, world):
             if same and parts[2] != "not compiled":
                 m = same[0]
                 found = witness.differs(machine, m.function, m.within(m.function.file.text))
-                line = "\t".join(parts[:8] + [{True: "differs", False: "no input found", None: "not tried"}[found]])
+                line = "\t".join(
+                    parts[:8]
+                    + [{True: "differs", False: "no input found", None: "not tried"}[found]]
+                )
         out.append(line)
     with open(path_of(crate), "w", encoding="utf-8") as f:
         f.write("\n".join(out) + "\n")

@@ -95,7 +95,11 @@ def try_crate(root, crate, world, rounds):
             queues.write("")
             break
         settle(bench, turn)
-        print(f"{crate}: round of {len(turn)}: " + ", ".join(f"{queues.count(v)} {v}" for v in VERDICTS), flush=True)
+        print(
+            f"{crate}: round of {len(turn)}: "
+            + ", ".join(f"{queues.count(v)} {v}" for v in VERDICTS),
+            flush=True,
+        )
         queues.write("; NOT FINISHED")
     add_witness(crate, World(root, CRATES))
     bench.end()

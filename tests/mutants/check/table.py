@@ -46,7 +46,9 @@ def reasons():
             for block in f.read().split("\n\n"):
                 lines = [l for l in block.splitlines() if l and not l.startswith("#")]
                 if len(lines) >= 4:
-                    out[(lines[0], lines[1].removeprefix("- "), lines[2].removeprefix("+ "))] = " ".join(lines[3:])
+                    out[
+                        (lines[0], lines[1].removeprefix("- "), lines[2].removeprefix("+ "))
+                    ] = " ".join(lines[3:])
     return out
 
 
@@ -80,21 +82,31 @@ class Tally:
         row[2][verdict] = row[2].get(verdict, 0) + 1
         kind = "public" if row[0].startswith("pub ") else "private"
         self.total[(kind, verdict)] = self.total.get((kind, verdict), 0) + 1
-        words = {"fact": parts[7], "shape": "shape: the proof file does not fit", "survived": "survived"}.get(verdict, verdict)
+        words = {
+            "fact": parts[7],
+            "shape": "shape: the proof file does not fit",
+            "survived": "survived",
+        }.get(verdict, verdict)
         by_input = self.said.setdefault(words, {})
         found = parts[8] if len(parts) > 8 else "not tried"
         by_input[found] = by_input.get(found, 0) + 1
         if verdict in ("survived", "no verdict"):
             name, where, old, new = row[0].removeprefix("pub "), *parts[4:7]
-            reason = self.reasons.get((name, old, new), self.reasons.get((name, "*", "*"), "NO REASON GIVEN"))
-            (self.survivors if verdict == "survived" else self.odd).append((name, where, old, new, reason))
+            reason = self.reasons.get(
+                (name, old, new), self.reasons.get((name, "*", "*"), "NO REASON GIVEN")
+            )
+            (self.survivors if verdict == "survived" else self.odd).append(
+                (name, where, old, new, reason)
+            )
 
     def reasoned(self, begins):
         return sum(s[4].startswith(begins) for s in self.survivors)
 
 
 def wrapped(text, indent=""):
-    return textwrap.wrap(text, 100, subsequent_indent=indent, break_long_words=False, break_on_hyphens=False)
+    return textwrap.wrap(
+        text, 100, subsequent_indent=indent, break_long_words=False, break_on_hyphens=False
+    )
 
 
 def cells(counts, keys):
@@ -109,11 +121,17 @@ def summary(tally):
     number = len(tally.survivors)
     same, tested = tally.reasoned("equivalent:"), tally.reasoned("equivalent for the caller:")
     outside = tally.reasoned("outside the contracts:")
-    return text + [""] + wrapped(
-        f"Of the {number} survivors {same} compute the same, {tested} change a private function's answer within its "
-        f"contract, which leaves it open and whose caller tests it, {outside} change what is read or written, of which no "
-        f"contract can speak, and are found by the stored runs (crates/poses_runs), and {number - same - tested - outside} "
-        "have no reason given. The reasons (reasons.txt) are given by hand.") + [""]
+    return (
+        text
+        + [""]
+        + wrapped(
+            f"Of the {number} survivors {same} compute the same, {tested} change a private function's answer within its "
+            f"contract, which leaves it open and whose caller tests it, {outside} change what is read or written, of which no "
+            f"contract can speak, and are found by the stored runs (crates/poses_runs), and {number - same - tested - outside} "
+            "have no reason given. The reasons (reasons.txt) are given by hand."
+        )
+        + [""]
+    )
 
 
 def by_words(tally):
@@ -130,7 +148,14 @@ def listed(tally):
         text += wrapped(head, "  ")
     text += ["", "## Survivors", ""]
     for name, where, old, new, reason in tally.survivors:
-        text += wrapped(f"`{name}`, {where}: {reason}") + ["", "```diff", f"- {old}", f"+ {new}", "```", ""]
+        text += wrapped(f"`{name}`, {where}: {reason}") + [
+            "",
+            "```diff",
+            f"- {old}",
+            f"+ {new}",
+            "```",
+            "",
+        ]
     if tally.odd:
         text += ["## No verdict", ""]
         for name, where, old, new, _ in tally.odd:
@@ -146,7 +171,9 @@ def by_function(tally):
             text.append(row)
         else:
             name = f"**{row[0][4:]}**" if row[0].startswith("pub ") else row[0]
-            text.append(f"| {name} | {row[1]} | {sum(row[2].values())} | " + cells(row[2], VERDICTS))
+            text.append(
+                f"| {name} | {row[1]} | {sum(row[2].values())} | " + cells(row[2], VERDICTS)
+            )
     return text
 
 

@@ -3,13 +3,20 @@ import re
 
 # What antt says where a proof file names a fact or a step that the changed code does not have, or
 # the other way round.
-SHAPE = re.compile(r"that can be named from here|has no field|no such field|not a field|is not in scope|expected type `tie\.Need|has type `tie\.Need"
-                   r"|unknown name|not a projection|too many arguments|takes? \d+ arguments?|does not cover|this pattern needs a function"
-                   r"|^`walk`:")  # a proof by hand, which repeats the statements
+SHAPE = re.compile(
+    r"that can be named from here|has no field|no such field|not a field|is not in scope|expected type `tie\.Need|has type `tie\.Need"
+    r"|unknown name|not a projection|too many arguments|takes? \d+ arguments?|does not cover|this pattern needs a function"
+    r"|^`walk`:"
+)  # a proof by hand, which repeats the statements
 # What antt's words come to, for the table.
-WORDS = [("two values differ", r"the two types .*differ|expected type|the two sides"),
-         ("a goal is not proved", r"no proof of|does not follow|it is not proved|`cc`|what it leaves must be a path"),
-         ("an equation of the proof is not in the goal", r"no occurrence of the path")]
+WORDS = [
+    ("two values differ", r"the two types .*differ|expected type|the two sides"),
+    (
+        "a goal is not proved",
+        r"no proof of|does not follow|it is not proved|`cc`|what it leaves must be a path",
+    ),
+    ("an equation of the proof is not in the goal", r"no occurrence of the path"),
+]
 WAITS = "was not admitted (it has holes or undetermined implicits, or was rejected)"
 
 
@@ -58,7 +65,9 @@ def refusal(own):
 def front_errors(said, mutants, crate):
     """The mutants that the compiler refuses before the prover runs."""
     out = []
-    for name, line in re.findall(r"^\S*/crates/" + crate + r"/(src/\S+?):(\d+):\d+: error", said, re.M):
+    for name, line in re.findall(
+        r"^\S*/crates/" + crate + r"/(src/\S+?):(\d+):\d+: error", said, re.M
+    ):
         for m in mutants:
             f = m.function
             first = f.file.text.count("\n", 0, f.start) + 1

@@ -35,7 +35,9 @@ class Evaluate:
         target = self.named(path)
         if target in self.world.consts:
             kind, value = self.world.consts[target]
-            return float(value.replace("_", "")) if kind == "f64" else int(value.replace("_", ""), 0)
+            return (
+                float(value.replace("_", "")) if kind == "f64" else int(value.replace("_", ""), 0)
+            )
         if len(path) == 1:
             raise Outside()  # a constant of a library outside
         return Variant(self.named(path[:-1]), path[-1], [])
@@ -131,7 +133,9 @@ class Evaluate:
             if above in self.world.enums:
                 return Variant(above, path[-1], [taken(held(v)) for v in values])
             if above in self.world.structs:
-                return self.call(self.world.functions[above[:2] + (above[2] + "::" + path[-1],)], values)
+                return self.call(
+                    self.world.functions[above[:2] + (above[2] + "::" + path[-1],)], values
+                )
         target = self.named(path)
         if target[2] == "sqrt" and target[0] == "ieee754":
             return root(values[0])

@@ -32,12 +32,14 @@ class Machine(Evaluate):
         """The body of f in a text that may be changed within it."""
         file, owner = self.owners[f]
         start = next(file.tokens[b][2] for g, b, _ in file.bodies if g is f)
-        return Parser(file, text[start: f.end + len(text) - len(file.text)], owner).block()
+        return Parser(file, text[start : f.end + len(text) - len(file.text)], owner).block()
 
     def call(self, f, args, body=None):
         env = {}
         for (name, kind), value in zip(f.params, args):
-            env[name] = value if isinstance(kind, tuple) and kind[0] == "ref" else taken(held(value))
+            env[name] = (
+                value if isinstance(kind, tuple) and kind[0] == "ref" else taken(held(value))
+            )
         kept, self.f = self.f, f
         try:
             return self.run(body or self.body(f), env)

@@ -28,8 +28,18 @@ def operate_whole(op, x, y):
     """Whole numbers of 64 bits with no sign."""
     if op in ("/", "%") and y == 0 or op in ("<<", ">>") and not 0 <= y < 64:
         raise Trap(op)
-    out = {"+": lambda: x + y, "-": lambda: x - y, "*": lambda: x * y, "/": lambda: x // y, "%": lambda: x % y, "&": lambda: x & y,
-           "|": lambda: x | y, "^": lambda: x ^ y, "<<": lambda: (x << y) % (1 << 64), ">>": lambda: x >> y}[op]()
+    out = {
+        "+": lambda: x + y,
+        "-": lambda: x - y,
+        "*": lambda: x * y,
+        "/": lambda: x // y,
+        "%": lambda: x % y,
+        "&": lambda: x & y,
+        "|": lambda: x | y,
+        "^": lambda: x ^ y,
+        "<<": lambda: (x << y) % (1 << 64),
+        ">>": lambda: x >> y,
+    }[op]()
     if not 0 <= out < 1 << 64:
         raise Trap("overflow")
     return out
@@ -45,7 +55,7 @@ def cast(value, kind):
 
 
 def from_bits(n):
-    if n % (1 << 63) > 0x7FF << 52:
+    if n % (1 << 63) > 0x7ff << 52:
         raise Trap("the pattern of a NaN")
     return struct.unpack(">d", struct.pack(">Q", n))[0]
 
@@ -61,8 +71,13 @@ def root(x):
 
 
 # By the whole path, or by its last name.
-BUILT_IN = {"f64::from_bits": from_bits, "f64::to_bits": to_bits, "u64::leading_zeros": lambda n: 64 - n.bit_length(),
-            "wrapping_add_u64": lambda a, b: (a + b) % (1 << 64), "wrapping_sub_u64": lambda a, b: (a - b) % (1 << 64)}
+BUILT_IN = {
+    "f64::from_bits": from_bits,
+    "f64::to_bits": to_bits,
+    "u64::leading_zeros": lambda n: 64 - n.bit_length(),
+    "wrapping_add_u64": lambda a, b: (a + b) % (1 << 64),
+    "wrapping_sub_u64": lambda a, b: (a - b) % (1 << 64),
+}
 
 
 def built_in(path):

@@ -106,7 +106,11 @@ class Parser(Grammar):
         while True:
             if self.passes("."):
                 name = self.take()
-                out = ("method", out, name, self.arguments()) if self.sees("(") else ("field", out, name)
+                out = (
+                    ("method", out, name, self.arguments())
+                    if self.sees("(")
+                    else ("field", out, name)
+                )
             elif self.passes("["):
                 low = None if self.sees("..") else self.expression()
                 if self.passes(".."):

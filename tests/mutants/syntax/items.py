@@ -61,7 +61,7 @@ class Items(Types):
                 path.append(self.word())
             self.next()
         if "as" in path:
-            path = path[: path.index("as")] + path[path.index("as") + 1:]
+            path = path[: path.index("as")] + path[path.index("as") + 1 :]
         crate = self.file.crate if path[0] == "crate" else path[0]
         self.file.names[path[-1]] = (crate, "::".join(path[1:-1]), path[-1])
 
@@ -99,7 +99,9 @@ class Items(Types):
             variant = self.take()
             variants[variant] = self.parts()
         self.world.enums[self.file.key(name)] = variants
-        self.file.later.append(lambda: variants.update({v: self.types(parts) for v, parts in variants.items()}))
+        self.file.later.append(
+            lambda: variants.update({v: self.types(parts) for v, parts in variants.items()})
+        )
 
     def declared(self):
         name = self.take()
@@ -182,5 +184,8 @@ class Items(Types):
 
     def sign(self, f, params, result, owner):
         """The types of a function's parameters and of its result."""
-        f.params = [(n, self.file.key(t[1]) if isinstance(t, tuple) else self.type_at(t, owner)) for n, t in params]
+        f.params = [
+            (n, self.file.key(t[1]) if isinstance(t, tuple) else self.type_at(t, owner))
+            for n, t in params
+        ]
         f.result = self.type_at(result, owner) if result is not None else "()"

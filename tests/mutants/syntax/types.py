@@ -26,7 +26,13 @@ def join(a, b):
     for x, y in ((a, b), (b, a)):
         while isinstance(x, Number) and isinstance(x.type, Number):
             x = x.type
-        if isinstance(x, Number) and x.type is None and y is not None and y is not x and not (isinstance(y, Number) and y.type is x):
+        if (
+            isinstance(x, Number)
+            and x.type is None
+            and y is not None
+            and y is not x
+            and not (isinstance(y, Number) and y.type is x)
+        ):
             x.type = y
             return
 

@@ -12,13 +12,17 @@ class World:
     def __init__(self, root, crates):
         self.structs, self.enums, self.functions, self.consts, self.files = {}, {}, {}, {}, []
         with open(os.path.join(root, "crates.txt"), encoding="utf-8") as f:
-            self.uses = {m.group(1): m.group(2).split() for m in re.finditer(r"^(\w+):(.*)$", f.read(), re.M)}
+            self.uses = {
+                m.group(1): m.group(2).split() for m in re.finditer(r"^(\w+):(.*)$", f.read(), re.M)
+            }
         for crate in crates:
             folder = os.path.join(root, "crates", crate, "src")
             for name in sorted(os.listdir(folder)):
                 if name.endswith(".rt"):
                     module = "" if name[:-3] in ("lib", "main") else name[:-3]
-                    self.files.append(File(self, crate, module, os.path.join(folder, name), "src/" + name))
+                    self.files.append(
+                        File(self, crate, module, os.path.join(folder, name), "src/" + name)
+                    )
         for file in self.files:
             Items(file).declare()
         for file in self.files:
@@ -27,7 +31,13 @@ class World:
 
 class File:
     def __init__(self, world, crate, module, path, short):
-        self.world, self.crate, self.module, self.path, self.short = world, crate, module, path, short
+        self.world, self.crate, self.module, self.path, self.short = (
+            world,
+            crate,
+            module,
+            path,
+            short,
+        )
         with open(path, encoding="utf-8") as f:
             self.text = f.read()
         self.tokens = tokens(self.text)
@@ -47,7 +57,9 @@ class File:
             return self.key(owner)
         if len(path) == 1:
             return self.names.get(path[0], path[0])
-        if self.module == "" and any(f.crate == self.crate and f.module == path[0] for f in self.world.files):
+        if self.module == "" and any(
+            f.crate == self.crate and f.module == path[0] for f in self.world.files
+        ):
             return (self.crate, "::".join(path[:-1]), path[-1])
         crate = self.crate if path[0] == "crate" else path[0]
         return (crate, "::".join(path[1:-1]), path[-1])
