@@ -20,8 +20,9 @@ pub fn refine_depths_in_place(
     iterations: u32,
 ) -> u32
     ensures { λ (r : ℕ).
-        ⌜ (r ≡ refineDepths (now (depths .entry)) «squared_edges» «bearing_cosines» iterations .value .updates)
-        × (now (depths .exit) ≡ refineDepths (now (depths .entry)) «squared_edges» «bearing_cosines» iterations .value .depths) ⌝ }
+        let refined =
+            refineDepths (now (depths .entry)) «squared_edges» «bearing_cosines» iterations .value in
+        ⌜ (r ≡ refined .updates) × (now (depths .exit) ≡ refined .depths) ⌝ }
 {
     let refined = refine_depths(*depths, squared_edges, bearing_cosines, iterations);
     *depths = refined.depths;
