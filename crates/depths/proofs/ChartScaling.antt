@@ -1,7 +1,7 @@
 -- The charts: their quadratics have their coefficients at degree 0, and the depth candidates are at
 -- degree 1, as many in both runs. Assumes nothing.
 use mathlib.Core.Path.{_≡_, refl, ap, ap₂}
-use mathlib.Core.Bool.{Bool, not, _||_}
+use mathlib.Core.Bool.{Bool, not, _&&_, _||_}
 use mathlib.Core.List.{Forall₂}
 use Prim.Native.Nat.{ℕ, _+_}
 use lib.Dec.{ltb}
@@ -17,7 +17,7 @@ use Rattle.ieee754_laws.proofs.Degrees.{finite-same, equal}
 use Rattle.ieee754_laws.proofs.Entries.{set-entries, four-entries}
 use Rattle.linalg.specs.VectorScaling.{AtVector}
 use Rattle.linalg.proofs.VectorDegrees.{null-vector}
-use Rattle.frames.specs.FrameScaling.{AtEdges}
+use Rattle.frames.specs.FrameScaling.{AtSquaredEdges}
 use Rattle.polynomial.specs.RootScaling.{AtRoots}
 use Rattle.polynomial.proofs.RootScaling.{withPair-scales}
 use Rattle.polynomial.proofs.QuadraticScaling.{quadratic-scales}
@@ -43,13 +43,12 @@ module _ {k : ℤ} where
       → AtCandidates k (pushIfPositive c d v) (pushIfPositive c' d' v')
   unfolding pushIfPositive
   pushIfPositive-at found depth depths =
-      choose (AtCandidates k) (lt-same null depth)
-      (choose (AtCandidates k) (ap (λ (n : ℕ). ltb n 4) (found .count))
+      choose (AtCandidates k)
+      (ap₂ _&&_ (lt-same null depth) (ap (λ (n : ℕ). ltb n 4) (found .count)))
       (record {
         count = ap (λ (n : ℕ). n + 1) (found .count);
         depths = set-entries (found .count) (found .depths) depths;
       })
-      found)
       found
 
   forRoots-scales : {r r' : Roots} {turn turn' : Candidates → Float → Traced Candidates}
@@ -69,7 +68,7 @@ module _ {k : ℤ} where
   unfolding noDivisor
   noDivisor-same d = ap₂ (λ (a b : Bool). a || not b) (eq-same d null) (finite-same d)
 
-  module _ {e e' : SquaredEdges} (factors : Factors) (E : AtEdges k e e') where
+  module _ {e e' : SquaredEdges} (factors : Factors) (E : AtSquaredEdges k e e') where
     -- ---- the chart for u0.abs() < u1.abs()
     module _ (nullVector : Vector3) where
       firstChartDepths-scales : (c c' : Candidates) (t t' : Float)

@@ -5,13 +5,13 @@ use Rattle.ieee754.specs.Literal.{half, one}
 use Rattle.ieee754.specs.Scaling.{Both}
 use Rattle.ieee754_laws.proofs.Degrees.{same, !_, ⊝_, _⊗_, _⊕_, _⊖_, pure, _>>=_}
 use Rattle.linalg.specs.VectorScaling.{AtMatrix}
-use Rattle.frames.specs.FrameScaling.{AtEdges}
+use Rattle.frames.specs.FrameScaling.{AtSquaredEdges}
 use Rattle.depths.specs.Matrix.{singularMatrix}
 use Rattle.depths.specs.Types.{SquaredEdges, Factors}
 
 module _ {k : ℤ} where
   pub singularMatrix-scales : {e e' : SquaredEdges} (factors : Factors) (g : Float)
-      → AtEdges k e e'
+      → AtSquaredEdges k e e'
       → Both (AtMatrix k (pos 2)) (singularMatrix e factors g) (singularMatrix e' factors g)
   unfolding singularMatrix
   singularMatrix-scales factors g e =

@@ -6,13 +6,13 @@ use Rattle.ieee754.specs.Scaling.{Both}
 use Rattle.ieee754_laws.proofs.Degrees.{_>>=_, _>>≡_, alike}
 use Rattle.linalg.specs.Vectors.{vecSub, vecMul}
 use Rattle.linalg.specs.Matrices.{column0, column1}
-use Rattle.frames.specs.FrameScaling.{AtEdges}
+use Rattle.frames.specs.FrameScaling.{AtSquaredEdges}
 use Rattle.depths.specs.Signs.{signTurn, candidates}
 use Rattle.depths.specs.Types.{Matrix3, SquaredEdges, Factors, Candidates}
 use Rattle.depths.proofs.ChartScaling.{AtCandidates, noCandidates-at, chart-scales}
 
 module _ {k : ℤ} where
-  module _ {e e' : SquaredEdges} (factors : Factors) (E : AtEdges k e e') where
+  module _ {e e' : SquaredEdges} (factors : Factors) (E : AtSquaredEdges k e e') where
     signTurn-scales : (eigenvectors : Matrix3) (sign : Float) {c c' : Candidates}
         → AtCandidates k c c'
         → Both (AtCandidates k)

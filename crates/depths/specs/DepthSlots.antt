@@ -1,5 +1,6 @@
 -- The depth candidates of `solve_ordered` (lambdatwist.rs): four slots and a count.
 use Prim.Native.Nat.{_+_}
+use mathlib.Core.Bool.{_&&_}
 use mathlib.Core.List.{[], _∷_}
 use lib.Dec.{ltb}
 use lib.ListN.{set}
@@ -18,8 +19,6 @@ noCandidates = record { count = 0; depths = zeros ∷ zeros ∷ zeros ∷ zeros 
 --     in the other chart of depth0
 unfoldable pub pushIfPositive : Candidates → Float → Vector3 → Candidates
 pushIfPositive found depth depths =
-    if lt plusZero depth then (
-    if ltb (found .count) 4
+    if lt plusZero depth && ltb (found .count) 4
     then record { count = found .count + 1; depths = set (found .depths) (found .count) depths }
-    else found)
     else found

@@ -23,12 +23,10 @@ impl Candidates {
     pub fn push_if_positive(mut self, depth: f64, depths: Vector3) -> Self
         ensures { λ r. ⌜ r ≡ pushIfPositive self depth depths ⌝ }
     {
-        if 0.0 < depth {
-            let at = self.count;
-            if at < 4 {
-                self.depths[at] = depths;
-                self.count = at + 1;
-            }
+        let at = self.count;
+        if (depth > 0.0) & (at < 4) {
+            self.depths[at] = depths;
+            self.count = at + 1;
         }
         self
     }

@@ -25,15 +25,15 @@ pub fn no_divisor(denominator: f64) -> bool
 pub fn first_chart_depths(
     squares: SquaredEdges,
     factors: Factors,
-    u: Vector3,
+    null_vector: Vector3,
     found: Candidates,
     tau: f64,
 ) -> Candidates
-    ensures { λ r. ⌜ r ≡ firstChartDepths squares factors u found tau .value ⌝ }
+    ensures { λ r. ⌜ r ≡ firstChartDepths squares factors «null_vector» found tau .value ⌝ }
 {
-    let u0 = u.x;
-    let u1 = u.y;
-    let u2 = u.z;
+    let u0 = null_vector.x;
+    let u1 = null_vector.y;
+    let u2 = null_vector.z;
     let depth_denominator = tau * (tau + factors.b02) + 1.0;
     if (tau <= 0.0) | (depth_denominator <= 0.0) {
         return found;
@@ -52,18 +52,18 @@ pub fn first_chart_depths(
 pub fn first_chart(
     squares: SquaredEdges,
     factors: Factors,
-    u: Vector3,
+    null_vector: Vector3,
     found: Candidates,
 ) -> Candidates
-    ensures { λ r. ⌜ r ≡ firstChart squares factors u found .value ⌝ }
+    ensures { λ r. ⌜ r ≡ firstChart squares factors «null_vector» found .value ⌝ }
 {
     let a01 = squares.a01;
     let a12 = squares.a12;
     let b01 = factors.b01;
     let b12 = factors.b12;
-    let u0 = u.x;
-    let u1 = u.y;
-    let u2 = u.z;
+    let u0 = null_vector.x;
+    let u1 = null_vector.y;
+    let u2 = null_vector.z;
     let denominator = (a12 - a01) * u2 * u2 - a01 * u1 * u1 + a01 * b12 * u1 * u2;
     if no_divisor(denominator) {
         return found;
@@ -74,8 +74,8 @@ pub fn first_chart(
     let Roots::Two(first, second) = quadratic_real_monic(quadratic_b, quadratic_c) else {
         return found;
     };
-    let once = first_chart_depths(squares, factors, u, found, first);
-    first_chart_depths(squares, factors, u, once, second)
+    let once = first_chart_depths(squares, factors, null_vector, found, first);
+    first_chart_depths(squares, factors, null_vector, once, second)
 }
 
 // One root of the second chart's quadratic.
@@ -134,14 +134,14 @@ pub fn weight_chart(
 pub fn second_chart(
     squares: SquaredEdges,
     factors: Factors,
-    u: Vector3,
+    null_vector: Vector3,
     found: Candidates,
 ) -> Candidates
-    ensures { λ r. ⌜ r ≡ secondChart squares factors u found .value ⌝ }
+    ensures { λ r. ⌜ r ≡ secondChart squares factors «null_vector» found .value ⌝ }
 {
-    let u0 = u.x;
-    let u1 = u.y;
-    let u2 = u.z;
+    let u0 = null_vector.x;
+    let u1 = null_vector.y;
+    let u2 = null_vector.z;
     if no_divisor(u0) {
         return found;
     }
@@ -151,11 +151,11 @@ pub fn second_chart(
     weight_chart(squares, factors, w0, w1, found)
 }
 
-pub fn chart(squares: SquaredEdges, factors: Factors, u: Vector3, found: Candidates) -> Candidates
-    ensures { λ r. ⌜ r ≡ chart squares factors u found .value ⌝ }
+pub fn chart(squares: SquaredEdges, factors: Factors, null_vector: Vector3, found: Candidates) -> Candidates
+    ensures { λ r. ⌜ r ≡ chart squares factors «null_vector» found .value ⌝ }
 {
-    if abs(u.x) < abs(u.y) {
-        return first_chart(squares, factors, u, found);
+    if abs(null_vector.x) < abs(null_vector.y) {
+        return first_chart(squares, factors, null_vector, found);
     }
-    second_chart(squares, factors, u, found)
+    second_chart(squares, factors, null_vector, found)
 }

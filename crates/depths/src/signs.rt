@@ -20,8 +20,8 @@ pub fn sign_turn(
 {
     let column0 = eigenvectors.column0();
     let column1 = eigenvectors.column1();
-    let null = column0.sub(column1.mul(sign));
-    chart(squares, factors, null, found)
+    let null_vector = column0.sub(column1.mul(sign));
+    chart(squares, factors, null_vector, found)
 }
 
 pub fn candidates(

@@ -118,8 +118,8 @@ module _ {k : ℤ} where
     pub record AtPrecomputed (p p' : Precomputed) : Type 0 where
       pub square : At k (pos 4) (p .square) (p' .square)
       pub product : At k (pos 4) (p .product) (p' .product)
-      pub pre0 : At k (pos 4) (p .pre0) (p' .pre0)
-      pub pre1 : At k (pos 4) (p .pre1) (p' .pre1)
+      pub precomputed0 : At k (pos 4) (p .precomputed0) (p' .precomputed0)
+      pub precomputed1 : At k (pos 4) (p .precomputed1) (p' .precomputed1)
 
     pub precompute-scales : {s s' : Float}
         → At k (pos 4) s s'
@@ -127,9 +127,9 @@ module _ {k : ℤ} where
     unfolding precompute
     precompute-scales square =
         ⊝ ! (M .m00) ⊗ ! (M .m11) >>= λ _ _ product.
-        ! (M .m01) ⊗ ! (M .m12) ⊖ ! (M .m02) ⊗ ! (M .m11) >>= λ _ _ pre0.
-        ! (M .m01) ⊗ ! (M .m02) ⊖ ! (M .m00) ⊗ ! (M .m12) >>= λ _ _ pre1.
-        pure (record { square = square; product = product; pre0 = pre0; pre1 = pre1 })
+        ! (M .m01) ⊗ ! (M .m12) ⊖ ! (M .m02) ⊗ ! (M .m11) >>= λ _ _ precomputed0.
+        ! (M .m01) ⊗ ! (M .m02) ⊖ ! (M .m00) ⊗ ! (M .m12) >>= λ _ _ precomputed1.
+        pure (record { square = square; product = product; precomputed0 = precomputed0; precomputed1 = precomputed1 })
 
     module _ {p p' : Precomputed} {e e' : Float} (P : AtPrecomputed p p')
         (E : At k (pos 2) e e') where
@@ -153,8 +153,8 @@ module _ {k : ℤ} where
           (eigenvectorByDivision m' p' e' d')
       unfolding eigenvectorByDivision ifFinite
       byDivision-same denominator =
-          ⊝ (! E ⊗ ! (M .m02) ⊕ ! (P .pre0)) ⊘ ! denominator >>= λ _ _ first.
-          ⊝ (! E ⊗ ! (M .m12) ⊕ ! (P .pre1)) ⊘ ! denominator >>= λ _ _ second.
+          ⊝ (! E ⊗ ! (M .m02) ⊕ ! (P .precomputed0)) ⊘ ! denominator >>= λ _ _ first.
+          ⊝ (! E ⊗ ! (M .m12) ⊕ ! (P .precomputed1)) ⊘ ! denominator >>= λ _ _ second.
           ! same one ⊘ √_ {n = pos 0} (! first ⊗ ! first ⊕ ! second ⊗ ! second ⊕ ! same one) >>=
           λ _ _ inverseNorm.
           ! first ⊗ ! inverseNorm >>= λ _ _ x.

@@ -1,5 +1,4 @@
--- How the eigensystem, the ratio of its values and what follows them scale, and what opens every
--- definition.
+-- How the eigensystem scales, and what opens every definition.
 pub mod EigenvectorScaling
 pub mod EigenvalueScaling
 pub mod SystemScaling

@@ -1,5 +1,5 @@
--- The eigensystem: its vectors are equal in the two runs and its values at degree 2, or neither run
--- has one. Assumes nothing.
+-- The eigensystem: its eigenvectors are equal in the two runs and its eigenvalues at degree 2, or
+-- neither run has one. Assumes nothing.
 use mathlib.Core.Path.{ap}
 use mathlib.Core.Bool.{not}
 use lib.IntN.{ℤ, pos}
@@ -34,19 +34,19 @@ module _ {A : Type 0} {R : A → A → Type 0} {k : ℤ} {none none' : Traced A}
 
 module _ {k : ℤ} where
   module _ {m m' : Matrix3} (M : AtMatrix k (pos 2) m m') where
-    systemOfPair-scales : (zeroUnit : Vector3) {s s' x x' y y' : Float}
+    systemOfPair-scales : (zero : Vector3) {s s' x x' y y' : Float}
         → At k (pos 4) s s'
         → At k (pos 2) x x'
         → At k (pos 2) y y'
-        → Both (AtSystem k) (systemOfPair m zeroUnit s x y) (systemOfPair m' zeroUnit s' x' y')
+        → Both (AtSystem k) (systemOfPair m zero s x y) (systemOfPair m' zero s' x' y')
     unfolding systemOfPair
-    systemOfPair-scales zeroUnit square firstValue secondValue =
+    systemOfPair-scales zero square firstValue secondValue =
         precompute-scales M square >>= λ _ _ p.
         eigenvectorOf-same M p firstValue >>≡ λ first.
         withVector-scales first (pure not-found) (λ column0.
         eigenvectorOf-same M p secondValue >>≡ λ second.
         withVector-scales second (pure not-found) (λ column1.
-        pure (found-at (fromColumns column0 column1 zeroUnit)
+        pure (found-at (fromColumns column0 column1 zero)
         (record { x = firstValue; y = secondValue; z = null }))))
 
     pub eigWithKnownZero-scales : Both (AtSystem k) (eigWithKnownZero m) (eigWithKnownZero m')
@@ -55,8 +55,8 @@ module _ {k : ℤ} where
         if ap not (matFinite-same M) then pure not-found
         else (
         zeroVector-same M >>≡ λ known.
-        withVector-scales known (pure not-found) (λ zeroUnit.
+        withVector-scales known (pure not-found) (λ zero.
         ! (M .m01) ⊗ ! (M .m01) >>= λ _ _ square.
         eigenvaluePair-scales M square >>= λ _ _ pair.
         withEigenvalues-scales pair (pure not-found) (λ _ _ _ _ first second.
-        systemOfPair-scales zeroUnit square first second)))
+        systemOfPair-scales zero square first second)))

@@ -17,7 +17,7 @@ abbrev pub withEigenvalues : {A : Type 0}
     → Traced A
     → (Float → Float → Traced A)
     → Traced A
-withEigenvalues (Pair first second) none k = k first second
+withEigenvalues (Pair firstValue secondValue) none k = k firstValue secondValue
 withEigenvalues NoPair none k = none
 
 -- -off_diagonal_squared - matrix[(0, 2)] * matrix[(0, 2)] - matrix[(1, 2)] * matrix[(1, 2)]
@@ -31,14 +31,15 @@ pairCoefficient m offDiagonalSquared =
 
 -- if first_value == 0.0 || second_value == 0.0 { return None; }
 unfoldable pub nonzeroPair : Float → Float → Eigenvalues
-nonzeroPair first second =
-    if eq first plusZero || eq second plusZero then NoPair else Pair first second
+nonzeroPair firstValue secondValue =
+    if eq firstValue plusZero || eq secondValue plusZero then NoPair else Pair firstValue secondValue
 
 -- if first_value.abs() < second_value.abs() {
 --     std::mem::swap(&mut first_value, &mut second_value); }
 unfoldable pub byMagnitude : Float → Float → Eigenvalues
-byMagnitude first second =
-    if lt (abs first) (abs second) then nonzeroPair second first else nonzeroPair first second
+byMagnitude firstValue secondValue =
+    if lt (abs firstValue) (abs secondValue) then nonzeroPair secondValue firstValue
+    else nonzeroPair firstValue secondValue
 
 unfoldable pub eigenvaluePair : Matrix3 → Float → Traced Eigenvalues
 eigenvaluePair m offDiagonalSquared = do
@@ -46,4 +47,5 @@ eigenvaluePair m offDiagonalSquared = do
   traceCoefficient ← ⊝ trace m
   pairTerm ← pairCoefficient m offDiagonalSquared
   roots ← quadraticRealMonic traceCoefficient pairTerm
-  withPair roots (pure NoPair) (λ first second. pure (byMagnitude first second))
+  withPair roots (pure NoPair)
+      (λ firstValue secondValue. pure (byMagnitude firstValue secondValue))

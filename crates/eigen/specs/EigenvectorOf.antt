@@ -17,9 +17,9 @@ use Rattle.eigen.specs.Types.{Vector3, Matrix3, Eigenvector, Unit, Missi
 unfoldable pub precompute : Matrix3 → Float → Traced Precomputed
 precompute m offDiagonalSquared = do
   product ← ⊝ ! (m .m00) ⊗ ! (m .m11)
-  pre0 ← ! (m .m01) ⊗ ! (m .m12) ⊖ ! (m .m02) ⊗ ! (m .m11)
-  pre1 ← ! (m .m01) ⊗ ! (m .m02) ⊖ ! (m .m00) ⊗ ! (m .m12)
-  pure (record { square = offDiagonalSquared; product = product; pre0 = pre0; pre1 = pre1 })
+  precomputed0 ← ! (m .m01) ⊗ ! (m .m12) ⊖ ! (m .m02) ⊗ ! (m .m11)
+  precomputed1 ← ! (m .m01) ⊗ ! (m .m02) ⊖ ! (m .m00) ⊗ ! (m .m12)
+  pure (record { square = offDiagonalSquared; product = product; precomputed0 = precomputed0; precomputed1 = precomputed1 })
 
 -- eigenvalue * (matrix[(0, 0)] + matrix[(1, 1)]) + product00_11
 --     - eigenvalue * eigenvalue + off_diagonal_squared
@@ -42,9 +42,9 @@ ifFinite v = if allFinite v then Unit v else Missing
 unfoldable pub eigenvectorByDivision : Matrix3 → Precomputed → Float → Float → Traced Eigenvector
 eigenvectorByDivision m p eigenvalue denominator = do
   -- let first = -(eigenvalue * matrix[(0, 2)] + precomputed0) / denominator;
-  first ← ⊝ (! eigenvalue ⊗ ! (m .m02) ⊕ ! (p .pre0)) ⊘ ! denominator
+  first ← ⊝ (! eigenvalue ⊗ ! (m .m02) ⊕ ! (p .precomputed0)) ⊘ ! denominator
   -- let second = -(eigenvalue * matrix[(1, 2)] + precomputed1) / denominator;
-  second ← ⊝ (! eigenvalue ⊗ ! (m .m12) ⊕ ! (p .pre1)) ⊘ ! denominator
+  second ← ⊝ (! eigenvalue ⊗ ! (m .m12) ⊕ ! (p .precomputed1)) ⊘ ! denominator
   -- let inverse_norm = (first * first + second * second + 1.0).sqrt().recip();
   inverseNorm ← ! one ⊘ √ (! first ⊗ ! first ⊕ ! second ⊗ ! second ⊕ ! one)
   -- Vector3::new(first * inverse_norm, second * inverse_norm, inverse_norm)

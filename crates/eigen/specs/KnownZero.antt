@@ -12,35 +12,35 @@ use Rattle.eigen.specs.EigenPair.{withEigenvalues, eigenvaluePair}
 use Rattle.eigen.specs.EigenvectorOf.{precompute, eigenvectorOf}
 use Rattle.eigen.specs.Types.{Vector3, Matrix3, Eigensystem, Found, NotFound}
 
--- ---- what follows a system: what `k` makes of its vectors and values, and `none` without one
+-- ---- what follows a system: what `k` makes of its eigenvectors and eigenvalues, and `none` without one
 abbrev pub withSystem : {A : Type 0}
     → Eigensystem
     → Traced A
     → (Matrix3 → Vector3 → Traced A)
     → Traced A
-withSystem (Found vectors values) none k = k vectors values
+withSystem (Found eigenvectors eigenvalues) none k = k eigenvectors eigenvalues
 withSystem NotFound none k = none
 
 -- Some((
 --     Matrix3::from_columns(&[eigenvector(first_value)?, eigenvector(second_value)?, zero_vector]),
 --     Vector3::new(first_value, second_value, 0.0)))
 unfoldable pub systemOfPair : Matrix3 → Vector3 → Float → Float → Float → Traced Eigensystem
-systemOfPair m zeroUnit offDiagonalSquared firstValue secondValue = do
+systemOfPair m zero offDiagonalSquared firstValue secondValue = do
   p ← precompute m offDiagonalSquared
   first ← eigenvectorOf m p firstValue
   withVector first (pure NotFound) (λ column0. do
     second ← eigenvectorOf m p secondValue
     withVector second (pure NotFound) (λ column1. do
-      let values : Vector3 = vector firstValue secondValue plusZero
-      pure (Found (fromColumns column0 column1 zeroUnit) values)))
+      let eigenvalues : Vector3 = vector firstValue secondValue plusZero
+      pure (Found (fromColumns column0 column1 zero) eigenvalues)))
 
 unfoldable pub eigWithKnownZero : Matrix3 → Traced Eigensystem
 eigWithKnownZero m =
     if not (matFinite m) then pure NotFound
     else do
       known ← zeroVector m
-      withVector known (pure NotFound) (λ zeroUnit. do
+      withVector known (pure NotFound) (λ zero. do
         -- let off_diagonal_squared = matrix[(0, 1)] * matrix[(0, 1)];
         offDiagonalSquared ← ! (m .m01) ⊗ ! (m .m01)
         pair ← eigenvaluePair m offDiagonalSquared
-        withEigenvalues pair (pure NotFound) (systemOfPair m zeroUnit offDiagonalSquared))
+        withEigenvalues pair (pure NotFound) (systemOfPair m zero offDiagonalSquared))

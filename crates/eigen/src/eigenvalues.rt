@@ -12,38 +12,42 @@ pub enum Eigenvalues {
     NoPair,
 }
 
-pub fn pair_coefficient(m: Matrix3, square: f64) -> f64
-    ensures { λ r. ⌜ r ≡ pairCoefficient m square .value ⌝ }
+pub fn pair_coefficient(m: Matrix3, off_diagonal_squared: f64) -> f64
+    ensures { λ r. ⌜ r ≡ pairCoefficient m «off_diagonal_squared» .value ⌝ }
 {
-    -square - m.m02 * m.m02 - m.m12 * m.m12 + m.m00 * (m.m11 + m.m22) + m.m11 * m.m22
+    -off_diagonal_squared - m.m02 * m.m02 - m.m12 * m.m12
+        + m.m00 * (m.m11 + m.m22)
+        + m.m11 * m.m22
 }
 
-pub fn nonzero_pair(first: f64, second: f64) -> Eigenvalues
-    ensures { λ r. ⌜ r ≡ nonzeroPair first second ⌝ }
+pub fn nonzero_pair(first_value: f64, second_value: f64) -> Eigenvalues
+    ensures { λ r. ⌜ r ≡ nonzeroPair «first_value» «second_value» ⌝ }
 {
-    if (first == 0.0) | (second == 0.0) {
+    if (first_value == 0.0) | (second_value == 0.0) {
         return Eigenvalues::NoPair;
     }
-    Eigenvalues::Pair(first, second)
+    Eigenvalues::Pair(first_value, second_value)
 }
 
 // The greater in magnitude first.
-pub fn by_magnitude(first: f64, second: f64) -> Eigenvalues
-    ensures { λ r. ⌜ r ≡ byMagnitude first second ⌝ }
+pub fn by_magnitude(first_value: f64, second_value: f64) -> Eigenvalues
+    ensures { λ r. ⌜ r ≡ byMagnitude «first_value» «second_value» ⌝ }
 {
-    if abs(first) < abs(second) {
-        return nonzero_pair(second, first);
+    if abs(first_value) < abs(second_value) {
+        return nonzero_pair(second_value, first_value);
     }
-    nonzero_pair(first, second)
+    nonzero_pair(first_value, second_value)
 }
 
-// `square` is that of the entry (0, 1).
-pub fn eigenvalue_pair(m: Matrix3, square: f64) -> Eigenvalues
-    ensures { λ r. ⌜ r ≡ eigenvaluePair m square .value ⌝ }
+pub fn eigenvalue_pair(m: Matrix3, off_diagonal_squared: f64) -> Eigenvalues
+    ensures { λ r. ⌜ r ≡ eigenvaluePair m «off_diagonal_squared» .value ⌝ }
 {
-    let Roots::Two(first, second) = quadratic_real_monic(-m.trace(), pair_coefficient(m, square))
+    let trace_coefficient = -m.trace();
+    let pair_coefficient = pair_coefficient(m, off_diagonal_squared);
+    let Roots::Two(first_value, second_value) =
+        quadratic_real_monic(trace_coefficient, pair_coefficient)
     else {
         return Eigenvalues::NoPair;
     };
-    by_magnitude(first, second)
+    by_magnitude(first_value, second_value)
 }

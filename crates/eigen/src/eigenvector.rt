@@ -14,22 +14,22 @@ use ieee754::sqrt::sqrt;
 use linalg::matrix3::Matrix3;
 use linalg::vector3::Vector3;
 
-// off_diagonal_squared, product00_11, precomputed0 and precomputed1
+// `square` is off_diagonal_squared and `product` is product00_11.
 pub struct Precomputed {
     pub square: f64,
     pub product: f64,
-    pub pre0: f64,
-    pub pre1: f64,
+    pub precomputed0: f64,
+    pub precomputed1: f64,
 }
 
-pub fn precompute(m: Matrix3, square: f64) -> Precomputed
-    ensures { λ r. ⌜ r ≡ precompute m square .value ⌝ }
+pub fn precompute(m: Matrix3, off_diagonal_squared: f64) -> Precomputed
+    ensures { λ r. ⌜ r ≡ precompute m «off_diagonal_squared» .value ⌝ }
 {
     Precomputed {
-        square,
+        square: off_diagonal_squared,
         product: -m.m00 * m.m11,
-        pre0: m.m01 * m.m12 - m.m02 * m.m11,
-        pre1: m.m01 * m.m02 - m.m00 * m.m12,
+        precomputed0: m.m01 * m.m12 - m.m02 * m.m11,
+        precomputed1: m.m01 * m.m02 - m.m00 * m.m12,
     }
 }
 
@@ -55,8 +55,8 @@ pub fn eigenvector_by_division(
 ) -> Eigenvector
     ensures { λ r. ⌜ r ≡ eigenvectorByDivision m p eigenvalue denominator .value ⌝ }
 {
-    let first = -(eigenvalue * m.m02 + p.pre0) / denominator;
-    let second = -(eigenvalue * m.m12 + p.pre1) / denominator;
+    let first = -(eigenvalue * m.m02 + p.precomputed0) / denominator;
+    let second = -(eigenvalue * m.m12 + p.precomputed1) / denominator;
     let inverse_norm = 1.0 / sqrt(first * first + second * second + 1.0);
     let vector = Vector3 {
         x: first * inverse_norm,

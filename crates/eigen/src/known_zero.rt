@@ -16,30 +16,30 @@ pub enum Eigensystem {
     NotFound,
 }
 
-// The system of a matrix, by the eigenvector of zero, the square of the entry (0, 1) and the other
-// two eigenvalues.
+// The system of a matrix, by the eigenvector of zero and the other two eigenvalues.
 pub fn system_of_pair(
     m: Matrix3,
     zero: Vector3,
-    square: f64,
-    first: f64,
-    second: f64,
+    off_diagonal_squared: f64,
+    first_value: f64,
+    second_value: f64,
 ) -> Eigensystem
-    ensures { λ r. ⌜ r ≡ systemOfPair m zero square first second .value ⌝ }
+    ensures { λ r.
+        ⌜ r ≡ systemOfPair m zero «off_diagonal_squared» «first_value» «second_value» .value ⌝ }
 {
-    let p = precompute(m, square);
-    let Eigenvector::Unit(column0) = eigenvector(m, p, first) else {
+    let p = precompute(m, off_diagonal_squared);
+    let Eigenvector::Unit(column0) = eigenvector(m, p, first_value) else {
         return Eigensystem::NotFound;
     };
-    let Eigenvector::Unit(column1) = eigenvector(m, p, second) else {
+    let Eigenvector::Unit(column1) = eigenvector(m, p, second_value) else {
         return Eigensystem::NotFound;
     };
-    let values = Vector3 {
-        x: first,
-        y: second,
+    let eigenvalues = Vector3 {
+        x: first_value,
+        y: second_value,
         z: 0.0,
     };
-    Eigensystem::Found(Matrix3::from_columns(column0, column1, zero), values)
+    Eigensystem::Found(Matrix3::from_columns(column0, column1, zero), eigenvalues)
 }
 
 pub fn eig_with_known_zero(m: Matrix3) -> Eigensystem
@@ -51,9 +51,10 @@ pub fn eig_with_known_zero(m: Matrix3) -> Eigensystem
     let Eigenvector::Unit(zero) = zero_vector(m) else {
         return Eigensystem::NotFound;
     };
-    let square = m.m01 * m.m01;
-    let Eigenvalues::Pair(first, second) = eigenvalue_pair(m, square) else {
+    let off_diagonal_squared = m.m01 * m.m01;
+    let Eigenvalues::Pair(first_value, second_value) = eigenvalue_pair(m, off_diagonal_squared)
+    else {
         return Eigensystem::NotFound;
     };
-    system_of_pair(m, zero, square, first, second)
+    system_of_pair(m, zero, off_diagonal_squared, first_value, second_value)
 }

@@ -1,12 +1,12 @@
 -- The camera point of a world point under two poses alike is at degree 1. Assumes nothing.
-use mathlib.Core.Path.{_≡_, refl, subst}
+use mathlib.Core.Path.{refl}
 use lib.IntN.{ℤ, pos}
 use Rattle.ieee754.specs.Scaling.{Both}
 use Rattle.ieee754_laws.proofs.Degrees.{_>>=_}
 use Rattle.linalg.specs.VectorScaling.{AtVector}
 use Rattle.linalg.proofs.VectorDegrees.{vecAdd-scales}
 use Rattle.linalg.proofs.MatrixDegrees.{same-matrix, columns-at, matVec-scales}
-use Rattle.frames.specs.Types.{Vector3, Matrix3, Pose}
+use Rattle.frames.specs.Types.{Vector3, Pose}
 use Rattle.frames.specs.Poses.{cameraPoint}
 use Rattle.frames.specs.FrameScaling.{AtPose}
 

@@ -11,7 +11,7 @@ pub record AtWorld (k : ℤ) (w w' : World) : Type 0 where
   pub p1 : AtVector k (pos 1) (w .p1) (w' .p1)
   pub p2 : AtVector k (pos 1) (w .p2) (w' .p2)
 
-pub record AtEdges (k : ℤ) (e e' : SquaredEdges) : Type 0 where
+pub record AtSquaredEdges (k : ℤ) (e e' : SquaredEdges) : Type 0 where
   pub a01 : At k (pos 2) (e .a01) (e' .a01)
   pub a02 : At k (pos 2) (e .a02) (e' .a02)
   pub a12 : At k (pos 2) (e .a12) (e' .a12)

@@ -4,10 +4,10 @@ use Prim.Native.Nat.{ℕ, _+_, _-_, _*_, _/_, _%_, _^_, _≤_, _<_}
 use mathlib.Core.Path.{_≡_, sym, ap, _∙_, subst}
 use mathlib.Core.Bool.{Bool}
 use native.Mathlib.Nat.{le-trans, le-of-eq, lt-of-lt-of-le, mul-assoc, mul-comm, mul-left-comm}
-use native.Mathlib.Nat.{mul-le-mul-right, le-mul-of-pos-right, mul-pos, mod-lt, div-add-mod}
+use native.Mathlib.Nat.{mul-le-mul-right, mul-pos, mod-lt, div-add-mod}
 use native.Mathlib.Omega.{arith}
 use lib.Dec.{lit<}
-use lib.Pow.{pow-add, pow-pos, pow-mono, shl-lt, shl-exact}
+use lib.Pow.{pow-add, pow-pos, shl-lt}
 use lib.Ieee.{Float, binary64, units}
 use lib.Ieee.Exact.{HasValue}
 use Rattle.ieee754.specs.Root.{roundRoot}

@@ -1,10 +1,11 @@
 -- Two or three tests by their truth, and what holds of both values of a choice. Assumes nothing.
+use mathlib.Core.Path.{_≡_, refl}
 use mathlib.Core.Bool.{Bool, true, false, not, cond, _&&_, _||_}
 use lib.Dec.{T}
 use lib.Ieee.Fits.{and-i, and-l, and-r}
-use Rattle.ieee754.specs.Traced.{if_then_else_}
+use Rattle.ieee754.specs.Traced.{Traced, pure, if_then_else_}
 
--- two tests of which one does not
+-- two tests of which one does not pass
 pub not-both-left : (a b : Bool) → T (not a) → T (not (a && b))
 not-both-left true b h = absurd h
 not-both-left false b h = tt
@@ -25,6 +26,11 @@ or-left false b t = absurd t
 pub or-right : (a b : Bool) → T b → T (a || b)
 or-right true b t = tt
 or-right false b t = t
+
+-- a test that ends at its left side where that holds, by its value
+pub or-value : (a : Bool) (m : Traced Bool) → (if a then pure true else m) .value ≡ a || m .value
+or-value true m = refl
+or-value false m = refl
 
 -- three tests that all pass
 pub three : (a b c : Bool) → T (a && b && c) → T a × T b × T c

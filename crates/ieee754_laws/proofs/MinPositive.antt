@@ -9,7 +9,7 @@ use lib.IntN.{ℤ, pos, _+ℤ_}
 use lib.Dec.{T, T-not}
 use lib.Ieee.{Float, binary64, mul, round, lt, isNan, ofBits}
 use lib.Ieee.Fits.{and-l, and-r}
-use Rattle.ieee754.specs.Literal.{double, epsilon, minPositive}
+use Rattle.ieee754.specs.Literal.{double, sixtyFour, epsilon, minPositive}
 use Rattle.ieee754.specs.CopySign.{negative}
 use Rattle.ieee754.specs.Maximum.{max}
 use Rattle.ieee754.specs.Root.{sqrt}
@@ -72,7 +72,7 @@ unfolding mulRegular inRange mul round ofBits
 epsilon32-small = tt
 
 pub epsilon64-small :
-    T (not (mulRegular (mul binary64 (double 0x4050_0000_0000_0000) epsilon) minPositive))
+    T (not (mulRegular (mul binary64 sixtyFour epsilon) minPositive))
 unfolding mulRegular inRange mul round ofBits
 epsilon64-small = tt
 

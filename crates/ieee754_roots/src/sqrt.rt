@@ -3,7 +3,6 @@
 // A guess at the root of the significand, made with floats, is settled in integers, and where
 // neither it nor the next number is right the digits are found one by one. So nothing is claimed of
 // the floats.
-ghost use mathlib.Core.Path.{_≡_};
 ghost use Prim.Native.Nat.{_*_, _^_, _≤_, _<_};
 ghost use Rattle.ieee754_roots.specs.Nearest.{IsNearest, Settled, IsResidue};
 use crate::start::half_reciprocal_root;

@@ -1,6 +1,5 @@
 -- What the proofs of several functions use; of an answer, that its poses are kept ones and its
--- slots four; what is stated of the choice of permutation; and the scaling laws of the stages, in
--- the order of a solve, up to `solve`.
+-- slots four; and the scaling laws of the stages, in the order of a solve, up to `solve`.
 mod PoseTurns
 pub mod KeptPoses
 pub mod AnswerSlots

@@ -1,7 +1,7 @@
--- The solve of eighteen doubles: `solve_ordered`, `solve_best_conditioned_permutation` and
--- `solve_solver_minimal` of lambdatwist.rs, with the refusals of document 01. An ordering is solved
--- with an allowance of retries; where it is unusable and one is left, the best conditioned of the
--- other orderings is solved with one less.
+-- The solve of eighteen doubles: `solve_ordered`, `solve_best_conditioned_permutation`, and
+-- `solve_validated` with `solve_solver_minimal` as `solve`, of lambdatwist.rs, with the refusals of
+-- document 01. An ordering is solved with an allowance of retries; where it is unusable and one is
+-- left, the best conditioned of the other orderings is solved with one less.
 use Prim.Native.Nat.{ℕ, zero, suc}
 use mathlib.Core.Bool.{not}
 use lib.Dec.{eqb}

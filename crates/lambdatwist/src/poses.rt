@@ -13,13 +13,11 @@ use p3p_common::solutions::Solutions;
 use refinement::refine_depths::Refined;
 use refinement::refine_depths::refine_depths;
 
+// Whether three depths are finite and above zero.
 pub fn all_positive(d: Vector3) -> bool
     ensures { λ r. ⌜ r ≡ allPositive d ⌝ }
 {
-    let x = d.x <= 0.0;
-    let y = d.y <= 0.0;
-    let z = d.z <= 0.0;
-    d.all_finite() & (!x & (!y & !z))
+    d.all_finite() & (!(d.x <= 0.0) & (!(d.y <= 0.0) & !(d.z <= 0.0)))
 }
 
 // The pose of three refined depths, appended where the gate lets it by. The gate tests it on the
@@ -27,18 +25,18 @@ pub fn all_positive(d: Vector3) -> bool
 pub fn push_depths(
     input: P3pInput,
     measured: Measured,
-    inverse: Matrix3,
+    world_inverse: Matrix3,
     output: Solutions,
     refined: Refined,
 ) -> Solutions
-    ensures { λ r. ⌜ r ≡ pushDepths input measured inverse output refined .value ⌝ }
+    ensures { λ r. ⌜ r ≡ pushDepths input measured «world_inverse» output refined .value ⌝ }
 {
     let bearings = measured.bearings;
     let depths = refined.depths;
     let camera0 = bearings.f0.mul(depths.x);
     let camera1 = bearings.f1.mul(depths.y);
     let camera2 = bearings.f2.mul(depths.z);
-    let rotation = rotation_from_edges(camera0.sub(camera1), camera0.sub(camera2), inverse);
+    let rotation = rotation_from_edges(camera0.sub(camera1), camera0.sub(camera2), world_inverse);
     let translation = camera0.sub(rotation.mul_vector(measured.p0));
     push_pose(input, output, rotation, translation, refined.updates)
 }
@@ -47,11 +45,11 @@ pub fn push_depths(
 pub fn pose_turn(
     input: P3pInput,
     measured: Measured,
-    inverse: Matrix3,
+    world_inverse: Matrix3,
     output: Solutions,
     depths: Vector3,
 ) -> Solutions
-    ensures { λ r. ⌜ r ≡ poseTurn input measured inverse output depths .value ⌝ }
+    ensures { λ r. ⌜ r ≡ poseTurn input measured «world_inverse» output depths .value ⌝ }
 {
     let squares = measured.squares;
     let cosines = measured.cosines;
@@ -59,11 +57,16 @@ pub fn pose_turn(
     if !all_positive(refined.depths) {
         return output;
     }
-    push_depths(input, measured, inverse, output, refined)
+    push_depths(input, measured, world_inverse, output, refined)
 }
 
-pub fn poses(input: P3pInput, measured: Measured, inverse: Matrix3, found: Candidates) -> Solutions
-    ensures { λ r. ⌜ r ≡ poses input measured inverse found .value ⌝ }
+pub fn poses(
+    input: P3pInput,
+    measured: Measured,
+    world_inverse: Matrix3,
+    found: Candidates,
+) -> Solutions
+    ensures { λ r. ⌜ r ≡ poses input measured «world_inverse» found .value ⌝ }
 {
     let count = found.count;
     let depths = found.depths;
@@ -73,7 +76,7 @@ pub fn poses(input: P3pInput, measured: Measured, inverse: Matrix3, found: Candi
         if count <= at {
             return output;
         }
-        output = pose_turn(input, measured, inverse, output, depths[at]);
+        output = pose_turn(input, measured, world_inverse, output, depths[at]);
         at += 1;
     }
     output

@@ -1,5 +1,6 @@
-// The solve of eighteen doubles: solve_ordered, solve_best_conditioned_permutation and
-// solve_solver_minimal of lambdatwist.rs, with the refusals of document 01.
+// The solve of eighteen doubles: solve_ordered, solve_best_conditioned_permutation, and
+// solve_validated with solve_solver_minimal as `solve`, of lambdatwist.rs, with the refusals of
+// document 01.
 ghost use mathlib.Core.Path.{_≡_};
 ghost use Prim.Native.Nat.{_≤_};
 ghost use Rattle.lambdatwist.specs.Solve as Solve;
@@ -73,10 +74,10 @@ fn solve_candidates(input: P3pInput, measured: Measured, found: Candidates) -> A
 {
     let d01 = measured.d01;
     let d02 = measured.d02;
-    let Basis::Inverse(inverse) = world_basis_inverse(d01, d02) else {
+    let Basis::Inverse(world_inverse) = world_basis_inverse(d01, d02) else {
         return refused(3);
     };
-    if_kept(poses(input, measured, inverse, found))
+    if_kept(poses(input, measured, world_inverse, found))
 }
 
 fn solve_root(input: P3pInput, measured: Measured, g: f64) -> Answer
@@ -115,10 +116,10 @@ fn solve_ordered(input: P3pInput, world: World, bearings: Bearings, retries: u32
     let measured = measure(world, bearings);
     let cubic = measured_cubic(measured);
     if is_unusable(cubic) {
-        if retries == 0 {
-            return refused(2);
+        if retries > 0 {
+            return solve_best_conditioned_permutation(input, retries - 1);
         }
-        return solve_best_conditioned_permutation(input, retries - 1);
+        return refused(2);
     }
     solve_cubic(input, measured, cubic)
 }

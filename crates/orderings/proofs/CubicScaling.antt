@@ -9,7 +9,7 @@ use Rattle.ieee754.specs.Scaling.{Both, At, Scales}
 use Rattle.ieee754_laws.proofs.Degrees.{same, null, !_, _⊗_, _⊘_, _⊕_, _⊖_, pure, _>>=_, _>>≡_}
 use Rattle.ieee754_laws.proofs.Degrees.{if_then_else_, abs-at, max-at, le-same, eq-same}
 use Rattle.ieee754_laws.proofs.Degrees.{finite-same, alike, equal}
-use Rattle.frames.specs.FrameScaling.{AtWorld, AtEdges}
+use Rattle.frames.specs.FrameScaling.{AtWorld, AtSquaredEdges}
 use Rattle.orderings.specs.Angles.{cosines, squaredSines}
 use Rattle.orderings.specs.Cubic.{cubicCoefficients, coefficientScale, isUnusable}
 use Rattle.orderings.specs.Condition.{foldedScale, leadingShare, leadingCubicCondition}
@@ -24,7 +24,7 @@ pub record AtCoefficients (k : ℤ) (c c' : Coefficients) : Type 0 where
 
 module _ {k : ℤ} where
   pub cubicCoefficients-scales : {e e' : SquaredEdges} (sines : SquaredSines)
-      → AtEdges k e e'
+      → AtSquaredEdges k e e'
       → Both (AtCoefficients k) (cubicCoefficients e sines) (cubicCoefficients e' sines)
   unfolding cubicCoefficients
   cubicCoefficients-scales sines e =

@@ -5,7 +5,7 @@ use Rattle.ieee754.specs.Scaling.{Both}
 use Rattle.ieee754_laws.proofs.Degrees.{pure, _>>=_}
 use Rattle.linalg.specs.VectorScaling.{AtVector}
 use Rattle.linalg.proofs.VectorDegrees.{vecSub-scales, normSquared-scales}
-use Rattle.frames.specs.FrameScaling.{AtWorld, AtEdges}
+use Rattle.frames.specs.FrameScaling.{AtWorld, AtSquaredEdges}
 use Rattle.orderings.specs.Edges.{edgeVectors, squaredEdges}
 use Rattle.orderings.specs.Types.{World, EdgeVectors}
 
@@ -27,7 +27,7 @@ module _ {k : ℤ} where
 
   pub squaredEdges-scales : {v v' : EdgeVectors}
       → AtEdgeVectors k v v'
-      → Both (AtEdges k) (squaredEdges v) (squaredEdges v')
+      → Both (AtSquaredEdges k) (squaredEdges v) (squaredEdges v')
   unfolding squaredEdges
   squaredEdges-scales v =
       normSquared-scales (v .d01) >>= λ _ _ a01.

@@ -6,7 +6,7 @@ use lib.IntN.{ℤ, pos}
 use Rattle.ieee754.specs.Scaling.{Both}
 use Rattle.ieee754_laws.proofs.Degrees.{pure, _>>=_, _>>≡_, alike}
 use Rattle.linalg.specs.VectorScaling.{AtVector}
-use Rattle.frames.specs.FrameScaling.{AtWorld, AtEdges}
+use Rattle.frames.specs.FrameScaling.{AtWorld, AtSquaredEdges}
 use Rattle.orderings.specs.Angles.{cosines, squaredSines, bearingFactors}
 use Rattle.orderings.specs.Measure.{measure, measuredCubic}
 use Rattle.orderings.specs.Types.{World, Bearings, Measured}
@@ -17,7 +17,7 @@ pub record AtMeasured (k : ℤ) (m m' : Measured) : Type 0 where
   pub p0 : AtVector k (pos 1) (m .p0) (m' .p0)
   pub d01 : AtVector k (pos 1) (m .d01) (m' .d01)
   pub d02 : AtVector k (pos 1) (m .d02) (m' .d02)
-  pub squares : AtEdges k (m .squares) (m' .squares)
+  pub squares : AtSquaredEdges k (m .squares) (m' .squares)
   pub bearings : m .bearings ≡ m' .bearings
   pub cosines : m .cosines ≡ m' .cosines
   pub factors : m .factors ≡ m' .factors

@@ -22,7 +22,7 @@ foldedScale c =
 
 unfoldable pub leadingShare : Coefficients → Traced Float
 leadingShare c =
-    -- if scale == 0.0 || !scale.is_finite() { return 0.0; }
+    -- if scale == 0.0 || !scale.is_finite() { 0.0 } else { coefficients[0].abs() / scale }
     if eq (foldedScale c) plusZero || not (finite (foldedScale c)) then pure plusZero
     else ! abs (c .cubic3) ⊘ ! foldedScale c
 

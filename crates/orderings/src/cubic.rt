@@ -49,8 +49,5 @@ pub fn is_unusable(c: Coefficients) -> bool
     ensures { λ r. ⌜ r ≡ isUnusable c .value ⌝ }
 {
     let scale = coefficient_scale(c);
-    if !is_finite(scale) {
-        return true;
-    }
-    abs(c.cubic3) <= scale * EPSILON * 64.0
+    !is_finite(scale) | (abs(c.cubic3) <= scale * EPSILON * 64.0)
 }

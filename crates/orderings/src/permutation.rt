@@ -40,7 +40,7 @@ pub fn with_condition(
 pub fn better(best: Conditioned, next: Conditioned) -> Conditioned
     ensures { λ r. ⌜ r ≡ better best next ⌝ }
 {
-    if best.condition < next.condition {
+    if next.condition > best.condition {
         return next;
     }
     best

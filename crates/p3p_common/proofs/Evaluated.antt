@@ -1,7 +1,6 @@
--- Every definition that the basis, the gates and the slots are computed with, and the refinement,
--- opened at once: under `unfolding evaluated` they compute on concrete numbers. Assumes nothing.
+-- Every definition that the basis, the gates and the slots are computed with, opened at once: under
+-- `unfolding evaluated` they compute on concrete numbers. Assumes nothing.
 use Rattle.frames.proofs.Evaluated.{evaluated as frames-evaluated}
-use Rattle.refinement.proofs.Evaluated.{evaluated as refinement-evaluated}
 use Rattle.p3p_common.specs.Input.{inputFinite}
 use Rattle.p3p_common.specs.WorldBasisInverse.{dualBasis, isSingular, worldBasisInverse}
 use Rattle.p3p_common.specs.RotationFromEdges.{rotationFromEdges}
@@ -14,7 +13,7 @@ use Rattle.p3p_common.specs.Slots.{empty, push}
 use Rattle.p3p_common.specs.PushPose.{pushGated, pushPose}
 
 unfoldable pub evaluated : Unit {0}
-unfolding frames-evaluated refinement-evaluated inputFinite dualBasis isSingular worldBasisInverse
+unfolding frames-evaluated inputFinite dualBasis isSingular worldBasisInverse
     rotationFromEdges hasNearOrthonormalColumns projectToRotation rayFits observationFits
     projectedPoseFitsMinimalSample ifValid keepPoint0 projectedGate gate empty push pushGated
     pushPose

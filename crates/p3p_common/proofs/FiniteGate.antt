@@ -1,8 +1,9 @@
 -- A pose that the gate lets by has twelve finite numbers. Its translation is tested; and it is a
 -- difference that takes in every entry of the rotation, none of which can then be a NaN or an
 -- infinity. Assumes nothing.
-use mathlib.Core.Bool.{Bool, true, false, not}
+use mathlib.Core.Bool.{not}
 use lib.Dec.{T}
+use mir.Facts.{T-not-not}
 use Rattle.ieee754.specs.Traced.{Traced, pure}
 use Rattle.ieee754.proofs.Tests.{either-way}
 use Rattle.linalg.specs.Vectors.{allFinite, vecSub}
@@ -22,10 +23,6 @@ FiniteGated (Passed p) = FinitePose p
 FiniteGated (Projected p) = FinitePose p
 FiniteGated Dropped = Unit {0}
 
-not-not : (b : Bool) → T (not (not b)) → T b
-not-not true h = tt
-not-not false h = h
-
 ifValid-finite : (gated : Pose → Gated)
     → ((p : Pose) → FinitePose p → FiniteGated (gated p))
     → (p : Pose)
@@ -34,7 +31,7 @@ ifValid-finite : (gated : Pose → Gated)
 unfolding ifValid
 ifValid-finite gated lets p whole =
     either-way FiniteGated (not (allFinite (p .translation))) (λ _. tt) (λ h.
-    let f = not-not (allFinite (p .translation)) h in
+    let f = T-not-not (allFinite (p .translation)) h in
     lets p (record { rotation = whole f; translation = f }))
 
 keepPoint0-finite : (input : P3pInput) (raw : Matrix3) (t : Vector3) (r : Matrix3)

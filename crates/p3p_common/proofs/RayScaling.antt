@@ -1,7 +1,7 @@
 -- The tests of the rays come out the same in the two runs: the camera points are at degree 1, the
 -- bearings and the rotation equal. Assumes nothing.
-use mathlib.Core.Path.{_≡_, refl, ap₂}
-use mathlib.Core.Bool.{Bool, false, _&&_}
+use mathlib.Core.Path.{_≡_, refl, ap, ap₂}
+use mathlib.Core.Bool.{Bool, false, not, _&&_}
 use lib.IntN.{ℤ, pos}
 use Rattle.ieee754.specs.Scaling.{Both}
 use Rattle.ieee754_laws.proofs.Degrees.{same, null, !_, _⊗_, pure, if_then_else_, _>>=_, lt-same}
@@ -57,7 +57,7 @@ module _ {k : ℤ} where
         let w = h .world in
         rw (← h .bearings) (
         observationFits-same (f .f0) (w .p0) >>= λ _ _ fits0.
-        if fits0 then (
+        if ap not fits0 then pure no
+        else (
         observationFits-same (f .f1) (w .p1) >>= λ _ _ fits1.
-        if fits1 then observationFits-same (f .f2) (w .p2) else pure no)
-        else pure no)
+        if ap not fits1 then pure no else observationFits-same (f .f2) (w .p2)))

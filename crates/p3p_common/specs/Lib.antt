@@ -14,4 +14,3 @@ pub mod Slots
 pub mod PushPose
 pub mod PoseSlots
 pub mod PoseScaling
-pub mod Cases

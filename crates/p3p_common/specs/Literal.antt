@@ -1,7 +1,6 @@
 -- The literals and constants of pose/p3p/common.rs, each by its bit pattern.
 use lib.Ieee.{Float}
-use Rattle.ieee754.specs.Literal.{double}
-use Rattle.refinement.specs.Literal.{ten⁻¹⁰}
+use Rattle.ieee754.specs.Literal.{double, ten⁻¹⁰}
 
 -- NEAR_ROTATION_TOLERANCE, 1e-10
 abbrev pub nearRotationTolerance : Float

@@ -21,11 +21,12 @@ hasNearOrthonormalColumns matrix =
     let second = column1 matrix in
     let third = column2 matrix in
     do
-      error0 ← normSquared first ⊖ ! one
-      error1 ← normSquared second ⊖ ! one
-      error2 ← normSquared third ⊖ ! one
+      excess0 ← normSquared first ⊖ ! one
+      excess1 ← normSquared second ⊖ ! one
+      excess2 ← normSquared third ⊖ ! one
       dot01 ← dot first second
       dot02 ← dot first third
       dot12 ← dot second third
-      error ← ! abs error0 ⊕ ! abs error1 ⊕ ! abs error2 ⊕ ! abs dot01 ⊕ ! abs dot02 ⊕ ! abs dot12
+      error ← ! abs excess0 ⊕ ! abs excess1 ⊕ ! abs excess2
+          ⊕ ! abs dot01 ⊕ ! abs dot02 ⊕ ! abs dot12
       pure (le error nearRotationTolerance)

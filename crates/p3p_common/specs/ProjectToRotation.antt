@@ -18,11 +18,12 @@ unfoldable pub projectToRotation : Matrix3 → Traced Projection
 projectToRotation matrix =
     if not (matFinite matrix) then pure Refused
     else do
-      firstNorm ← norm (column0 matrix)
+      let first = column0 matrix
+      firstNorm ← norm first
       rootEpsilon ← √ ! epsilon
       if le firstNorm rootEpsilon then pure Refused
           else do
-            first ← vecDiv (column0 matrix) firstNorm
+            first ← vecDiv first firstNorm
             -- matrix.column(1).into_owned() - first * first.dot(&matrix.column(1))
             along ← dot first (column1 matrix)
             parallel ← vecMul first along
@@ -30,6 +31,6 @@ projectToRotation matrix =
             secondNorm ← norm second
             if le secondNorm rootEpsilon then pure Refused
                 else do
-                  unit ← vecDiv second secondNorm
-                  third ← cross first unit
-                  pure (Rotation (fromColumns first unit third))
+                  second ← vecDiv second secondNorm
+                  third ← cross first second
+                  pure (Rotation (fromColumns first second third))

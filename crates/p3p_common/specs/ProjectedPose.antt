@@ -1,6 +1,6 @@
 -- projected_pose_fits_minimal_sample of pose/p3p/common.rs: `all` ends at the first observation
 -- that does not fit, and the rest are not reached.
-use mathlib.Core.Bool.{Bool, false}
+use mathlib.Core.Bool.{Bool, false, not}
 use Rattle.ieee754.specs.Traced.{Traced, pure, _>>=_, if_then_else_}
 use Rattle.frames.specs.Poses.{cameraPoint}
 use Rattle.p3p_common.specs.Types.{Vector3, Pose, P3pInput}
@@ -17,7 +17,7 @@ projectedPoseFitsMinimalSample input pose =
     let record { f0 = f0; f1 = f1; f2 = f2 } = input .bearings in
     do
       fits0 ← observationFits pose p0 f0
-      if fits0 then (do
-        fits1 ← observationFits pose p1 f1
-        if fits1 then observationFits pose p2 f2 else pure false)
-          else pure false
+      if not fits0 then pure false
+          else do
+            fits1 ← observationFits pose p1 f1
+            if not fits1 then pure false else observationFits pose p2 f2

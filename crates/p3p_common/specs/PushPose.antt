@@ -1,5 +1,5 @@
--- push_edge_basis_pose_from_positive_depths of pose/p3p/common.rs: a pose is appended to the
--- solutions where the gate lets it by.
+-- A pose appended to the solutions where the gate lets it by (push_pose_with_cheirality of
+-- pose/p3p/common.rs, as push_edge_basis_pose_from_positive_depths calls it).
 use Prim.Native.Nat.{ℕ}
 use Rattle.ieee754.specs.Traced.{Traced, pure, _>>=_}
 use Rattle.p3p_common.specs.Types.{Vector3, Matrix3, P3pInput, Gated, Passed, Projected}

@@ -3,7 +3,6 @@
 pub use Rattle.linalg.specs.declared.matrix3.Matrix3.{Matrix3}
 pub use Rattle.linalg.specs.declared.vector3.Vector3.{Vector3}
 pub use Rattle.frames.specs.declared.pose.Pose.{Pose}
-pub use Rattle.refinement.specs.declared.refine_depths.Refined.{Refined}
 pub use Rattle.p3p_common.specs.declared.gate.Gated.{Gated}
 pub use Rattle.p3p_common.specs.declared.gate.Gated.the-variants.{Passed, Projected, Dropped}
 pub use Rattle.p3p_common.specs.declared.input.P3pInput.{P3pInput}

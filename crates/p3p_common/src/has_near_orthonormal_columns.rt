@@ -13,12 +13,11 @@ pub fn has_near_orthonormal_columns(matrix: Matrix3) -> bool
     let first = matrix.column0();
     let second = matrix.column1();
     let third = matrix.column2();
-    let error0 = abs(first.norm_squared() - 1.0);
-    let error1 = abs(second.norm_squared() - 1.0);
-    let error2 = abs(third.norm_squared() - 1.0);
-    let dot01 = abs(first.dot(second));
-    let dot02 = abs(first.dot(third));
-    let dot12 = abs(second.dot(third));
-    let error = error0 + error1 + error2 + dot01 + dot02 + dot12;
+    let error = abs(first.norm_squared() - 1.0)
+        + abs(second.norm_squared() - 1.0)
+        + abs(third.norm_squared() - 1.0)
+        + abs(first.dot(second))
+        + abs(first.dot(third))
+        + abs(second.dot(third));
     error <= NEAR_ROTATION_TOLERANCE
 }

@@ -17,20 +17,19 @@ pub fn project_to_rotation(matrix: Matrix3) -> Projection
     if !matrix.all_finite() {
         return Projection::Refused;
     }
-    let column0 = matrix.column0();
-    let first_norm = column0.norm();
+    let first = matrix.column0();
+    let first_norm = first.norm();
     if first_norm <= sqrt(EPSILON) {
         return Projection::Refused;
     }
-    let first = column0.div(first_norm);
+    let first = first.div(first_norm);
     let column1 = matrix.column1();
-    let along = first.mul(first.dot(column1));
-    let rest = column1.sub(along);
-    let second_norm = rest.norm();
+    let second = column1.sub(first.mul(first.dot(column1)));
+    let second_norm = second.norm();
     if second_norm <= sqrt(EPSILON) {
         return Projection::Refused;
     }
-    let second = rest.div(second_norm);
+    let second = second.div(second_norm);
     let third = first.cross(second);
     Projection::Rotation(Matrix3::from_columns(first, second, third))
 }

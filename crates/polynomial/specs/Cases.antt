@@ -4,8 +4,8 @@ use Prim.Native.Nat.{ℕ}
 use mathlib.Core.Bool.{Bool, true, false, _&&_}
 use mathlib.Core.List.{List, [], _∷_}
 use lib.Dec.{eqb}
-use lib.Ieee.{Float, binary64, toBits}
-use Rattle.ieee754.specs.Literal.{double}
+use lib.Ieee.{Float}
+use Rattle.ieee754.specs.Literal.{double, hasBits}
 use Rattle.polynomial.specs.Answer.{number, values}
 use Rattle.polynomial.specs.Quadratic.{quadraticRealMonic}
 use Rattle.polynomial.specs.PolishedRoot.{polishedCubicRoot}
@@ -16,7 +16,7 @@ unfoldable pub haveBits : List Float → List ℕ → Bool
 haveBits [] [] = true
 haveBits [] (w ∷ ws) = false
 haveBits (x ∷ xs) [] = false
-haveBits (x ∷ xs) (w ∷ ws) = eqb (toBits binary64 x) w && haveBits xs ws
+haveBits (x ∷ xs) (w ∷ ws) = hasBits x w && haveBits xs ws
 
 -- the answer's number and values are these
 unfoldable pub answers : Roots → ℕ → List ℕ → Bool

@@ -30,13 +30,13 @@ use denote.Exit.{yes}
 use Rattle.frames.specs.declared.squared_edges.SquaredEdges.{SquaredEdges}
 use Rattle.frames.specs.declared.cosines.Cosines.{Cosines}
 use Rattle.refine_in_place.proofs.Loan.{Row, val, Fit, had}
-use Rattle.refine_in_place.proofs.Structs.{EdgesS, CosinesS}
+use Rattle.refine_in_place.proofs.Structs.{SquaresS, CosinesS}
 
 pub record Others : Type 0 where
-  pub edges : SquaredEdges
+  pub squares : SquaredEdges
   pub cosines : Cosines
   pub iterations : ℕ
-  pub edges-fit : Fit EdgesS edges
+  pub squares-fit : Fit SquaresS squares
   pub cosines-fit : Fit CosinesS cosines
   pub iterations-fit : iterations < 2 ^ 32
 
@@ -44,56 +44,56 @@ abbrev pub Args : Type 0
 Args = SquaredEdges × (Cosines × (ℕ × Unit {0}))
 
 abbrev pub args : Others → Args
-args p = (p .edges, (p .cosines, (p .iterations, tt)))
+args p = (p .squares, (p .cosines, (p .iterations, tt)))
 
 abbrev pub of : (x : Args)
-    → Fit EdgesS (x .0)
+    → Fit SquaresS (x .0)
     × (Fit CosinesS (x .1 .0) × (Is u32 (x .1 .1 .0) (vint w32 (x .1 .1 .0) ∷ []) × Unit {0}))
     → Others
 of x are = record {
-  edges = x .0;
+  squares = x .0;
   cosines = x .1 .0;
   iterations = x .1 .1 .0;
-  edges-fit = are .0;
+  squares-fit = are .0;
   cosines-fit = are .1 .0;
   iterations-fit = are .1 .1 .0 .1;
 }
 
 abbrev pub vals : Others → List Val × (List Val × (List Val × Unit {0}))
 vals p = (
-  val EdgesS (p .edges) ∷ [],
+  val SquaresS (p .squares) ∷ [],
   (val CosinesS (p .cosines) ∷ [], (vint w32 (p .iterations) ∷ [], tt)),
 )
 
 abbrev pub rows : List RattleType
-rows = Row EdgesS ∷ Row CosinesS ∷ u32 ∷ []
+rows = Row SquaresS ∷ Row CosinesS ∷ u32 ∷ []
 
 abbrev pub spelt : Spells rows
 spelt = (
-  LL.vals (EdgesS .type) (EdgesS .laws),
+  LL.vals (SquaresS .type) (SquaresS .laws),
   (LL.vals (CosinesS .type) (CosinesS .laws), (uint-vals w32, tt)),
 )
 
 abbrev pub tells : Tellss rows (Ises rows) spelt
 tells = (
-  LL.tells (EdgesS .type) (EdgesS .laws),
+  LL.tells (SquaresS .type) (SquaresS .laws),
   (LL.tells (CosinesS .type) (CosinesS .laws), (uint-tells w32, tt)),
 )
 
 module _ (n : ℕ) where
   abbrev pub slots : List (Slot n)
-  slots = plain (λ _. Row EdgesS) ∷ plain (λ _. Row CosinesS) ∷ plain (λ _. u32) ∷ []
+  slots = plain (λ _. Row SquaresS) ∷ plain (λ _. Row CosinesS) ∷ plain (λ _. u32) ∷ []
 
   abbrev pub stayed : Stays slots (all yes slots)
   stayed = (
-    stay-none (λ _. Row EdgesS) yes,
+    stay-none (λ _. Row SquaresS) yes,
     (stay-none (λ _. Row CosinesS) yes, (stay-none (λ _. u32) yes, tt)),
   )
 
   pub gone : {M : Type 1} (𝓤 : URA M) (H : Heap 𝓤) (A : Atoms 𝓤) (W : Given 𝓤 H A)
       → AllGo 𝓤 H A W n slots (all yes slots) stayed
   gone 𝓤 H A W = (
-    goes-none 𝓤 H A W n (λ _. Row EdgesS) yes (λ κs x f. refl),
+    goes-none 𝓤 H A W n (λ _. Row SquaresS) yes (λ κs x f. refl),
     (
       goes-none 𝓤 H A W n (λ _. Row CosinesS) yes (λ κs x f. refl),
       (goes-none 𝓤 H A W n (λ _. u32) yes (λ κs x f. refl), tt),
@@ -111,6 +111,6 @@ module _ {M : Type 1} {𝓤 : URA M} {H : Heap 𝓤} {A : Atoms 𝓤} {K : Type 
       fjoin t $
       had t CosinesS (p .cosines) (p .cosines-fit) $
       fjoin t $
-      had t EdgesS (p .edges) (p .edges-fit) $
+      had t SquaresS (p .squares) (p .squares-fit) $
       fjoin t $
       s)

@@ -7,8 +7,8 @@ use denote.Struct.Laws as LL
 use Rattle.refinement.specs.declared.refine_depths.Refined.{Refined}
 use Rattle.linalg.proofs.vector3.Vector3 as vector
 use Rattle.linalg.proofs.vector3.Vector3.Laws as vector-laws
-use Rattle.frames.proofs.squared_edges.SquaredEdges as edges
-use Rattle.frames.proofs.squared_edges.SquaredEdges.Laws as edges-laws
+use Rattle.frames.proofs.squared_edges.SquaredEdges as squares
+use Rattle.frames.proofs.squared_edges.SquaredEdges.Laws as squares-laws
 use Rattle.frames.proofs.cosines.Cosines as cosines
 use Rattle.frames.proofs.cosines.Cosines.Laws as cosines-laws
 use Rattle.refinement.proofs.refine_depths.Refined as refined
@@ -19,8 +19,8 @@ abbrev pub VectorS : PlainStruct
 VectorS =
     record { type = vector.the-type; laws = vector-laws.the-laws; plain = vector-laws.the-plain }
 
-abbrev pub EdgesS : PlainStruct
-EdgesS = record { type = edges.the-type; laws = edges-laws.the-laws; plain = edges-laws.the-plain }
+abbrev pub SquaresS : PlainStruct
+SquaresS = record { type = squares.the-type; laws = squares-laws.the-laws; plain = squares-laws.the-plain }
 
 abbrev pub CosinesS : PlainStruct
 CosinesS =

@@ -1,5 +1,4 @@
 -- The refinement with n turns makes at most n updates. Assumes nothing.
-use mathlib.Core.Path.{_≡_, refl}
 use Prim.Native.Nat.{ℕ, zero, suc, _+_, _≤_}
 use native.Mathlib.Omega.{arith}
 use lib.Ieee.{Float}
@@ -8,16 +7,16 @@ use Rattle.refinement.specs.RefineDepths.{depthStep, afterStep, refineTu
 use Rattle.refinement.specs.Types.{Vector3, SquaredEdges, Cosines, Refined, Step, Next, Stop}
 
 -- ---- the updates of a refinement
-module _ (edges : SquaredEdges) (cosines : Cosines) where
+module _ (squares : SquaredEdges) (cosines : Cosines) where
   turns-few : (n : ℕ) (d : Vector3) (tolerance : Float) (u : ℕ)
-      → refineTurns n d edges cosines tolerance u .value .updates ≤ u + n
+      → refineTurns n d squares cosines tolerance u .value .updates ≤ u + n
   unfolding refineTurns
   turns-few zero d tolerance u = omega arith
   turns-few (suc n) d tolerance u =
-      go (depthStep d edges cosines tolerance .value) (λ v. turns-few n v tolerance (u + 1))
+      go (depthStep d squares cosines tolerance .value) (λ v. turns-few n v tolerance (u + 1))
     where
       rest-from : Vector3 → Traced Refined
-      rest-from v = refineTurns n v edges cosines tolerance (u + 1)
+      rest-from v = refineTurns n v squares cosines tolerance (u + 1)
 
       go : (step : Step)
           → ((v : Vector3) → rest-from v .value .updates ≤ u + 1 + n)
@@ -26,8 +25,8 @@ module _ (edges : SquaredEdges) (cosines : Cosines) where
       go Stop rest = omega arith
       go (Next v) rest = let r = rest v in omega arith
 
-  pub updates-few : (d : Vector3) (n : ℕ) → refineDepths d edges cosines n .value .updates ≤ n
+  pub updates-few : (d : Vector3) (n : ℕ) → refineDepths d squares cosines n .value .updates ≤ n
   unfolding refineDepths
   updates-few d n =
-      let h : refineDepths d edges cosines n .value .updates ≤ 0 + n = turns-few n d _ 0 in
+      let h : refineDepths d squares cosines n .value .updates ≤ 0 + n = turns-few n d _ 0 in
       omega arith

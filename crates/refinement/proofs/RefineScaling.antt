@@ -5,7 +5,7 @@ use mathlib.Core.Bool.{not, _||_}
 use Prim.Native.Nat.{ℕ, zero, suc, _+_}
 use lib.IntN.{ℤ, pos}
 use lib.Ieee.{Float}
-use Rattle.ieee754.specs.Literal.{half, two}
+use Rattle.ieee754.specs.Literal.{half, two, ten⁻¹⁰}
 use Rattle.ieee754.specs.Traced.{Traced}
 use Rattle.ieee754.specs.Scaling.{Both, At}
 use Rattle.ieee754_laws.proofs.Degrees.{same, null, !_, ⊝_, _⊗_, _⊘_, _⊕_, _⊖_, pure, if_then_else_}
@@ -13,10 +13,9 @@ use Rattle.ieee754_laws.proofs.Degrees.{_>>=_, choose, max-at, lt-same, eq-same
 use Rattle.linalg.specs.VectorScaling.{AtVector}
 use Rattle.linalg.proofs.VectorDegrees.{absSum-scales, allFinite-same}
 use Rattle.refinement.specs.Types.{Vector3, SquaredEdges, Cosines, Step, Next, Stop}
-use Rattle.refinement.specs.Literal.{ten⁻¹⁰}
 use Rattle.refinement.specs.RefineDepths.{depthResidual, ifFinite, depthUpdate, depthStep}
 use Rattle.refinement.specs.RefineDepths.{afterStep, refineTurns, refineDepths}
-use Rattle.frames.specs.FrameScaling.{AtEdges}
+use Rattle.frames.specs.FrameScaling.{AtSquaredEdges}
 use Rattle.refinement.specs.RefinedScaling.{AtRefined}
 
 -- both stop, or both go on
@@ -36,23 +35,23 @@ module _ {A : Type 0} {R : A → A → Type 0} {k : ℤ} {none none' : Traced A}
   afterStep-scales stop-at none next = none
 
 module _ {k : ℤ} (cosines : Cosines) where
-  depthResidual-scales : {depths depths' : Vector3} {edges edges' : SquaredEdges}
+  depthResidual-scales : {depths depths' : Vector3} {squares squares' : SquaredEdges}
       → AtVector k (pos 1) depths depths'
-      → AtEdges k edges edges'
+      → AtSquaredEdges k squares squares'
       → Both (AtVector k (pos 2))
-      (depthResidual depths edges cosines)
-      (depthResidual depths' edges' cosines)
+      (depthResidual depths squares cosines)
+      (depthResidual depths' squares' cosines)
   unfolding depthResidual
-  depthResidual-scales depths edges =
+  depthResidual-scales depths squares =
       let d0 = depths .x in
       let d1 = depths .y in
       let d2 = depths .z in
       let m01 = same (cosines .m01) in
       let m02 = same (cosines .m02) in
       let m12 = same (cosines .m12) in
-      ! d0 ⊗ ! d0 ⊖ ! same two ⊗ ! d0 ⊗ ! d1 ⊗ ! m01 ⊕ ! d1 ⊗ ! d1 ⊖ ! (edges .a01) >>= λ _ _ r0.
-      ! d0 ⊗ ! d0 ⊖ ! same two ⊗ ! d0 ⊗ ! d2 ⊗ ! m02 ⊕ ! d2 ⊗ ! d2 ⊖ ! (edges .a02) >>= λ _ _ r1.
-      ! d1 ⊗ ! d1 ⊖ ! same two ⊗ ! d1 ⊗ ! d2 ⊗ ! m12 ⊕ ! d2 ⊗ ! d2 ⊖ ! (edges .a12) >>= λ _ _ r2.
+      ! d0 ⊗ ! d0 ⊖ ! same two ⊗ ! d0 ⊗ ! d1 ⊗ ! m01 ⊕ ! d1 ⊗ ! d1 ⊖ ! (squares .a01) >>= λ _ _ r0.
+      ! d0 ⊗ ! d0 ⊖ ! same two ⊗ ! d0 ⊗ ! d2 ⊗ ! m02 ⊕ ! d2 ⊗ ! d2 ⊖ ! (squares .a02) >>= λ _ _ r1.
+      ! d1 ⊗ ! d1 ⊖ ! same two ⊗ ! d1 ⊗ ! d2 ⊗ ! m12 ⊕ ! d2 ⊗ ! d2 ⊖ ! (squares .a12) >>= λ _ _ r2.
       pure (record { x = r0; y = r1; z = r2 })
 
   ifFinite-scales : {v v' : Vector3} → AtVector k (pos 1) v v' → AtStep k (ifFinite v) (ifFinite v')
@@ -95,16 +94,16 @@ module _ {k : ℤ} (cosines : Cosines) where
       pure (ifFinite-scales (record { x = c0; y = c1; z = c2 })))
 
   -- ---- the loop
-  module _ {edges edges' : SquaredEdges} {tolerance tolerance' : Float}
-      (edges-at : AtEdges k edges edges') (tolerance-at : At k (pos 2) tolerance tolerance') where
+  module _ {squares squares' : SquaredEdges} {tolerance tolerance' : Float}
+      (squares-at : AtSquaredEdges k squares squares') (tolerance-at : At k (pos 2) tolerance tolerance') where
     depthStep-scales : {depths depths' : Vector3}
         → AtVector k (pos 1) depths depths'
         → Both (AtStep k)
-        (depthStep depths edges cosines tolerance)
-        (depthStep depths' edges' cosines tolerance')
+        (depthStep depths squares cosines tolerance)
+        (depthStep depths' squares' cosines tolerance')
     unfolding depthStep
     depthStep-scales depths =
-        depthResidual-scales depths edges-at >>= λ _ _ residual.
+        depthResidual-scales depths squares-at >>= λ _ _ residual.
         absSum-scales residual >>= λ _ _ residualNorm.
         if lt-same residualNorm tolerance-at then pure stop-at
         else depthUpdate-scales depths residual
@@ -112,8 +111,8 @@ module _ {k : ℤ} (cosines : Cosines) where
     refineTurns-scales : (n u : ℕ) {depths depths' : Vector3}
         → AtVector k (pos 1) depths depths'
         → Both (AtRefined k)
-        (refineTurns n depths edges cosines tolerance u)
-        (refineTurns n depths' edges' cosines tolerance' u)
+        (refineTurns n depths squares cosines tolerance u)
+        (refineTurns n depths' squares' cosines tolerance' u)
     unfolding refineTurns
     refineTurns-scales zero u depths = pure (record { depths = depths; updates = refl })
     refineTurns-scales (suc n) u {depths} {depths'} h =
@@ -124,14 +123,14 @@ module _ {k : ℤ} (cosines : Cosines) where
         depthStep-scales h >>= λ _ _ step.
         afterStep-scales step (pure now) (λ _ _ next. refineTurns-scales n (u + 1) next)
 
-  pub refineDepths-scales : {depths depths' : Vector3} {edges edges' : SquaredEdges}
+  pub refineDepths-scales : {depths depths' : Vector3} {squares squares' : SquaredEdges}
       (iterations : ℕ)
       → AtVector k (pos 1) depths depths'
-      → AtEdges k edges edges'
+      → AtSquaredEdges k squares squares'
       → Both (AtRefined k)
-      (refineDepths depths edges cosines iterations)
-      (refineDepths depths' edges' cosines iterations)
+      (refineDepths depths squares cosines iterations)
+      (refineDepths depths' squares' cosines iterations)
   unfolding refineDepths
-  refineDepths-scales iterations depths edges =
-      ! same ten⁻¹⁰ ⊗ ! max-at (max-at (edges .a01) (edges .a02)) (edges .a12) >>= λ _ _ tolerance.
-      refineTurns-scales edges tolerance iterations 0 depths
+  refineDepths-scales iterations depths squares =
+      ! same ten⁻¹⁰ ⊗ ! max-at (max-at (squares .a01) (squares .a02)) (squares .a12) >>= λ _ _ tolerance.
+      refineTurns-scales squares tolerance iterations 0 depths

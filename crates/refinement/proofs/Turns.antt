@@ -7,25 +7,25 @@ use lib.Ieee.{Float}
 use Rattle.refinement.specs.Types.{Vector3, SquaredEdges, Cosines, Next, Stop}
 use Rattle.refinement.specs.RefineDepths.{depthStep, refineTurns}
 
-module _ (depths : Vector3) (edges : SquaredEdges) (cosines : Cosines) (tolerance : Float)
+module _ (depths : Vector3) (squares : SquaredEdges) (cosines : Cosines) (tolerance : Float)
     (n u : ℕ) where
   pub turns-stop : u < n
-      → depthStep depths edges cosines tolerance .value ≡ Stop
+      → depthStep depths squares cosines tolerance .value ≡ Stop
       → record { depths = depths; updates = u }
-      ≡ refineTurns (n - u) depths edges cosines tolerance u .value
+      ≡ refineTurns (n - u) depths squares cosines tolerance u .value
   unfolding refineTurns
   turns-stop h e = let left : n - u ≡ suc (n - (u + 1)) = omega arith in rw (left, e)
 
   pub turns-go : (next : Vector3)
       → u < n
-      → depthStep depths edges cosines tolerance .value ≡ Next next
-      → refineTurns (n - (u + 1)) next edges cosines tolerance (u + 1) .value
-      ≡ refineTurns (n - u) depths edges cosines tolerance u .value
+      → depthStep depths squares cosines tolerance .value ≡ Next next
+      → refineTurns (n - (u + 1)) next squares cosines tolerance (u + 1) .value
+      ≡ refineTurns (n - u) depths squares cosines tolerance u .value
   unfolding refineTurns
   turns-go next h e = let left : n - u ≡ suc (n - (u + 1)) = omega arith in rw (left, e)
 
   pub turns-end : n ≤ u
       → record { depths = depths; updates = u }
-      ≡ refineTurns (n - u) depths edges cosines tolerance u .value
+      ≡ refineTurns (n - u) depths squares cosines tolerance u .value
   unfolding refineTurns
   turns-end h = let left : n - u ≡ 0 = omega arith in rw left

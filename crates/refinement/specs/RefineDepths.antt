@@ -4,12 +4,11 @@ use Prim.Native.Nat.{ℕ, zero, suc, _+_}
 use mathlib.Core.Bool.{not, _||_}
 use lib.Ieee.{Float, lt, eq}
 use lib.Ieee.Scale.{finite}
-use Rattle.ieee754.specs.Literal.{plusZero, half, two}
+use Rattle.ieee754.specs.Literal.{plusZero, half, two, ten⁻¹⁰}
 use Rattle.ieee754.specs.Maximum.{max}
 use Rattle.ieee754.specs.Traced.{Traced, pure, _>>=_, if_then_else_, _⊗_, _⊕_, _⊖_, _⊘_, !_, ⊝_}
 use Rattle.linalg.specs.Vectors.{vector, absSum, allFinite}
 use Rattle.refinement.specs.Types.{Vector3, SquaredEdges, Cosines, Refined, Step, Next, Stop}
-use Rattle.refinement.specs.Literal.{ten⁻¹⁰}
 
 -- ---- what follows a turn: `none` where it stops, and else what `k` makes of the new depths
 abbrev pub afterStep : {A : Type 0} → Step → Traced A → (Vector3 → Traced A) → Traced A

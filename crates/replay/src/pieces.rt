@@ -50,7 +50,7 @@ pub fn length(piece: Piece) -> usize
 // Depths, squared edges, cosines and the limit; the updates and the depths.
 fn refine_holds(s: &[u8; 632]) -> bool {
     let depths = vector_at(s, 0);
-    let edges = SquaredEdges {
+    let squared_edges = SquaredEdges {
         a01: from_bits(word(s, 24)),
         a02: from_bits(word(s, 32)),
         a12: from_bits(word(s, 40)),
@@ -60,7 +60,7 @@ fn refine_holds(s: &[u8; 632]) -> bool {
         m02: from_bits(word(s, 56)),
         m12: from_bits(word(s, 64)),
     };
-    let refined = refine_depths(depths, edges, cosines, narrow(word(s, 72)));
+    let refined = refine_depths(depths, squared_edges, cosines, narrow(word(s, 72)));
     let after = refined.depths;
     (refined.updates as u64 == word(s, 80)) & vector_agrees(after, s, 88)
 }

@@ -59,12 +59,12 @@ fn frame_holds(s: &[u8; 632]) -> bool {
 }
 
 fn eig_holds(s: &[u8; 632]) -> bool {
-    let Eigensystem::Found(vectors, values) = eig_with_known_zero(matrix_at(s, 0)) else {
+    let Eigensystem::Found(eigenvectors, eigenvalues) = eig_with_known_zero(matrix_at(s, 0)) else {
         return word(s, 72) == 0;
     };
-    let columns = matrix_agrees(vectors, s, 80);
-    let pair = vector_agrees(values, s, 152);
-    (word(s, 72) == 1) & columns & pair
+    let columns = matrix_agrees(eigenvectors, s, 80);
+    let values = vector_agrees(eigenvalues, s, 152);
+    (word(s, 72) == 1) & columns & values
 }
 
 fn row_crosses_holds(s: &[u8; 632]) -> bool {

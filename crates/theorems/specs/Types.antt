@@ -5,6 +5,7 @@ pub use Rattle.frames.specs.declared.bearings.Bearings.{Bearings}
 pub use Rattle.frames.specs.declared.pose.Pose.{Pose}
 pub use Rattle.frames.specs.declared.world.World.{World}
 pub use Rattle.polynomial.specs.declared.Roots.{Roots}
+pub use Rattle.refinement.specs.declared.refine_depths.Refined.{Refined}
 pub use Rattle.p3p_common.specs.declared.input.P3pInput.{P3pInput}
 pub use Rattle.p3p_common.specs.declared.solutions.Solutions.{Solutions}
 pub use Rattle.p3p_common.specs.declared.world_basis_inverse.Basis.{Basis}

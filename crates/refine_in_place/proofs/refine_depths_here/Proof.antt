@@ -51,7 +51,7 @@ use Rattle.linalg.specs.declared.vector3.Vector3.{Vector3}
 use Rattle.refinement.specs.declared.refine_depths.Refined.{Refined}
 use Rattle.refine_in_place.proofs.Loan.{meets, Row, val, Fit, ref, typed, had, lends-local}
 use Rattle.refine_in_place.proofs.Loan.{local-back}
-use Rattle.refine_in_place.proofs.Structs.{VectorS, EdgesS, CosinesS, RefinedS, refined-fits}
+use Rattle.refine_in_place.proofs.Structs.{VectorS, SquaresS, CosinesS, RefinedS, refined-fits}
 use Rattle.refine_in_place.proofs.Others.{Others, Args as OtherArgs, args as others, of}
 use Rattle.refine_in_place.proofs.Others.{vals, spelt, tells, stayed as others-stayed}
 use Rattle.refine_in_place.proofs.Others.{gone as others-gone, had-others}
@@ -79,7 +79,7 @@ module _ {M : Type 1} (𝓤 : URA M) (H : Heap 𝓤) (A : Atoms 𝓤) (W : Given
     (d : Vector3) (d-fits : Fit VectorS d) (p : Others) where
   -- what the definition gives
   abbrev out : Refined
-  out = refineDepths d (p .edges) (p .cosines) (p .iterations) .value
+  out = refineDepths d (p .squares) (p .cosines) (p .iterations) .value
 
   -- the arguments
   abbrev Args : Type 0
@@ -90,7 +90,7 @@ module _ {M : Type 1} (𝓤 : URA M) (H : Heap 𝓤) (A : Atoms 𝓤) (W : Given
 
   abbrev passed : List Val
   passed =
-      val VectorS d ∷ val EdgesS (p .edges) ∷ val CosinesS (p .cosines) ∷ vint w32 (p .iterations)
+      val VectorS d ∷ val SquaresS (p .squares) ∷ val CosinesS (p .cosines) ∷ vint w32 (p .iterations)
       ∷ []
 
   abbrev Post : Val → SProp 𝓤
@@ -191,7 +191,7 @@ module _ {M : Type 1} (𝓤 : URA M) (H : Heap 𝓤) (A : Atoms 𝓤) (W : Given
         alloc1 ! (λ l₀. alloc1 ! (λ l₁. alloc1 ! (λ l₂. alloc1 ! (λ l₃. alloc1 ! (λ l₄.
         alloc1 ! (λ l₅. alloc1 ! (λ l₆. alloc1 ! (λ l₇. alloc1 ! (λ l₈. alloc0 ! $ params1 ! $
         pass1 ! (init ! 14 refl (typed VectorS 𝓤 H A W d d-fits)) $
-        pass1 ! (init ! 12 refl (typed EdgesS 𝓤 H A W (p .edges) (p .edges-fit))) $
+        pass1 ! (init ! 12 refl (typed SquaresS 𝓤 H A W (p .squares) (p .squares-fit))) $
         pass1 ! (init ! 10 refl (typed CosinesS 𝓤 H A W (p .cosines) (p .cosines-fit))) $
         pass1 ! (init ! 8 refl (tt, record { fits = p .iterations-fit })) $
         pass0 ! $

@@ -52,7 +52,7 @@ use Rattle.linalg.specs.declared.vector3.Vector3.{Vector3}
 use Rattle.refinement.specs.declared.refine_depths.Refined.{Refined}
 use Rattle.refine_in_place.proofs.Loan.{meets, Row, val, Fit, Mir, ref, returned, typed}
 use Rattle.refine_in_place.proofs.Loan.{had, shut, opens-lent, closes-lent}
-use Rattle.refine_in_place.proofs.Structs.{VectorS, EdgesS, CosinesS, RefinedS, depths-fit}
+use Rattle.refine_in_place.proofs.Structs.{VectorS, SquaresS, CosinesS, RefinedS, depths-fit}
 use Rattle.refine_in_place.proofs.Structs.{updates-fit}
 use Rattle.refine_in_place.proofs.Others.{Others, Args as OtherArgs, args as others, of}
 use Rattle.refine_in_place.proofs.Others.{vals, rows, spelt, tells, stayed as others-stayed}
@@ -84,7 +84,7 @@ module _ {M : Type 1} (𝓤 : URA M) (H : Heap 𝓤) (A : Atoms 𝓤) (W : Given
     (κ : Lft) (q : Share) (b o : ℕ) (γ : GName) (d : Vector3) (p : Others) where
   -- what the definition gives: the triple at exit is its depths, and the result its updates
   abbrev out : Refined
-  out = refineDepths d (p .edges) (p .cosines) (p .iterations) .value
+  out = refineDepths d (p .squares) (p .cosines) (p .iterations) .value
 
   -- the arguments
   abbrev Args : Type 0
@@ -95,7 +95,7 @@ module _ {M : Type 1} (𝓤 : URA M) (H : Heap 𝓤) (A : Atoms 𝓤) (W : Given
 
   abbrev passed : List Val
   passed =
-      vptr b o ∷ val EdgesS (p .edges) ∷ val CosinesS (p .cosines) ∷ vint w32 (p .iterations) ∷ []
+      vptr b o ∷ val SquaresS (p .squares) ∷ val CosinesS (p .cosines) ∷ vint w32 (p .iterations) ∷ []
 
   abbrev Post : Val → SProp 𝓤
   Post =
@@ -186,7 +186,7 @@ module _ {M : Type 1} (𝓤 : URA M) (H : Heap 𝓤) (A : Atoms 𝓤) (W : Given
         alloc1 ! (λ l₀. alloc1 ! (λ l₁. alloc1 ! (λ l₂.
         alloc1 ! (λ l₃. alloc1 ! (λ l₄. alloc1 ! (λ l₅. alloc1 ! (λ l₆. alloc0 ! $ params1 ! $
         pass1 ! (init ! 10 refl (tt, tt)) $
-        pass1 ! (init ! 8 refl (typed EdgesS 𝓤 H A W (p .edges) (p .edges-fit))) $
+        pass1 ! (init ! 8 refl (typed SquaresS 𝓤 H A W (p .squares) (p .squares-fit))) $
         pass1 ! (init ! 6 refl (typed CosinesS 𝓤 H A W (p .cosines) (p .cosines-fit))) $
         pass1 ! (init ! 4 refl (tt, record { fits = p .iterations-fit })) $
         pass0 ! $

@@ -1,19 +1,15 @@
 -- `depths::ratio::ratio_of` meets its contract. Assumes nothing.
 use borrow.Author.Needs.{needs}
-use mathlib.Core.Path.{_≡_, refl}
-use mathlib.Core.Bool.{Bool, true, false, not, _||_}
+use mathlib.Core.Path.{_≡_}
+use mathlib.Core.Bool.{not, _||_}
 use lib.Ieee.{Float, lt}
 use lib.Ieee.Scale.{finite}
 use Rattle.ieee754.specs.Literal.{sixtyFour, epsilon}
-use Rattle.ieee754.specs.Traced.{Traced, pure, if_then_else_, _⊗_, !_, ⊝_}
+use Rattle.ieee754.specs.Traced.{_⊗_, !_, ⊝_}
+use Rattle.ieee754.proofs.Tests.{or-value}
 use Rattle.depths.specs.RatioOf.{isNotReal, ratioOf}
 use Rattle.depths.proofs.ratio.ratio_of.Statement.{statement}
 use Rattle.depths.proofs.ratio.ratio_of.Tie as tie
-
--- a test that ends at its left side where that holds, by its value
-or-value : (a : Bool) (m : Traced Bool) → (if a then pure true else m) .value ≡ a || m .value
-or-value true m = refl
-or-value false m = refl
 
 not-real-value : (x : Float)
     → isNotReal x .value ≡ not (finite x) || lt x ((⊝ ! epsilon ⊗ ! sixtyFour) .value)

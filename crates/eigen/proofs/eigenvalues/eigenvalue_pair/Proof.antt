@@ -10,22 +10,23 @@ use Rattle.eigen.proofs.eigenvalues.eigenvalue_pair.Tie as tie
 returns : tie.Need-returns
 unfolding eigenvaluePair
 returns c =
-    let trace = c .before .before .before in
+    let answered = c .before in
     rw (
-      ← trace .trace .ensures,
-      ← c .before .before .pair-coefficient .ensures,
-      ← c .before .quadratic-real-monic .ensures,
-    ) (no-pair (pure NoPair) _ (c .before .quadratic-real-monic .result) (c .match .keys2))
+      ← answered .before .before .trace .ensures,
+      ← answered .before .pair-coefficient .ensures,
+      ← answered .quadratic-real-monic .ensures,
+    )
+    (no-pair (pure NoPair) _ (answered .quadratic-real-monic .result) (c .match .keys2))
 
 returns-2 : tie.Need-returns-2
 unfolding eigenvaluePair
 returns-2 c =
-    let quadratic-real-monic = c .before .before .before .before in
+    let answered = c .before .before .before .before in
     rw (
-      ← quadratic-real-monic .before .before .trace .ensures,
-      ← quadratic-real-monic .before .pair-coefficient .ensures,
-      ← quadratic-real-monic .quadratic-real-monic .ensures,
-      c .before .before .first .given .1,
+      ← answered .before .before .trace .ensures,
+      ← answered .before .pair-coefficient .ensures,
+      ← answered .quadratic-real-monic .ensures,
+      c .before .before .first-value .given .1,
       ← c .by-magnitude .ensures,
     )
 

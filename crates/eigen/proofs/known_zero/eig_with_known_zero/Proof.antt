@@ -45,7 +45,7 @@ returns-4 c =
       ← zero .before .before .zero-vector .ensures,
       zero .zero .given .1,
       ← eigenvalue-pair .eigenvalue-pair .ensures,
-      c .before .before .first .given .1,
+      c .before .before .first-value .given .1,
       ← c .system-of-pair .ensures,
     )
 

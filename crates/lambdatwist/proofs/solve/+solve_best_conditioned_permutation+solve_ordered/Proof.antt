@@ -2,9 +2,8 @@
 -- retries left the ordered solve calls the retry at n - 1, and the retry at n the ordered solve at
 -- n, so the measures are 2 * n and 2 * n + 1. Assumes nothing.
 use borrow.Author.Needs.{needs}
-use mathlib.Core.Path.{sym, ap, _∙_, subst}
+use mathlib.Core.Path.{_≡_, sym, ap, _∙_, subst}
 use Prim.Native.Nat.{ℕ, _+_, _-_, _<_}
-use native.Mathlib.Nat.{pos-of-ne-zero}
 use native.Mathlib.Omega.{arith}
 use borrow.Fn.Kinds.{In}
 use borrow.Fn.PlainCycle.{Measures, is, falls, and}
@@ -67,10 +66,10 @@ ordered-calls t = (
   measured-cubic-reads.Learnt,
   is-unusable-reads.Asked,
   is-unusable-reads.Learnt,
-  refused-reads.Asked,
-  refused-reads.Learnt,
   best-below t,
   best.Post,
+  refused-reads.Asked,
+  refused-reads.Learnt,
   solve-cubic-reads.Asked,
   solve-cubic-reads.Learnt,
 )
@@ -100,16 +99,6 @@ module _ (t : ℕ) where
 
 -- ---- the ordered solve
 module _ (t : ℕ) where
-  ordered-returns : ordered-lts.Need-returns (ordered-calls t) (ordered-at t) ordered.Post
-  ordered-returns c =
-      let tested = c .before .before in
-      let measured = tested .before .before .before in
-      let args = measured .before .args in
-      rw (c .refused .ensures, c .before .if2 .taken)
-      (out-of-retries (args .input) (args .world) (args .bearings) (measured .measure .ensures)
-      (tested .before .before .measured-cubic .ensures)
-      (sym (tested .before .is-unusable .ensures) ∙ tested .if1 .taken))
-
   ordered-solve-best-conditioned-permutation-requires :
       ordered-lts.Need-solve-best-conditioned-permutation-requires (ordered-calls t) (ordered-at t)
       ordered.Post
@@ -117,12 +106,12 @@ module _ (t : ℕ) where
       let start = c .before .before .before .before .before in
       let n = start .args .retries in (
         subst (λ (j : ℕ). n - 1 + (n - 1) + 1 < j)
-            (start .pre .0) (omega (arith, pos-of-ne-zero (c .if2 .left))),
+            (start .pre .0) (omega (arith, c .if2 .taken)),
         tt,
       )
 
-  ordered-returns-2 : ordered-lts.Need-returns-2 (ordered-calls t) (ordered-at t) ordered.Post
-  ordered-returns-2 c =
+  ordered-returns : ordered-lts.Need-returns (ordered-calls t) (ordered-at t) ordered.Post
+  ordered-returns c =
       let left = c .before in
       let tested = left .before in
       let measured = tested .before .before .before in
@@ -132,7 +121,18 @@ module _ (t : ℕ) where
       (tested .before .before .measured-cubic .ensures)
       (args .retries - 1) (sym (tested .before .is-unusable .ensures) ∙ tested .if1 .taken)
       ∙ ap (λ (n : ℕ). solveOrdered n (args .input) (args .world) (args .bearings) .value)
-      (omega (arith, pos-of-ne-zero (left .if2 .left)))
+      (omega (arith, left .if2 .taken))
+
+  ordered-returns-2 : ordered-lts.Need-returns-2 (ordered-calls t) (ordered-at t) ordered.Post
+  ordered-returns-2 c =
+      let tested = c .before .before in
+      let measured = tested .before .before .before in
+      let args = measured .before .args in
+      let none : args .retries ≡ 0 = omega (arith, c .before .if2 .left) in
+      rw (c .refused .ensures, none)
+      (out-of-retries (args .input) (args .world) (args .bearings) (measured .measure .ensures)
+      (tested .before .before .measured-cubic .ensures)
+      (sym (tested .before .is-unusable .ensures) ∙ tested .if1 .taken))
 
   ordered-returns-3 : ordered-lts.Need-returns-3 (ordered-calls t) (ordered-at t) ordered.Post
   ordered-returns-3 c =
@@ -153,7 +153,6 @@ pub +solve-best-conditioned-permutation+solve-ordered-spec : {M : Type 1} → st
     (best-solve-ordered-requires t) (best-returns-2 t))
     (λ t.
     ordered-lts.spec (ordered-calls t) (ordered-at t) ordered.Post (λ c _. search needs)
-    (λ c _. search needs) (λ c _. search needs)
-    (λ c _. search needs) (ordered-returns t) (λ c. pos-of-ne-zero (c .if2 .left))
-    (ordered-solve-best-conditioned-permutation-requires t) (ordered-returns-2 t)
-    (λ c _. search needs) (ordered-returns-3 t))
+    (λ c _. search needs) (λ c _. search needs) (λ c. search needs)
+    (ordered-solve-best-conditioned-permutation-requires t) (ordered-returns t)
+    (λ c _. search needs) (ordered-returns-2 t) (λ c _. search needs) (ordered-returns-3 t))

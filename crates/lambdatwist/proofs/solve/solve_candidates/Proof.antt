@@ -24,7 +24,7 @@ returns-2 c =
     let told = c .before .before .before in
     rw (
       ← told .before .before .world-basis-inverse .ensures,
-      told .inverse .given .1,
+      told .world-inverse .given .1,
       ← c .before .poses .ensures,
       ← c .if-kept .ensures,
     )

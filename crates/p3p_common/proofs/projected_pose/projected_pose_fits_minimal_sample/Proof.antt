@@ -1,7 +1,6 @@
 -- `p3p_common::projected_pose::projected_pose_fits_minimal_sample` meets its contract. Assumes
 -- nothing.
 use borrow.Author.Needs.{needs}
-use borrow.Author.Tests.{not-true, not-false}
 use Rattle.p3p_common.specs.ProjectedPose.{projectedPoseFitsMinimalSample}
 use Rattle.p3p_common.proofs.projected_pose.projected_pose_fits_minimal_sample.Statement.{
   statement,
@@ -10,33 +9,31 @@ use Rattle.p3p_common.proofs.projected_pose.projected_pose_fits_minimal
 
 returns : tie.Need-returns
 unfolding projectedPoseFitsMinimalSample
-returns c =
-    rw (
-      ← c .before .observation-fits .ensures,
-      not-true (c .before .observation-fits .result) (c .if1 .taken),
-    )
+returns c = rw (← c .before .observation-fits .ensures, c .if1 .taken)
 
 returns-2 : tie.Need-returns-2
 unfolding projectedPoseFitsMinimalSample
 returns-2 c =
-    let observation-fits = c .before .before .before in
+    let fits0 = c .before .before in
     rw (
-      ← observation-fits .observation-fits .ensures,
-      not-false (observation-fits .observation-fits .result) (c .before .before .if1 .left),
+      ← fits0 .before .observation-fits .ensures,
+      fits0 .if1 .left,
       ← c .before .observation-fits2 .ensures,
-      not-true (c .before .observation-fits2 .result) (c .if2 .taken),
+      c .if2 .taken,
     )
 
 returns-3 : tie.Need-returns-3
 unfolding projectedPoseFitsMinimalSample
 returns-3 c =
-    let tested = c .before .before .before in
+    let fits1 = c .before in
+    let fits0 = fits1 .before .before in
     rw (
-      ← tested .before .observation-fits .ensures,
-      not-false (tested .before .observation-fits .result) (tested .if1 .left),
-      ← c .before .before .observation-fits2 .ensures,
-      not-false (c .before .before .observation-fits2 .result) (c .before .if2 .left),
-    ) (c .observation-fits3 .ensures)
+      ← fits0 .before .observation-fits .ensures,
+      fits0 .if1 .left,
+      ← fits1 .before .observation-fits2 .ensures,
+      fits1 .if2 .left,
+    )
+    (c .observation-fits3 .ensures)
 
 pub projected-pose-fits-minimal-sample-spec : {M : Type 1} → statement M
 projected-pose-fits-minimal-sample-spec =

@@ -11,13 +11,13 @@ use Rattle.refinement.proofs.refine_depths.refine_depths.Statement.{sta
 use Rattle.refinement.proofs.refine_depths.refine_depths.Tie as tie
 
 abbrev Inv-loop : tie.InvT-loop
-Inv-loop edges cosines iterations a01 a02 a12 tolerance refined₀ updates₀ refined updates =
+Inv-loop squares cosines iterations a01 a02 a12 tolerance refined₀ updates₀ refined updates =
     (updates ≤ iterations)
-    × (refineTurns (iterations - updates) refined edges cosines tolerance updates .value
-    ≡ refineTurns iterations refined₀ edges cosines tolerance 0 .value)
+    × (refineTurns (iterations - updates) refined squares cosines tolerance updates .value
+    ≡ refineTurns iterations refined₀ squares cosines tolerance 0 .value)
 
 abbrev μ-loop : tie.MeasureT-loop
-μ-loop edges cosines iterations a01 a02 a12 tolerance refined₀ updates₀ refined updates =
+μ-loop squares cosines iterations a01 a02 a12 tolerance refined₀ updates₀ refined updates =
     iterations - updates
 
 loop-holds : tie.Need-loop-holds Inv-loop μ-loop
