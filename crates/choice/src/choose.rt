@@ -15,18 +15,25 @@ pub enum Choice {
     Refused(u32),
 }
 
-// The choice so far with one pose more, which takes it where its score is finite and the lowest.
-pub fn better(best: Choice, place: u32, score: f64) -> Choice
-    ensures { λ r. ⌜ r ≡ Choose.better best place score ⌝ }
+// A finite score beside the choice so far: the lower one, and the earlier on a tie.
+pub fn lower(best: Choice, place: u32, value: f64) -> Choice
+    ensures { λ r. ⌜ r ≡ Choose.lower best place value ⌝ }
 {
-    if !is_finite(score) {
-        return best;
-    }
     let Choice::Best(_, lowest) = best else {
-        return Choice::Best(place, score);
+        return Choice::Best(place, value);
     };
-    if score < lowest {
-        return Choice::Best(place, score);
+    if value < lowest {
+        return Choice::Best(place, value);
+    }
+    best
+}
+
+// The choice so far with one pose more, which takes it where its score is finite and the lowest.
+pub fn better(best: Choice, place: u32, value: f64) -> Choice
+    ensures { λ r. ⌜ r ≡ Choose.better best place value ⌝ }
+{
+    if is_finite(value) {
+        return lower(best, place, value);
     }
     best
 }

@@ -13,13 +13,13 @@ use Rattle.cubic_parts.specs.Types.{Monic, Step, Next, Stop}
 
 -- ((root + b) * root + c) * root + d
 unfoldable pub cubicValue : Monic → Float → Traced Float
-cubicValue p root = ((! root ⊕ ! (p .b)) ⊗ ! root ⊕ ! (p .c)) ⊗ ! root ⊕ ! (p .d)
+cubicValue m root = ((! root ⊕ ! (m .b)) ⊗ ! root ⊕ ! (m .c)) ⊗ ! root ⊕ ! (m .d)
 
 -- how far outside the turning point the root lies, by the parabola that the cubic is like there
 unfoldable pub turningOffset : Monic → Float → Float → Traced Step
-turningOffset p turning value = do
+turningOffset m turning value = do
   -- let denominator = 3.0 * left + b;
-  denominator ← ! three ⊗ ! turning ⊕ ! (p .b)
+  denominator ← ! three ⊗ ! turning ⊕ ! (m .b)
   -- let radicand = -left_value / denominator;
   radicand ← ⊝ ! value ⊘ ! denominator
   if eq denominator plusZero || lt radicand plusZero then pure Stop
@@ -29,32 +29,32 @@ turningOffset p turning value = do
 
 -- left - radicand.sqrt()
 unfoldable pub leftStart : Monic → Float → Float → Traced Step
-leftStart p left leftValue = do
-  step ← turningOffset p left leftValue
+leftStart m left leftValue = do
+  step ← turningOffset m left leftValue
   after step (pure Stop) (λ offset. do
     root ← ! left ⊖ ! offset
     pure (Next root))
 
 -- right + radicand.sqrt()
 unfoldable pub rightStart : Monic → Float → Traced Step
-rightStart p turningSpan = do
+rightStart m turningSpan = do
   -- let right = (-b + turning_span) / 3.0;
-  right ← (⊝ ! (p .b) ⊕ ! turningSpan) ⊘ ! three
-  rightValue ← cubicValue p right
-  step ← turningOffset p right rightValue
+  right ← (⊝ ! (m .b) ⊕ ! turningSpan) ⊘ ! three
+  rightValue ← cubicValue m right
+  step ← turningOffset m right rightValue
   after step (pure Stop) (λ offset. do
     root ← ! right ⊕ ! offset
     pure (Next root))
 
 unfoldable pub turningStart : Monic → Traced Step
-turningStart p = do
+turningStart m = do
   -- let turning_span = (b * b - 3.0 * c).sqrt();
-  turningSpan ← √ (! (p .b) ⊗ ! (p .b) ⊖ ! three ⊗ ! (p .c))
+  turningSpan ← √ (! (m .b) ⊗ ! (m .b) ⊖ ! three ⊗ ! (m .c))
   -- let left = (-b - turning_span) / 3.0;
-  left ← (⊝ ! (p .b) ⊖ ! turningSpan) ⊘ ! three
-  leftValue ← cubicValue p left
-  if lt plusZero leftValue then leftStart p left leftValue
-      else rightStart p turningSpan
+  left ← (⊝ ! (m .b) ⊖ ! turningSpan) ⊘ ! three
+  leftValue ← cubicValue m left
+  if lt plusZero leftValue then leftStart m left leftValue
+      else rightStart m turningSpan
 
 unfoldable pub startRoot : Monic → Traced Step
 startRoot m = do

@@ -13,25 +13,25 @@ use Rattle.cubic_parts.specs.CubicStart.{cubicValue}
 use Rattle.cubic_parts.specs.Types.{Monic, Step, Next, Stop}
 
 unfoldable pub newtonStep : Monic → Float → Traced Step
-newtonStep p root = do
-  value ← cubicValue p root
+newtonStep m root = do
+  value ← cubicValue m root
   if lt (abs value) ten⁻¹⁴ then pure Stop
       else do
         -- let derivative = (3.0 * root + 2.0 * b) * root + c;
-        derivative ← (! three ⊗ ! root ⊕ ! two ⊗ ! (p .b)) ⊗ ! root ⊕ ! (p .c)
+        derivative ← (! three ⊗ ! root ⊕ ! two ⊗ ! (m .b)) ⊗ ! root ⊕ ! (m .c)
         if not (finite value) || not (finite derivative) || eq derivative plusZero then pure Stop
             else do
               -- let candidate = root - value / derivative;
               candidate ← ! root ⊖ ! value ⊘ ! derivative
               if not (finite candidate) then pure Stop
                   else do
-                    candidateValue ← cubicValue p candidate
+                    candidateValue ← cubicValue m candidate
                     if lt (abs value) (abs candidateValue) then pure Stop
                         else pure (Next candidate)
 
 -- at most n steps from the root
 unfoldable pub newtonSteps : ℕ → Monic → Float → Traced Float
-newtonSteps zero p root = pure root
-newtonSteps (suc n) p root = do
-  step ← newtonStep p root
-  after step (pure root) (λ next. newtonSteps n p next)
+newtonSteps zero m root = pure root
+newtonSteps (suc n) m root = do
+  step ← newtonStep m root
+  after step (pure root) (λ next. newtonSteps n m next)

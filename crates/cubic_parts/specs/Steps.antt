@@ -1,5 +1,5 @@
--- What follows a step that can stop: a value to go on with, or a stop, where the Rust returns None
--- or breaks off its loop of Newton steps.
+-- What follows a step that can stop: a value to go on with, or a stop, where the Rust returns None,
+-- breaks off its loop of Newton steps, or returns the library's cube root.
 use lib.Ieee.{Float}
 use Rattle.ieee754.specs.Traced.{Traced}
 use Rattle.cubic_parts.specs.Types.{Step, Next, Stop}

@@ -9,20 +9,20 @@ use crate::cardano::cardano_single_real;
 use ieee754::sqrt::sqrt;
 
 // The cubic's value at `root`.
-pub fn cubic_value(p: Monic, root: f64) -> f64
-    ensures { λ r. ⌜ r ≡ cubicValue p root .value ⌝ }
+pub fn cubic_value(m: Monic, root: f64) -> f64
+    ensures { λ r. ⌜ r ≡ cubicValue m root .value ⌝ }
 {
-    let b = p.b;
-    let c = p.c;
-    let d = p.d;
+    let b = m.b;
+    let c = m.c;
+    let d = m.d;
     ((root + b) * root + c) * root + d
 }
 
 // How far outside a turning point the root lies, by the parabola that the cubic is like there.
-fn turning_offset(p: Monic, turning: f64, value: f64) -> Step
-    ensures { λ r. ⌜ r ≡ turningOffset p turning value .value ⌝ }
+fn turning_offset(m: Monic, turning: f64, value: f64) -> Step
+    ensures { λ r. ⌜ r ≡ turningOffset m turning value .value ⌝ }
 {
-    let b = p.b;
+    let b = m.b;
     let denominator = 3.0 * turning + b;
     let radicand = -value / denominator;
     if (denominator == 0.0) | (radicand < 0.0) {
@@ -32,40 +32,40 @@ fn turning_offset(p: Monic, turning: f64, value: f64) -> Step
 }
 
 // To the left of the left turning point.
-fn left_start(p: Monic, left: f64, left_value: f64) -> Step
-    ensures { λ r. ⌜ r ≡ leftStart p left «left_value» .value ⌝ }
+fn left_start(m: Monic, left: f64, left_value: f64) -> Step
+    ensures { λ r. ⌜ r ≡ leftStart m left «left_value» .value ⌝ }
 {
-    let Step::Next(offset) = turning_offset(p, left, left_value) else {
+    let Step::Next(offset) = turning_offset(m, left, left_value) else {
         return Step::Stop;
     };
     Step::Next(left - offset)
 }
 
 // To the right of the right turning point.
-fn right_start(p: Monic, turning_span: f64) -> Step
-    ensures { λ r. ⌜ r ≡ rightStart p «turning_span» .value ⌝ }
+fn right_start(m: Monic, turning_span: f64) -> Step
+    ensures { λ r. ⌜ r ≡ rightStart m «turning_span» .value ⌝ }
 {
-    let b = p.b;
+    let b = m.b;
     let right = (-b + turning_span) / 3.0;
-    let Step::Next(offset) = turning_offset(p, right, cubic_value(p, right)) else {
+    let Step::Next(offset) = turning_offset(m, right, cubic_value(m, right)) else {
         return Step::Stop;
     };
     Step::Next(right + offset)
 }
 
 // Outside the turning point beyond which there is a root.
-fn turning_start(p: Monic) -> Step
-    ensures { λ r. ⌜ r ≡ turningStart p .value ⌝ }
+fn turning_start(m: Monic) -> Step
+    ensures { λ r. ⌜ r ≡ turningStart m .value ⌝ }
 {
-    let b = p.b;
-    let c = p.c;
+    let b = m.b;
+    let c = m.c;
     let turning_span = sqrt(b * b - 3.0 * c);
     let left = (-b - turning_span) / 3.0;
-    let left_value = cubic_value(p, left);
+    let left_value = cubic_value(m, left);
     if left_value > 0.0 {
-        return left_start(p, left, left_value);
+        return left_start(m, left, left_value);
     }
-    right_start(p, turning_span)
+    right_start(m, turning_span)
 }
 
 // Cardano's root where it is the only real one, and else a point outside a turning point, if there

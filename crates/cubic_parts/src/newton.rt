@@ -9,12 +9,12 @@ use ieee754::is_finite::is_finite;
 
 // The next root, unless the value is small already, or the step leaves the finite numbers or makes
 // the value greater.
-fn newton_step(p: Monic, root: f64) -> Step
-    ensures { λ r. ⌜ r ≡ newtonStep p root .value ⌝ }
+fn newton_step(m: Monic, root: f64) -> Step
+    ensures { λ r. ⌜ r ≡ newtonStep m root .value ⌝ }
 {
-    let b = p.b;
-    let c = p.c;
-    let value = cubic_value(p, root);
+    let b = m.b;
+    let c = m.c;
+    let value = cubic_value(m, root);
     if abs(value) < 1e-14 {
         return Step::Stop;
     }
@@ -26,20 +26,20 @@ fn newton_step(p: Monic, root: f64) -> Step
     if !is_finite(candidate) {
         return Step::Stop;
     }
-    if abs(cubic_value(p, candidate)) > abs(value) {
+    if abs(cubic_value(m, candidate)) > abs(value) {
         return Step::Stop;
     }
     Step::Next(candidate)
 }
 
 // At most four steps.
-pub fn newton_steps(p: Monic, start: f64) -> f64
-    ensures { λ r. ⌜ r ≡ newtonSteps 4 p start .value ⌝ }
+pub fn newton_steps(m: Monic, start: f64) -> f64
+    ensures { λ r. ⌜ r ≡ newtonSteps 4 m start .value ⌝ }
 {
     let mut root = start;
     let mut steps: u32 = 0;
     while steps < 4 {
-        let Step::Next(next) = newton_step(p, root) else {
+        let Step::Next(next) = newton_step(m, root) else {
             return root;
         };
         root = next;

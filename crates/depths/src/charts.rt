@@ -151,7 +151,12 @@ pub fn second_chart(
     weight_chart(squares, factors, w0, w1, found)
 }
 
-pub fn chart(squares: SquaredEdges, factors: Factors, null_vector: Vector3, found: Candidates) -> Candidates
+pub fn chart(
+    squares: SquaredEdges,
+    factors: Factors,
+    null_vector: Vector3,
+    found: Candidates,
+) -> Candidates
     ensures { λ r. ⌜ r ≡ chart squares factors «null_vector» found .value ⌝ }
 {
     if abs(null_vector.x) < abs(null_vector.y) {

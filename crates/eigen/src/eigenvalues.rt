@@ -15,9 +15,7 @@ pub enum Eigenvalues {
 pub fn pair_coefficient(m: Matrix3, off_diagonal_squared: f64) -> f64
     ensures { λ r. ⌜ r ≡ pairCoefficient m «off_diagonal_squared» .value ⌝ }
 {
-    -off_diagonal_squared - m.m02 * m.m02 - m.m12 * m.m12
-        + m.m00 * (m.m11 + m.m22)
-        + m.m11 * m.m22
+    -off_diagonal_squared - m.m02 * m.m02 - m.m12 * m.m12 + m.m00 * (m.m11 + m.m22) + m.m11 * m.m22
 }
 
 pub fn nonzero_pair(first_value: f64, second_value: f64) -> Eigenvalues
@@ -44,9 +42,10 @@ pub fn eigenvalue_pair(m: Matrix3, off_diagonal_squared: f64) -> Eigenvalues
 {
     let trace_coefficient = -m.trace();
     let pair_coefficient = pair_coefficient(m, off_diagonal_squared);
-    let Roots::Two(first_value, second_value) =
-        quadratic_real_monic(trace_coefficient, pair_coefficient)
-    else {
+    let Roots::Two(first_value, second_value) = quadratic_real_monic(
+        trace_coefficient,
+        pair_coefficient,
+    ) else {
         return Eigenvalues::NoPair;
     };
     by_magnitude(first_value, second_value)

@@ -74,13 +74,8 @@ module _ {k : ℤ} where
           → Both (AtRefined k)
           (refineDepths d (a .squares) (a .cosines) 5)
           (refineDepths d' (a' .squares) (a' .cosines) 5)
-      refined-scales {d} {d'} depths =
-          subst (λ (c : Cosines).
-          Both (AtRefined k)
-          (refineDepths d (a .squares) (a .cosines) 5)
-          (refineDepths d' (a' .squares) c 5))
-          (A .cosines)
-          (refineDepths-scales (a .cosines) 5 depths (A .squares))
+      refined-scales depths =
+          rw (← A .cosines) (refineDepths-scales (a .cosines) 5 depths (A .squares))
 
       poseTurn-scales : {s s' : Solutions} {d d' : Vector3}
           → AtSolutions k s s'

@@ -85,25 +85,14 @@ module _ {k : ℤ} where
           → Both (AtMatrix k (pos 2))
           (singularMatrix (m .squares) (m .factors) g)
           (singularMatrix (m' .squares) (m' .factors) g)
-      matrix-scales g =
-          subst (λ (b : Factors).
-          Both (AtMatrix k (pos 2))
-          (singularMatrix (m .squares) (m .factors) g)
-          (singularMatrix (m' .squares) b g))
-          (M .factors)
-          (singularMatrix-scales (m .factors) g (M .squares))
+      matrix-scales g = rw (← M .factors) (singularMatrix-scales (m .factors) g (M .squares))
 
       found-scales : (e : Matrix3) (ratio : Float)
           → Both (AtCandidates k)
           (candidates (m .squares) (m .factors) e ratio)
           (candidates (m' .squares) (m' .factors) e ratio)
       found-scales e ratio =
-          subst (λ (b : Factors).
-          Both (AtCandidates k)
-          (candidates (m .squares) (m .factors) e ratio)
-          (candidates (m' .squares) b e ratio))
-          (M .factors)
-          (candidates-scales (m .factors) (M .squares) e ratio)
+          rw (← M .factors) (candidates-scales (m .factors) (M .squares) e ratio)
 
       solveRoot-scales : (g : Float)
           → Both (AtAnswer k) (solveRoot input m g) (solveRoot input' m' g)

@@ -14,7 +14,11 @@ pub sets-append : (xs ys l : List ℕ) (at : ℕ)
     → sets (sets l at xs) (at + length xs) ys ≡ sets l at (xs ++ ys)
 sets-append [] ys l at = rw add-zero
 sets-append (x ∷ xs) ys l at =
-    rw (add-suc at (length xs), ← suc-add at (length xs)) (sets-append xs ys (set l at x) (suc at))
+    rw (
+      add-suc at (length xs),
+      ← suc-add at (length xs),
+    )
+    (sets-append xs ys (set l at x) (suc at))
 
 pub stored-as : {l l′ xs ys : List ℕ} {at next : ℕ}
     → xs ≡ ys

@@ -1,6 +1,6 @@
--- What `solve_ordered` of lambdatwist.rs takes from the bearings: the cosines of the angles between
--- them, what the cubic's coefficients need of those, and the factors b01, b02 and b12 of the matrix
--- and the charts.
+-- What `solve_ordered` and `leading_cubic_condition` (lambdatwist.rs) take from the bearings: the
+-- cosines of the angles between them, what the cubic's coefficients need of those, and the factors
+-- b01, b02 and b12 of the matrix and the charts.
 use lib.Ieee.{Float, neg}
 use Rattle.ieee754.specs.Literal.{one, two}
 use Rattle.ieee754.specs.Clamp.{clamp}

@@ -1,6 +1,6 @@
--- The coefficients of the cubic whose root gives the singular matrix, and the test by which an
--- ordering of the points is unusable: `solve_ordered` (lambdatwist.rs), from `let cubic3` to the
--- retry, and document 01, question 2.
+-- The coefficients of the cubic whose root gives the singular matrix (`solve_ordered` and
+-- `leading_cubic_condition` of lambdatwist.rs), and the test by which an ordering of the points is
+-- unusable: `solve_ordered`, up to the retry, and document 01, question 2.
 use mathlib.Core.Bool.{Bool, true, not}
 use lib.Ieee.{Float, le}
 use lib.Ieee.Scale.{finite}

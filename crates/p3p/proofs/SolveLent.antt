@@ -15,11 +15,11 @@ use Rattle.lambdatwist.specs.Solve.{solve}
 use Rattle.p3p.specs.Types.{Pose, World, Bearings, Answer}
 use Rattle.p3p.specs.SolveLent.{solved, entries, allEntries}
 
-pub as-solved : (input : List Float) {w : World} {b : Bearings} {a : Answer}
-    → w ≡ worldAt input 0
-    → b ≡ bearingsAt input 9
-    → a ≡ solve w b .value
-    → a ≡ solved input
+pub as-solved : (input : List Float) {world : World} {bearings : Bearings} {answer : Answer}
+    → world ≡ worldAt input 0
+    → bearings ≡ bearingsAt input 9
+    → answer ≡ solve world bearings .value
+    → answer ≡ solved input
 unfolding solved
 as-solved input p q r = rw (p, q) at r
 

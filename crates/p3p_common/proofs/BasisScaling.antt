@@ -22,11 +22,11 @@ use Rattle.p3p_common.specs.PoseScaling.{AtBasis, inverse-at, singular-a
 -- what follows a basis, from bases at their degrees, in any relation of the two runs
 module _ {A : Type 0} {R : A → A → Type 0} {k : ℤ} {none none' : Traced A}
     {f f' : Matrix3 → Traced A} where
-  pub withInverse-scales : {b b' : Basis}
-      → AtBasis k b b'
+  pub withInverse-scales : {basis basis' : Basis}
+      → AtBasis k basis basis'
       → Both R none none'
       → ((m m' : Matrix3) → AtRows k (negsuc 0) (negsuc 0) (negsuc 1) m m' → Both R (f m) (f' m'))
-      → Both R (withInverse b none f) (withInverse b' none' f')
+      → Both R (withInverse basis none f) (withInverse basis' none' f')
   withInverse-scales (inverse-at {m} {m'} h) none next = next m m' h
   withInverse-scales singular-at none next = none
 

@@ -21,4 +21,9 @@ module _ {k : ℤ} where
       → At k (pos 0) d d'
       → Both (AtRoots k (pos 0)) (polishedCubicRoot b c d) (polishedCubicRoot b' c' d')
   cubic-scales B C D =
-      rw (← at-zero B, ← at-zero C, ← at-zero D) (record { results = λ r r'. roots-same _ })
+      rw (
+        ← at-zero B,
+        ← at-zero C,
+        ← at-zero D,
+      )
+      (record { results = λ r r'. roots-same _ })

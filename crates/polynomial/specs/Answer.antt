@@ -33,8 +33,7 @@ values (One x) = x ∷ []
 values (Refused n) = []
 
 -- ---- what follows a root finder: what `k` makes of the one root, or of the two in their order,
--- and
--- `none` for any other answer
+--      and `none` for any other answer
 abbrev pub withRoot : {A : Type 0} → Roots → Traced A → (Float → Traced A) → Traced A
 withRoot (Two x y) none k = none
 withRoot (One x) none k = k x

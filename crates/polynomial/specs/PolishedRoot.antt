@@ -14,8 +14,8 @@ use Rattle.polynomial.specs.Types.{Monic, Roots, One}
 
 -- at most four Newton steps from the start, and the root of the coefficients as they came
 unfoldable pub rescaledRoot : Monic → Float → Float → Traced Roots
-rescaledRoot p variableScale start = do
-  polished ← newtonSteps 4 p start
+rescaledRoot m variableScale start = do
+  polished ← newtonSteps 4 m start
   -- let root = root * variable_scale;
   root ← ! polished ⊗ ! variableScale
   if finite root then pure (One root)
@@ -25,9 +25,9 @@ rescaledRoot p variableScale start = do
 unfoldable pub polishedRoot : Float → Float → Float → Traced Roots
 polishedRoot b c d = do
   variableScale ← cubicVariableScale b c d
-  p ← normalised b c d variableScale
-  start ← startRoot p
-  after start (pure noRoot) (λ root. rescaledRoot p variableScale root)
+  m ← normalised b c d variableScale
+  start ← startRoot m
+  after start (pure noRoot) (λ root. rescaledRoot m variableScale root)
 
 unfoldable pub polishedCubicRoot : Float → Float → Float → Traced Roots
 polishedCubicRoot b c d =

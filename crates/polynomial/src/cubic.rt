@@ -13,10 +13,10 @@ use cubic_parts::newton::newton_steps;
 use ieee754::is_finite::is_finite;
 
 // Polished, and back to the scale of the coefficients.
-fn rescaled_root(p: Monic, variable_scale: f64, start: f64) -> Roots
-    ensures { λ r. ⌜ r ≡ rescaledRoot p «variable_scale» start .value ⌝ }
+fn rescaled_root(m: Monic, variable_scale: f64, start: f64) -> Roots
+    ensures { λ r. ⌜ r ≡ rescaledRoot m «variable_scale» start .value ⌝ }
 {
-    let root = newton_steps(p, start) * variable_scale;
+    let root = newton_steps(m, start) * variable_scale;
     if is_finite(root) {
         return Roots::One(root);
     }
@@ -27,16 +27,16 @@ fn polished_root(b: f64, c: f64, d: f64) -> Roots
     ensures { λ r. ⌜ r ≡ polishedRoot b c d .value ⌝ }
 {
     let variable_scale = cubic_variable_scale(b, c, d);
-    let p = normalised(b, c, d, variable_scale);
-    let Step::Next(start) = start_root(p) else {
+    let m = normalised(b, c, d, variable_scale);
+    let Step::Next(start) = start_root(m) else {
         return Roots::Refused(6);
     };
-    rescaled_root(p, variable_scale, start)
+    rescaled_root(m, variable_scale, start)
 }
 
 // One polished real root of x^3 + b*x^2 + c*x + d = 0. Where it has three, the start outside the
-// nearest turning point
-// finds the branch that the conic-pencil reduction of the three-point pose problem needs.
+// nearest turning point finds the branch that the conic-pencil reduction of the three-point pose
+// problem needs.
 pub fn polished_cubic_root(b: f64, c: f64, d: f64) -> Roots
     ensures { λ r. ⌜ r ≡ polishedCubicRoot b c d .value ⌝ }
 {

@@ -17,7 +17,11 @@ module _ (s : List ℕ) (at : ℕ) where
 
   pub lone-byte : at < length s → length s - at < 2 → recordAt s at ≡ Stop 9
   unfolding recordAt
-  lone-byte some h = rw (lt-ltb 0 (length s - at) (omega arith), lt-leb 2 (length s - at) h)
+  lone-byte some h =
+      rw (
+        lt-ltb 0 (length s - at) (omega arith),
+        lt-leb 2 (length s - at) h,
+      )
 
   -- the last question
   abbrev versioned : Record

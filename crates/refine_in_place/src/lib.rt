@@ -21,7 +21,7 @@ pub fn refine_depths_in_place(
 ) -> u32
     ensures { λ (r : ℕ).
         let refined =
-            refineDepths (now (depths .entry)) «squared_edges» «bearing_cosines» iterations .value in
+        refineDepths (now (depths .entry)) «squared_edges» «bearing_cosines» iterations .value in
         ⌜ (r ≡ refined .updates) × (now (depths .exit) ≡ refined .depths) ⌝ }
 {
     let refined = refine_depths(*depths, squared_edges, bearing_cosines, iterations);

@@ -5,6 +5,7 @@ use mathlib.Core.Bool.{Bool, true, false, not, _||_}
 use Prim.Native.Nat.{ℕ}
 use native.Mathlib.Nat.{pos-of-ne-zero}
 use lib.Dec.{T, T-not, eqb}
+use mir.Facts.{T-not-not}
 use lib.Ieee.{Float, binary64, mul, le}
 use lib.Ieee.Fits.{and-i, eq→eqb}
 use Rattle.ieee754.specs.Literal.{sixtyFour, epsilon}
@@ -81,9 +82,9 @@ module _ (P : Answer → Type 0) (three : P (refused 3))
   withRatio-gives (Real x) f h = h x
   withRatio-gives NotReal f h = three
 
-  withInverse-gives : (b : Basis) (f : Matrix3 → Traced Answer)
+  withInverse-gives : (basis : Basis) (f : Matrix3 → Traced Answer)
       → ((m : Matrix3) → Gives (f m))
-      → Gives (withInverse b stopped f)
+      → Gives (withInverse basis stopped f)
   withInverse-gives (Inverse m) f h = h m
   withInverse-gives Singular f h = three
 
@@ -147,11 +148,6 @@ module _ (input : P3pInput) (finite : T (inputFinite input)) where
       (λ u. not-both-right given (low || other) (neither low other n u))))
       (not-both-left given (low || other))
 
--- a test that is not denied passes
-not-not : (b : Bool) → T (not (not b)) → T b
-not-not true t = tt
-not-not false t = absurd t
-
 pub one-answer : (world : World) (bearings : Bearings)
     → OneAnswer (record { world = world; bearings = bearings }) (solve world bearings .value)
 unfolding solve
@@ -159,4 +155,4 @@ one-answer world bearings =
     let input : P3pInput = record { world = world; bearings = bearings } in
     either-way (λ (m : Traced Answer). OneAnswer input (m .value)) (not (inputFinite input))
     (λ not-finite. refused-1 not-finite (refused-so 1))
-    (λ finite. orderings-one input (not-not (inputFinite input) finite))
+    (λ finite. orderings-one input (T-not-not (inputFinite input) finite))

@@ -24,7 +24,7 @@ counts-times = record {
   p2 = record { x = (refl, refl); y = (refl, refl); z = (refl, refl) };
 }
 
-pub small-times : TimesWorld (negsuc 599) plateInMetres plateTooSmall
+small-times : TimesWorld (negsuc 599) plateInMetres plateTooSmall
 unfolding plateInMetres plateTooSmall ofBits size
 small-times = record {
   p0 = record { x = (refl, refl); y = (refl, refl); z = (refl, refl) };
@@ -48,7 +48,7 @@ counts-double = record {
   p2 = record { x = tt; y = tt; z = tt };
 }
 
-pub small-double : DoubleWorld plateTooSmall
+small-double : DoubleWorld plateTooSmall
 unfolding plateTooSmall fits ofBits size
 small-double = record {
   p0 = record { x = tt; y = tt; z = tt };
@@ -77,8 +77,15 @@ plate-alike =
     scaling-rule (pos 12) plateInMetres plateInCounts plateBearings plateBearings metres-double
     counts-double counts-times refl (and-l metres counts regular) (and-r metres counts regular)
 
-pub premise-needed : (solve plateInMetres plateBearings .value .refusal ≡ 0)
+too-small : (solve plateInMetres plateBearings .value .refusal ≡ 0)
     × (solve plateTooSmall plateBearings .value .refusal ≡ 2)
     × T (not (solve plateTooSmall plateBearings .regular))
 unfolding evaluated plateInMetres plateInCounts plateTooSmall plateBearings
-premise-needed = (refl, refl, tt)
+too-small = (refl, refl, tt)
+
+pub premise-needed : TimesWorld (negsuc 599) plateInMetres plateTooSmall
+    × DoubleWorld plateTooSmall
+    × (solve plateInMetres plateBearings .value .refusal ≡ 0)
+    × (solve plateTooSmall plateBearings .value .refusal ≡ 2)
+    × T (not (solve plateTooSmall plateBearings .regular))
+premise-needed = (small-times, small-double, too-small .0, too-small .1, too-small .2)

@@ -79,9 +79,9 @@ module _ (k : ℤ) where
 pub scaling-rule : ScalingRule
 unfolding ScalingRule
 scaling-rule k world world' bearings bearings' d d' times same r r' =
-    subst (λ (b : Bearings).
-    T (solve world' b .regular) →
-    rule.Alike k (solve world bearings .value) (solve world' b .value))
+    subst (λ (seen : Bearings).
+    T (solve world' seen .regular) →
+    rule.Alike k (solve world bearings .value) (solve world' seen .value))
     same
     (λ (s : T (solve world' bearings .regular)).
     answer-alike k (solve-finite world bearings)

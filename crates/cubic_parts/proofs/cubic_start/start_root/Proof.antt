@@ -10,7 +10,12 @@ returns c = rw (c .before .if1 .taken, ← c .cardano-single-real .ensures)
 
 returns-2 : tie.Need-returns-2
 unfolding startRoot
-returns-2 c = rw (c .before .before .if1 .left, c .before .if2 .taken, ← c .turning-start .ensures)
+returns-2 c =
+    rw (
+      c .before .before .if1 .left,
+      c .before .if2 .taken,
+      ← c .turning-start .ensures,
+    )
 
 returns-3 : tie.Need-returns-3
 unfolding startRoot

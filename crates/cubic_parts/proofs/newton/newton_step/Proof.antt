@@ -6,16 +6,21 @@ use Rattle.cubic_parts.proofs.newton.newton_step.Tie as tie
 
 returns : tie.Need-returns
 unfolding newtonStep
-returns c = rw (← c .before .before .cubic-value .ensures, ← c .before .abs .ensures, c .if1 .taken)
+returns c =
+    rw (
+      ← c .before .before .cubic-value .ensures,
+      ← c .before .abs .ensures,
+      c .if1 .taken,
+    )
 
 returns-2 : tie.Need-returns-2
 unfolding newtonStep
 returns-2 c =
-    let tested = c .before .before .before in
+    let above = c .before .before .before in
     rw (
-      ← tested .before .before .cubic-value .ensures,
-      ← tested .before .abs .ensures,
-      tested .if1 .left,
+      ← above .before .before .cubic-value .ensures,
+      ← above .before .abs .ensures,
+      above .if1 .left,
       ← c .before .before .is-finite .ensures,
       ← c .before .is-finite2 .ensures,
       c .if2 .taken,
@@ -24,15 +29,15 @@ returns-2 c =
 returns-3 : tie.Need-returns-3
 unfolding newtonStep
 returns-3 c =
-    let is-finite2 = c .before .before .before in
-    let abs = is-finite2 .before .before .before in
+    let divides = c .before .before in
+    let above = divides .before .before .before in
     rw (
-      ← abs .before .cubic-value .ensures,
-      ← abs .abs .ensures,
-      is-finite2 .before .before .if1 .left,
-      ← is-finite2 .before .is-finite .ensures,
-      ← is-finite2 .is-finite2 .ensures,
-      c .before .before .if2 .left,
+      ← above .before .before .cubic-value .ensures,
+      ← above .before .abs .ensures,
+      above .if1 .left,
+      ← divides .before .before .is-finite .ensures,
+      ← divides .before .is-finite2 .ensures,
+      divides .if2 .left,
       ← c .before .is-finite3 .ensures,
       c .if3 .taken,
     )
@@ -40,20 +45,21 @@ returns-3 c =
 returns-4 : tie.Need-returns-4
 unfolding newtonStep
 returns-4 c =
-    let cubic-value2 = c .before .before .before in
-    let tested2 = cubic-value2 .before .before .before in
-    let tested = tested2 .before .before .before in
+    let valued = c .before .before .before in
+    let moved = valued .before in
+    let divides = moved .before .before in
+    let above = divides .before .before .before in
     rw (
-      ← tested .before .before .cubic-value .ensures,
-      ← tested .before .abs .ensures,
-      tested .if1 .left,
-      tested .before .abs .ensures,
-      ← tested2 .before .before .is-finite .ensures,
-      ← tested2 .before .is-finite2 .ensures,
-      tested2 .if2 .left,
-      ← cubic-value2 .before .before .is-finite3 .ensures,
-      cubic-value2 .before .if3 .left,
-      ← cubic-value2 .cubic-value2 .ensures,
+      ← above .before .before .cubic-value .ensures,
+      ← above .before .abs .ensures,
+      above .if1 .left,
+      above .before .abs .ensures,
+      ← divides .before .before .is-finite .ensures,
+      ← divides .before .is-finite2 .ensures,
+      divides .if2 .left,
+      ← moved .before .is-finite3 .ensures,
+      moved .if3 .left,
+      ← valued .cubic-value2 .ensures,
       ← c .before .before .abs2 .ensures,
       ← c .before .abs3 .ensures,
       c .if4 .taken,
@@ -62,20 +68,21 @@ returns-4 c =
 returns-5 : tie.Need-returns-5
 unfolding newtonStep
 returns-5 c =
-    let cubic-value2 = c .before .before .before in
-    let tested2 = cubic-value2 .before .before .before in
-    let tested = tested2 .before .before .before in
+    let valued = c .before .before .before in
+    let moved = valued .before in
+    let divides = moved .before .before in
+    let above = divides .before .before .before in
     rw (
-      ← tested .before .before .cubic-value .ensures,
-      ← tested .before .abs .ensures,
-      tested .if1 .left,
-      tested .before .abs .ensures,
-      ← tested2 .before .before .is-finite .ensures,
-      ← tested2 .before .is-finite2 .ensures,
-      tested2 .if2 .left,
-      ← cubic-value2 .before .before .is-finite3 .ensures,
-      cubic-value2 .before .if3 .left,
-      ← cubic-value2 .cubic-value2 .ensures,
+      ← above .before .before .cubic-value .ensures,
+      ← above .before .abs .ensures,
+      above .if1 .left,
+      above .before .abs .ensures,
+      ← divides .before .before .is-finite .ensures,
+      ← divides .before .is-finite2 .ensures,
+      divides .if2 .left,
+      ← moved .before .is-finite3 .ensures,
+      moved .if3 .left,
+      ← valued .cubic-value2 .ensures,
       ← c .before .before .abs2 .ensures,
       ← c .before .abs3 .ensures,
       c .if4 .left,

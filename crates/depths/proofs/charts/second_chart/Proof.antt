@@ -11,7 +11,11 @@ returns c = rw (← c .before .no-divisor .ensures, c .if1 .taken)
 returns-2 : tie.Need-returns-2
 unfolding secondChart
 returns-2 c =
-    rw (← c .before .before .no-divisor .ensures, c .before .if1 .left, ← c .weight-chart .ensures)
+    rw (
+      ← c .before .before .no-divisor .ensures,
+      c .before .if1 .left,
+      ← c .weight-chart .ensures,
+    )
 
 pub second-chart-spec : {M : Type 1} → statement M
 second-chart-spec =

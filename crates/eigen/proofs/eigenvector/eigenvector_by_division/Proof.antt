@@ -6,12 +6,21 @@ use Rattle.eigen.proofs.eigenvector.eigenvector_by_division.Tie as tie
 
 returns : tie.Need-returns
 unfolding eigenvectorByDivision ifFinite
-returns c = rw (← c .before .before .sqrt .ensures, ← c .before .all-finite .ensures, c .if1 .taken)
+returns c =
+    rw (
+      ← c .before .before .sqrt .ensures,
+      ← c .before .all-finite .ensures,
+      c .if1 .taken,
+    )
 
 returns-2 : tie.Need-returns-2
 unfolding eigenvectorByDivision ifFinite
 returns-2 c =
-    rw (← c .before .before .sqrt .ensures, ← c .before .all-finite .ensures, c .if1 .left)
+    rw (
+      ← c .before .before .sqrt .ensures,
+      ← c .before .all-finite .ensures,
+      c .if1 .left,
+    )
 
 pub eigenvector-by-division-spec : {M : Type 1} → statement M
 eigenvector-by-division-spec =

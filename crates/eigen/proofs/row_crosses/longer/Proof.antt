@@ -7,33 +7,33 @@ use Rattle.eigen.proofs.row_crosses.longer.Tie as tie
 returns : tie.Need-returns
 unfolding longer lastGreatest
 returns c =
-    let norm-squared2 = c .before .before .before in
+    let compared = c .before .before in
     rw (
-      ← norm-squared2 .before .norm-squared .ensures,
-      ← norm-squared2 .norm-squared2 .ensures,
-      ← c .before .before .total-cmp .ensures,
+      ← compared .before .before .norm-squared .ensures,
+      ← compared .before .norm-squared2 .ensures,
+      ← compared .total-cmp .ensures,
       c .enum-told .given .1,
     )
 
 returns-2 : tie.Need-returns-2
 unfolding longer lastGreatest
 returns-2 c =
-    let norm-squared2 = c .before .before .before in
+    let compared = c .before .before in
     rw (
-      ← norm-squared2 .before .norm-squared .ensures,
-      ← norm-squared2 .norm-squared2 .ensures,
-      ← c .before .before .total-cmp .ensures,
+      ← compared .before .before .norm-squared .ensures,
+      ← compared .before .norm-squared2 .ensures,
+      ← compared .total-cmp .ensures,
       c .enum-told2 .given .1,
     )
 
 returns-3 : tie.Need-returns-3
 unfolding longer lastGreatest
 returns-3 c =
-    let norm-squared2 = c .before .before .before in
+    let compared = c .before .before in
     rw (
-      ← norm-squared2 .before .norm-squared .ensures,
-      ← norm-squared2 .norm-squared2 .ensures,
-      ← c .before .before .total-cmp .ensures,
+      ← compared .before .before .norm-squared .ensures,
+      ← compared .before .norm-squared2 .ensures,
+      ← compared .total-cmp .ensures,
       c .enum-told3 .given .1,
     )
 

@@ -8,13 +8,21 @@ returns : tie.Need-returns
 unfolding solve
 returns c =
     let tested = c .before in
-    rw (← tested .before .input-finite .ensures, tested .if1 .taken, ← c .refused .ensures)
+    rw (
+      ← tested .before .input-finite .ensures,
+      tested .if1 .taken,
+      ← c .refused .ensures,
+    )
 
 returns-2 : tie.Need-returns-2
 unfolding solve
 returns-2 c =
     let tested = c .before in
-    rw (← tested .before .input-finite .ensures, tested .if1 .left) (c .solve-ordered .ensures)
+    rw (
+      ← tested .before .input-finite .ensures,
+      tested .if1 .left,
+    )
+    (c .solve-ordered .ensures)
 
 pub solve-spec : {M : Type 1} → statement M
 solve-spec =

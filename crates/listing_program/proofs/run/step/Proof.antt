@@ -53,7 +53,11 @@ module _ (c : tie.After-put-record) where
       Written 1600 (start .args .out .now) (state .at) lines (c .put-record .result .0)
       (c .put-record .last .1 .1 .1 .0)
   put =
-      rw (← number .wrapping-add-u64 .ensures, ← ready .least .ensures) (c .put-record .ensures .0)
+      rw (
+        ← number .wrapping-add-u64 .ensures,
+        ← ready .least .ensures,
+      )
+      (c .put-record .ensures .0)
 
 returns : tie.Need-returns
 returns c =

@@ -44,7 +44,12 @@ returns-2 c =
 
 returns-3 : tie.Need-returns-3
 unfolding recordLines following waits turnLines turnCourse
-returns-3 c = rw (c .before .enum-told .given .1, c .if1 .left) (none _ _, (omega arith, refl))
+returns-3 c =
+    rw (
+      c .before .enum-told .given .1,
+      c .if1 .left,
+    )
+    (none _ _, (omega arith, refl))
 
 returns-4 : tie.Need-returns-4
 unfolding recordLines following waits turnLines turnCourse

@@ -7,7 +7,11 @@ use Rattle.orderings.proofs.condition.leading_share.Tie as tie
 returns : tie.Need-returns
 unfolding leadingShare
 returns c =
-    rw (← c .before .before .folded-scale .ensures, ← c .before .is-finite .ensures, c .if1 .taken)
+    rw (
+      ← c .before .before .folded-scale .ensures,
+      ← c .before .is-finite .ensures,
+      c .if1 .taken,
+    )
 
 returns-2 : tie.Need-returns-2
 unfolding leadingShare

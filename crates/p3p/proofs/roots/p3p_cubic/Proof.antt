@@ -8,17 +8,29 @@ use Rattle.p3p.proofs.roots.p3p_cubic.Tie as tie
 returns : tie.Need-returns
 returns c =
     let told = c .before in
-    rw (← told .before .before .polished-cubic-root .ensures, told .roots .given .1) (refl, refl)
+    rw (
+      ← told .before .before .polished-cubic-root .ensures,
+      told .roots .given .1,
+    )
+    (refl, refl)
 
 returns-2 : tie.Need-returns-2
 returns-2 c =
     let told = c .before in
-    rw (← told .before .before .polished-cubic-root .ensures, told .roots2 .given .1) (refl, refl)
+    rw (
+      ← told .before .before .polished-cubic-root .ensures,
+      told .roots2 .given .1,
+    )
+    (refl, refl)
 
 returns-3 : tie.Need-returns-3
 returns-3 c =
     let told = c .before in
-    rw (← told .before .before .polished-cubic-root .ensures, told .roots3 .given .1) (refl, refl)
+    rw (
+      ← told .before .before .polished-cubic-root .ensures,
+      told .roots3 .given .1,
+    )
+    (refl, refl)
 
 pub p3p-cubic-spec : {M : Type 1} → statement M
 p3p-cubic-spec =

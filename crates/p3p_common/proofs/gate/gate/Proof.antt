@@ -7,10 +7,10 @@ use Rattle.p3p_common.proofs.gate.gate.Tie as tie
 returns : tie.Need-returns
 unfolding gate ifValid
 returns c =
-    let has-near-orthonormal-columns = c .before .before .before in
+    let near = c .before .before in
     rw (
-      ← has-near-orthonormal-columns .has-near-orthonormal-columns .ensures,
-      c .before .before .if1 .taken,
+      ← near .before .has-near-orthonormal-columns .ensures,
+      near .if1 .taken,
       ← c .before .all-finite .ensures,
       c .if2 .taken,
     )
@@ -18,10 +18,10 @@ returns c =
 returns-2 : tie.Need-returns-2
 unfolding gate ifValid
 returns-2 c =
-    let has-near-orthonormal-columns = c .before .before .before in
+    let near = c .before .before in
     rw (
-      ← has-near-orthonormal-columns .has-near-orthonormal-columns .ensures,
-      c .before .before .if1 .taken,
+      ← near .before .has-near-orthonormal-columns .ensures,
+      near .if1 .taken,
       ← c .before .all-finite .ensures,
       c .if2 .left,
     )

@@ -7,18 +7,23 @@ use Rattle.p3p_common.proofs.ray_fits.ray_fits.Tie as tie
 returns : tie.Need-returns
 unfolding rayFits
 returns c =
-    let is-finite = c .before .before .before in
+    let ahead = c .before .before in
     rw (
-      ← is-finite .before .dot .ensures,
-      ← is-finite .is-finite .ensures,
-      c .before .before .if1 .taken,
+      ← ahead .before .before .dot .ensures,
+      ← ahead .before .is-finite .ensures,
+      ahead .if1 .taken,
       ← c .before .cross .ensures,
       ← c .norm-squared .ensures,
     )
 
 returns-2 : tie.Need-returns-2
 unfolding rayFits
-returns-2 c = rw (← c .before .before .dot .ensures, ← c .before .is-finite .ensures, c .if1 .left)
+returns-2 c =
+    rw (
+      ← c .before .before .dot .ensures,
+      ← c .before .is-finite .ensures,
+      c .if1 .left,
+    )
 
 pub ray-fits-spec : {M : Type 1} → statement M
 ray-fits-spec =

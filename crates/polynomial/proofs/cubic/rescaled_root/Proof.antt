@@ -7,12 +7,20 @@ use Rattle.polynomial.proofs.cubic.rescaled_root.Tie as tie
 returns : tie.Need-returns
 unfolding rescaledRoot
 returns c =
-    rw (← c .before .before .newton-steps .ensures, ← c .before .is-finite .ensures, c .if1 .taken)
+    rw (
+      ← c .before .before .newton-steps .ensures,
+      ← c .before .is-finite .ensures,
+      c .if1 .taken,
+    )
 
 returns-2 : tie.Need-returns-2
 unfolding rescaledRoot
 returns-2 c =
-    rw (← c .before .before .newton-steps .ensures, ← c .before .is-finite .ensures, c .if1 .left)
+    rw (
+      ← c .before .before .newton-steps .ensures,
+      ← c .before .is-finite .ensures,
+      c .if1 .left,
+    )
 
 pub rescaled-root-spec : {M : Type 1} → statement M
 rescaled-root-spec =

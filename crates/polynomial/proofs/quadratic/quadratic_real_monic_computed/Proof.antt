@@ -7,7 +7,11 @@ use Rattle.polynomial.proofs.quadratic.quadratic_real_monic_computed.Ti
 returns : tie.Need-returns
 unfolding quadraticRealMonicComputed
 returns c =
-    rw (← c .before .before .is-finite .ensures, ← c .before .is-finite2 .ensures, c .if1 .taken)
+    rw (
+      ← c .before .before .is-finite .ensures,
+      ← c .before .is-finite2 .ensures,
+      c .if1 .taken,
+    )
 
 returns-2 : tie.Need-returns-2
 unfolding quadraticRealMonicComputed

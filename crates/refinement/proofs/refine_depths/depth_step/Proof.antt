@@ -7,7 +7,11 @@ use Rattle.refinement.proofs.refine_depths.depth_step.Tie as tie
 returns : tie.Need-returns
 unfolding depthStep
 returns c =
-    rw (← c .before .before .depth-residual .ensures, ← c .before .abs-sum .ensures, c .if1 .taken)
+    rw (
+      ← c .before .before .depth-residual .ensures,
+      ← c .before .abs-sum .ensures,
+      c .if1 .taken,
+    )
 
 returns-2 : tie.Need-returns-2
 unfolding depthStep
