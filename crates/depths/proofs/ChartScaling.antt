@@ -14,7 +14,7 @@ use Rattle.ieee754.specs.Scaling.{Both, At}
 use Rattle.ieee754_laws.proofs.Degrees.{same, null, !_, ⊝_, √_, _⊗_, _⊘_, _⊕_, _⊖_, pure, _>>=_}
 use Rattle.ieee754_laws.proofs.Degrees.{_>>≡_, if_then_else_, choose, lt-same, le-same, eq-same}
 use Rattle.ieee754_laws.proofs.Degrees.{finite-same, equal}
-use Rattle.ieee754_laws.proofs.Entries.{set-entries, four-entries}
+use Rattle.frames.proofs.Entries.{set-entries, four-entries}
 use Rattle.linalg.specs.VectorScaling.{AtVector}
 use Rattle.linalg.proofs.VectorDegrees.{null-vector}
 use Rattle.frames.specs.FrameScaling.{AtSquaredEdges}

@@ -6,7 +6,6 @@ pub mod Powers
 pub mod RoundScale
 pub mod ScaleLaws
 pub mod Degrees
-pub mod Entries
 pub mod RegularNormal
 pub mod MinPositive
 pub mod Finite

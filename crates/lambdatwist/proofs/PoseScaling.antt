@@ -7,7 +7,7 @@ use Prim.Native.Nat.{ℕ}
 use lib.IntN.{ℤ, pos, negsuc}
 use Rattle.ieee754.specs.Scaling.{Both}
 use Rattle.ieee754_laws.proofs.Degrees.{null, pure, _>>=_, _>>≡_, if_then_else_, le-same}
-use Rattle.ieee754_laws.proofs.Entries.{take-entries}
+use Rattle.frames.proofs.Entries.{take-entries}
 use Rattle.linalg.specs.VectorScaling.{AtVector, AtRows}
 use Rattle.linalg.proofs.VectorDegrees.{same-vector, vecSub-scales, vecMul-scales, allFinite-same}
 use Rattle.linalg.proofs.MatrixDegrees.{same-matrix, columns-at, matVec-scales}

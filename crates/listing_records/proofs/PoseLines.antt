@@ -4,7 +4,7 @@ use mathlib.Core.Path.{_≡_}
 use mathlib.Core.List.{List, _++_}
 use native.Mathlib.Numerals.{add-one}
 use lib.ListN.{length, getD}
-use Rattle.ieee754_laws.proofs.Entries.{inside-same}
+use Rattle.frames.proofs.Entries.{inside-same}
 use Rattle.frames.specs.Poses.{zeroPose}
 use Rattle.listing_records.specs.Types.{Pose}
 use Rattle.listing.specs.Bytes.{Stored}

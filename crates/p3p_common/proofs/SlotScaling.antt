@@ -7,7 +7,7 @@ use lib.Dec.{ltb}
 use lib.ListN.{set}
 use Rattle.ieee754.specs.Scaling.{Both}
 use Rattle.ieee754_laws.proofs.Degrees.{pure, _>>=_, choose}
-use Rattle.ieee754_laws.proofs.Entries.{set-entries, four-entries}
+use Rattle.frames.proofs.Entries.{set-entries, four-entries}
 use Rattle.frames.specs.Poses.{zeroPose}
 use Rattle.linalg.specs.VectorScaling.{AtVector}
 use Rattle.linalg.proofs.VectorDegrees.{null-vector}
