@@ -129,7 +129,12 @@ module _ {k : ℤ} where
         ⊝ ! (M .m00) ⊗ ! (M .m11) >>= λ _ _ product.
         ! (M .m01) ⊗ ! (M .m12) ⊖ ! (M .m02) ⊗ ! (M .m11) >>= λ _ _ precomputed0.
         ! (M .m01) ⊗ ! (M .m02) ⊖ ! (M .m00) ⊗ ! (M .m12) >>= λ _ _ precomputed1.
-        pure (record { square = square; product = product; precomputed0 = precomputed0; precomputed1 = precomputed1 })
+        pure (record {
+          square = square;
+          product = product;
+          precomputed0 = precomputed0;
+          precomputed1 = precomputed1;
+        })
 
     module _ {p p' : Precomputed} {e e' : Float} (P : AtPrecomputed p p')
         (E : At k (pos 2) e e') where

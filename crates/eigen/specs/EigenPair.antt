@@ -32,7 +32,8 @@ pairCoefficient m offDiagonalSquared =
 -- if first_value == 0.0 || second_value == 0.0 { return None; }
 unfoldable pub nonzeroPair : Float → Float → Eigenvalues
 nonzeroPair firstValue secondValue =
-    if eq firstValue plusZero || eq secondValue plusZero then NoPair else Pair firstValue secondValue
+    if eq firstValue plusZero || eq secondValue plusZero then NoPair
+    else Pair firstValue secondValue
 
 -- if first_value.abs() < second_value.abs() {
 --     std::mem::swap(&mut first_value, &mut second_value); }

@@ -19,7 +19,12 @@ precompute m offDiagonalSquared = do
   product ← ⊝ ! (m .m00) ⊗ ! (m .m11)
   precomputed0 ← ! (m .m01) ⊗ ! (m .m12) ⊖ ! (m .m02) ⊗ ! (m .m11)
   precomputed1 ← ! (m .m01) ⊗ ! (m .m02) ⊖ ! (m .m00) ⊗ ! (m .m12)
-  pure (record { square = offDiagonalSquared; product = product; precomputed0 = precomputed0; precomputed1 = precomputed1 })
+  pure (record {
+    square = offDiagonalSquared;
+    product = product;
+    precomputed0 = precomputed0;
+    precomputed1 = precomputed1;
+  })
 
 -- eigenvalue * (matrix[(0, 0)] + matrix[(1, 1)]) + product00_11
 --     - eigenvalue * eigenvalue + off_diagonal_squared

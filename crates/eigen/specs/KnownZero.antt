@@ -12,7 +12,8 @@ use Rattle.eigen.specs.EigenPair.{withEigenvalues, eigenvaluePair}
 use Rattle.eigen.specs.EigenvectorOf.{precompute, eigenvectorOf}
 use Rattle.eigen.specs.Types.{Vector3, Matrix3, Eigensystem, Found, NotFound}
 
--- ---- what follows a system: what `k` makes of its eigenvectors and eigenvalues, and `none` without one
+-- ---- what follows a system: what `k` makes of its eigenvectors and eigenvalues, and `none` where
+--      there is none
 abbrev pub withSystem : {A : Type 0}
     → Eigensystem
     → Traced A

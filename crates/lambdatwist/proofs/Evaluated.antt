@@ -12,7 +12,7 @@ use Rattle.lambdatwist.specs.Solve.{answered, refused, ifKept, solveCand
 use Rattle.lambdatwist.specs.Solve.{solveCubic, orderedOr, bestOr, solveOrdered, solve}
 
 unfoldable pub evaluated : Unit {0}
-unfolding frames-evaluated roots-evaluated refinement-evaluated gates-evaluated eigen-evaluated orderings-evaluated
-    depths-evaluated allPositive pushDepths poseTurn poseTurns poses answered refused ifKept
-    solveCandidates solveRoot solveCubic orderedOr bestOr solveOrdered solve
+unfolding frames-evaluated roots-evaluated refinement-evaluated gates-evaluated eigen-evaluated
+    orderings-evaluated depths-evaluated allPositive pushDepths poseTurn poseTurns poses answered
+    refused ifKept solveCandidates solveRoot solveCubic orderedOr bestOr solveOrdered solve
 evaluated = tt

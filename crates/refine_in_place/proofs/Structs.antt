@@ -20,7 +20,8 @@ VectorS =
     record { type = vector.the-type; laws = vector-laws.the-laws; plain = vector-laws.the-plain }
 
 abbrev pub SquaresS : PlainStruct
-SquaresS = record { type = squares.the-type; laws = squares-laws.the-laws; plain = squares-laws.the-plain }
+SquaresS =
+    record { type = squares.the-type; laws = squares-laws.the-laws; plain = squares-laws.the-plain }
 
 abbrev pub CosinesS : PlainStruct
 CosinesS =

@@ -95,7 +95,8 @@ module _ {k : ℤ} (cosines : Cosines) where
 
   -- ---- the loop
   module _ {squares squares' : SquaredEdges} {tolerance tolerance' : Float}
-      (squares-at : AtSquaredEdges k squares squares') (tolerance-at : At k (pos 2) tolerance tolerance') where
+      (squares-at : AtSquaredEdges k squares squares')
+      (tolerance-at : At k (pos 2) tolerance tolerance') where
     depthStep-scales : {depths depths' : Vector3}
         → AtVector k (pos 1) depths depths'
         → Both (AtStep k)
@@ -132,5 +133,6 @@ module _ {k : ℤ} (cosines : Cosines) where
       (refineDepths depths' squares' cosines iterations)
   unfolding refineDepths
   refineDepths-scales iterations depths squares =
-      ! same ten⁻¹⁰ ⊗ ! max-at (max-at (squares .a01) (squares .a02)) (squares .a12) >>= λ _ _ tolerance.
+      let largest = max-at (max-at (squares .a01) (squares .a02)) (squares .a12) in
+      ! same ten⁻¹⁰ ⊗ ! largest >>= λ _ _ tolerance.
       refineTurns-scales squares tolerance iterations 0 depths

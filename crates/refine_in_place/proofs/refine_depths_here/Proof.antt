@@ -51,7 +51,8 @@ use Rattle.linalg.specs.declared.vector3.Vector3.{Vector3}
 use Rattle.refinement.specs.declared.refine_depths.Refined.{Refined}
 use Rattle.refine_in_place.proofs.Loan.{meets, Row, val, Fit, ref, typed, had, lends-local}
 use Rattle.refine_in_place.proofs.Loan.{local-back}
-use Rattle.refine_in_place.proofs.Structs.{VectorS, SquaresS, CosinesS, RefinedS, refined-fits}
+use Rattle.refine_in_place.proofs.Structs.{VectorS, SquaresS, CosinesS, RefinedS}
+use Rattle.refine_in_place.proofs.Structs.{refined-fits}
 use Rattle.refine_in_place.proofs.Others.{Others, Args as OtherArgs, args as others, of}
 use Rattle.refine_in_place.proofs.Others.{vals, spelt, tells, stayed as others-stayed}
 use Rattle.refine_in_place.proofs.Others.{gone as others-gone, had-others}
@@ -90,7 +91,10 @@ module _ {M : Type 1} (𝓤 : URA M) (H : Heap 𝓤) (A : Atoms 𝓤) (W : Given
 
   abbrev passed : List Val
   passed =
-      val VectorS d ∷ val SquaresS (p .squares) ∷ val CosinesS (p .cosines) ∷ vint w32 (p .iterations)
+      val VectorS d
+      ∷ val SquaresS (p .squares)
+      ∷ val CosinesS (p .cosines)
+      ∷ vint w32 (p .iterations)
       ∷ []
 
   abbrev Post : Val → SProp 𝓤

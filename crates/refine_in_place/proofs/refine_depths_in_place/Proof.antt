@@ -95,7 +95,11 @@ module _ {M : Type 1} (𝓤 : URA M) (H : Heap 𝓤) (A : Atoms 𝓤) (W : Given
 
   abbrev passed : List Val
   passed =
-      vptr b o ∷ val SquaresS (p .squares) ∷ val CosinesS (p .cosines) ∷ vint w32 (p .iterations) ∷ []
+      vptr b o
+      ∷ val SquaresS (p .squares)
+      ∷ val CosinesS (p .cosines)
+      ∷ vint w32 (p .iterations)
+      ∷ []
 
   abbrev Post : Val → SProp 𝓤
   Post =
