@@ -1,6 +1,5 @@
 -- The structs and enums that definitions and laws of this crate name: those of its src/, and those
 -- of the crates below.
-pub use Rattle.linalg.specs.declared.matrix3.Matrix3.{Matrix3}
 pub use Rattle.linalg.specs.declared.vector3.Vector3.{Vector3}
 pub use Rattle.frames.specs.declared.bearings.Bearings.{Bearings}
 pub use Rattle.frames.specs.declared.pose.Pose.{Pose}

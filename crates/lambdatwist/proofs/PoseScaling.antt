@@ -18,7 +18,7 @@ use Rattle.refinement.proofs.RefineScaling.{refineDepths-scales}
 use Rattle.p3p_common.proofs.BasisScaling.{rotationFromEdges-same}
 use Rattle.p3p_common.proofs.SlotScaling.{empty-scales, pushPose-scales}
 use Rattle.lambdatwist.specs.Poses.{allPositive, pushDepths, poseTurn, poseTurns, poses}
-use Rattle.lambdatwist.specs.Types.{Vector3, Matrix3, Cosines, P3pInput, Measured, Refined}
+use Rattle.lambdatwist.specs.Types.{Vector3, Matrix3, P3pInput, Measured, Refined}
 use Rattle.lambdatwist.specs.Types.{Solutions, Candidates}
 use Rattle.orderings.proofs.MeasureScaling.{AtMeasured}
 use Rattle.depths.proofs.ChartScaling.{AtCandidates}

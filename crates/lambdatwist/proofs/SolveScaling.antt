@@ -26,7 +26,7 @@ use Rattle.p3p_common.proofs.SlotScaling.{empty-scales}
 use Rattle.lambdatwist.specs.Solve.{answered, refused, ifKept, stopped, solveCandidates}
 use Rattle.lambdatwist.specs.Solve.{solveRoot, solveCubic, orderedOr, bestOr, solveOrdered}
 use Rattle.lambdatwist.specs.Solve.{solve}
-use Rattle.lambdatwist.specs.Types.{Matrix3, World, Bearings, P3pInput, Solutions, Factors}
+use Rattle.lambdatwist.specs.Types.{Matrix3, World, Bearings, P3pInput, Solutions}
 use Rattle.lambdatwist.specs.Types.{Measured, Coefficients, Candidates, Answer}
 use Rattle.orderings.proofs.CubicScaling.{AtCoefficients, isUnusable-same}
 use Rattle.orderings.proofs.MeasureScaling.{AtMeasured, measure-scales, measuredCubic-scales}

@@ -3,12 +3,10 @@
 pub use Rattle.linalg.specs.declared.matrix3.Matrix3.{Matrix3}
 pub use Rattle.linalg.specs.declared.vector3.Vector3.{Vector3}
 pub use Rattle.frames.specs.declared.bearings.Bearings.{Bearings}
-pub use Rattle.frames.specs.declared.cosines.Cosines.{Cosines}
 pub use Rattle.frames.specs.declared.world.World.{World}
 pub use Rattle.refinement.specs.declared.refine_depths.Refined.{Refined}
 pub use Rattle.p3p_common.specs.declared.input.P3pInput.{P3pInput}
 pub use Rattle.p3p_common.specs.declared.solutions.Solutions.{Solutions}
-pub use Rattle.orderings.specs.declared.angles.Factors.{Factors}
 pub use Rattle.orderings.specs.declared.cubic.Coefficients.{Coefficients}
 pub use Rattle.orderings.specs.declared.measured.Measured.{Measured}
 pub use Rattle.depths.specs.declared.candidates.Candidates.{Candidates}

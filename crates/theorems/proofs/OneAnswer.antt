@@ -1,7 +1,7 @@
 -- Demand 1 of the mission, as specs/OneAnswer.antt states it: the answer to eighteen doubles is one
 -- to four finite poses or number 1, 2 or 3. Assumes nothing.
 use mathlib.Core.Path.{refl}
-use mathlib.Core.Bool.{Bool, true, false, not, _||_}
+use mathlib.Core.Bool.{Bool, not, _||_}
 use Prim.Native.Nat.{ℕ}
 use native.Mathlib.Nat.{pos-of-ne-zero}
 use lib.Dec.{T, T-not, eqb}
