@@ -48,7 +48,7 @@ pub extern "C" fn p3p_cubic(b: f64, c: f64, d: f64, root: &mut f64) -> u32
             *root = x;
             0
         }
-        Roots::Refused(refusal) => refusal,
+        Roots::Refused(number) => number,
     }
 }
 
