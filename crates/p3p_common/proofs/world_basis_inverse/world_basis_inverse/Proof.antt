@@ -20,11 +20,12 @@ returns : tie.Need-returns
 unfolding worldBasisInverse
 returns c =
     let measured = c .before .before in
-    let crossed = measured .before .before .before .before in
+    let edges = measured .before .before in
+    let normal = edges .before .before in
     rw (
-      ← crossed .cross .ensures,
-      ← measured .before .before .before .norm-squared .ensures,
-      ← measured .before .before .norm-squared2 .ensures,
+      ← normal .cross .ensures,
+      ← edges .before .norm-squared .ensures,
+      ← edges .norm-squared2 .ensures,
       ← measured .before .norm-squared3 .ensures,
       ← measured .max .ensures,
       singular-value _ _,
@@ -36,11 +37,12 @@ returns-2 : tie.Need-returns-2
 unfolding worldBasisInverse
 returns-2 c =
     let measured = c .before .before .before in
-    let crossed = measured .before .before .before .before in
+    let edges = measured .before .before in
+    let normal = edges .before .before in
     rw (
-      ← crossed .cross .ensures,
-      ← measured .before .before .before .norm-squared .ensures,
-      ← measured .before .before .norm-squared2 .ensures,
+      ← normal .cross .ensures,
+      ← edges .before .norm-squared .ensures,
+      ← edges .norm-squared2 .ensures,
       ← measured .before .norm-squared3 .ensures,
       ← measured .max .ensures,
       singular-value _ _,
