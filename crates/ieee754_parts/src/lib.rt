@@ -6,6 +6,6 @@ pub mod leading;
 pub mod normal;
 pub mod pack;
 mod round;
-mod sum;
+pub mod sum;
 pub mod unpack;
 pub mod wide;

@@ -14,7 +14,7 @@ use crate::wide::sub_wide;
 
 // ±a * 2^exp / 2^2166 + ±b * 2^exp / 2^2166, rounded. A sum of zero is -0 only where both are
 // negative.
-fn sum_aligned(a_negative: bool, a: Wide, b_negative: bool, b: Wide, exp: u64) -> f64
+pub fn sum_aligned(a_negative: bool, a: Wide, b_negative: bool, b: Wide, exp: u64) -> f64
     requires { ⌜ (a .hi + b .hi + 1 < 2 ^ 64) × (64 ≤ exp) × (exp < 4900) ⌝ }
     ensures { λ r.
         ⌜ r ≡ summed «a_negative» (value a * 2 ^ exp) «b_negative» (value b * 2 ^ exp) ⌝ }

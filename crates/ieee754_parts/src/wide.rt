@@ -34,8 +34,8 @@ pub(crate) fn add_words(a: u64, b: u64) -> Wide
     }
 }
 
-// a * b, from halves of 32 bits. The middle column goes half to the high word and half, moved up,
-// to the low one, whose sum has a carry.
+// a * b, from halves of 32 bits. The carries go up one after the other, a form that compilers make
+// one multiplication of.
 pub fn product(a: u64, b: u64) -> Wide
     requires { ⌜ (a < 2 ^ 62) × (b < 2 ^ 62) ⌝ }
     ensures { λ r. ⌜ value r ≡ a * b ⌝ }
@@ -44,11 +44,15 @@ pub fn product(a: u64, b: u64) -> Wide
     let a0 = a % 0x1_0000_0000;
     let b1 = b / 0x1_0000_0000;
     let b0 = b % 0x1_0000_0000;
-    let middle = a1 * b0 + a0 * b1;
-    let low = add_words(a0 * b0, middle << 32);
+    let low = a0 * b0;
+    let cross = a1 * b0;
+    let other = a0 * b1;
+    let first = low / 0x1_0000_0000 + cross;
+    let second = first % 0x1_0000_0000 + other;
+    let lo = wrapping_add_u64((cross + other) << 32, low);
     Wide {
-        hi: a1 * b1 + (middle >> 32) + low.hi,
-        lo: low.lo,
+        hi: a1 * b1 + first / 0x1_0000_0000 + second / 0x1_0000_0000,
+        lo,
     }
 }
 

@@ -3,9 +3,12 @@
 // A guess at the root of the significand, made with floats, is settled in integers, and where
 // neither it nor the next number is right the digits are found one by one. So nothing is claimed of
 // the floats.
+ghost use mathlib.Core.Path.{_≡_};
+ghost use mathlib.Core.Bool.{true};
 ghost use Prim.Native.Nat.{_*_, _^_, _≤_, _<_};
 ghost use Rattle.ieee754_roots.specs.Nearest.{IsNearest, Settled, IsResidue};
 use crate::start::half_reciprocal_root;
+use ieee754_parts::format::INFINITY;
 use ieee754_parts::format::LEADING;
 use ieee754_parts::wide::Difference;
 use ieee754_parts::wide::Wide;
@@ -14,9 +17,6 @@ use ieee754_parts::wide::word_difference;
 
 // What `residue` adds: 2^55, which is 8 * 2^52.
 const BIAS: u64 = 0x80_0000_0000_0000;
-
-// 2^-53, half the weight of the last digit of a root from 1 up to 2.
-const HALF_LAST: f64 = 0.00000000000000011102230246251565;
 
 // The whole number nearest to the root of n * 2^52, which has 53 digits. They are found one by one
 // from the top: `root` is what the digits so far come to, `bit` the weight of the last of them, and
@@ -40,19 +40,27 @@ fn by_digits(n: u64) -> u64
     if root < rest { root + 1 } else { root }
 }
 
-// A guess at the root of x = m * 2^odd / 2^52: half the root's reciprocal from a line, mended by
-// Newton's method, then 2x times that, mended once more and lowered by half a last digit, so that
-// the guess is the nearest double or the one below. Nothing is claimed of it.
+// A guess at the root of x = m * 2^odd / 2^52: half the root's reciprocal from a line gives the root
+// `a`, Newton's method mends both, and the root r once more by the rest x - r * r. That is computed
+// in two parts, of which x - top * top, with the upper digits of `a`, is exact. So the guess is
+// nearly always the nearest double, and else the one below. Nothing is claimed of it.
 fn guess(m: u64, odd: u64) -> f64
     requires { ⌜ (2 ^ 52 ≤ m) × (m < 2 ^ 53) × (odd < 2) ⌝ }
 {
     let bits = (1022 + odd) * LEADING + m;
     let x = f64::from_bits(bits);
-    let twice = x + x;
     let start = half_reciprocal_root(x, bits);
-    let h = 1.5 * start - twice * start * (start * start);
-    let r = twice * h;
-    r + ((x - r * r) * h - HALF_LAST)
+    let a = (x + x) * start;
+    if a < 4.0 {
+        let pattern = f64::to_bits(a);
+        if pattern < INFINITY {
+            let top = f64::from_bits(pattern / 0x800_0000 * 0x800_0000);
+            let c = 1.5 - a * start;
+            let r = a * c;
+            return r + ((x - top * top) - (r + top) * (r - top)) * (start * c);
+        }
+    }
+    a
 }
 
 // n * 2^52 - q * q, plus `BIAS` so that it is no less than 0 where it is small.
@@ -88,7 +96,24 @@ fn settled(n: u64, q: u64) -> u64
     if BIAS + q < r.lo { q + 1 } else { q }
 }
 
-// The whole number nearest to the root of m * 2^odd * 2^52.
+// Whether q is the whole number nearest to the root of n * 2^52. That exceeds q * (q - 1) then, by at
+// most 2 * q.
+fn is_nearest(n: u64, q: u64) -> bool
+    requires { ⌜ (n < 2 ^ 54) × (2 ^ 52 ≤ q) × (q < 2 ^ 53) ⌝ }
+    ensures { λ r. ⌜ (r ≡ true → IsNearest 2 (n * 2 ^ 52) q) ⌝ }
+{
+    let low = n % 0x1000 * LEADING;
+    let target = Wide {
+        hi: n / 0x1000,
+        lo: low,
+    };
+    let r = word_difference(target, product(q, q - 1));
+    let rest = r.lo;
+    !r.lost & ((0 < rest) & (rest <= 2 * q))
+}
+
+// The whole number nearest to the root of m * 2^odd * 2^52. The guess is asked for by itself first:
+// it is then known before the test of it is.
 pub fn nearest(m: u64, odd: u64) -> u64
     requires { ⌜ (2 ^ 52 ≤ m) × (m < 2 ^ 53) × (odd < 2) ⌝ }
     ensures { λ r. ⌜ IsNearest 2 (m * 2 ^ odd * 2 ^ 52) r ⌝ }
@@ -97,6 +122,9 @@ pub fn nearest(m: u64, odd: u64) -> u64
     let root = guess(m, odd);
     if root < 4.0 {
         let digits = f64::to_bits(root) % LEADING + LEADING;
+        if is_nearest(n, digits) {
+            return digits;
+        }
         let q = settled(n, digits);
         if q != 0 {
             return q;

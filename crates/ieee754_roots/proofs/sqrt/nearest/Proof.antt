@@ -1,9 +1,10 @@
--- `nearest` meets its contract: a guess that settles is right, and where none does the digits are
--- found one by one. Assumes nothing.
-use Prim.Native.Nat.{ℕ, _+_, _%_, _^_, _≤_, _<_}
+-- `nearest` meets its contract: a guess that is the nearest number or settles is right, and where
+-- none does the digits are found one by one. Assumes nothing.
+use Prim.Native.Nat.{ℕ, _+_, _*_, _%_, _^_, _≤_, _<_}
 use native.Mathlib.Nat.{add-comm}
 use borrow.Author.Needs.{needs}
 use lib.Dec.{lit≤}
+use Rattle.ieee754_roots.specs.Nearest.{IsNearest}
 use Rattle.ieee754_roots.proofs.Moved.{moved-range, moved-nearest}
 use Rattle.ieee754_parts.proofs.Reading.{field-range, below-not-nan}
 use Rattle.ieee754_roots.proofs.sqrt.nearest.Statement.{statement}
@@ -16,35 +17,56 @@ digits-range b = rw (add-comm (b % 2 ^ 52) (2 ^ 52)) (field-range b)
 float-to-bits-digits : tie.Need-float-to-bits-digits
 float-to-bits-digits c = below-not-nan _ _ (c .if1 .taken)
 
-settled-requires : tie.Need-settled-requires
-settled-requires c κs =
-    let s = c .before .before in (
-      moved-range 2 (s .args .m) (s .args .odd) (s .pre .0) (s .pre .1) (s .pre .2) (lit≤ tt) .1,
-      digits-range _ .0,
-      digits-range _ .1,
-    )
+-- what is asked of a guess's digits
+in-range : (s : tie.Start) (b : ℕ)
+    → (s .args .m * 2 ^ s .args .odd % 2 ^ 64 < 2 ^ 54)
+    × (2 ^ 52 ≤ b % 2 ^ 52 + 2 ^ 52)
+    × (b % 2 ^ 52 + 2 ^ 52 < 2 ^ 53)
+in-range s b = (
+  moved-range 2 (s .args .m) (s .args .odd) (s .pre .0) (s .pre .1) (s .pre .2) (lit≤ tt) .1,
+  digits-range b .0,
+  digits-range b .1,
+)
+
+-- a number near to the root by the moved significand is near to the root
+near : (s : tie.Start) {q : ℕ}
+    → IsNearest 2 (s .args .m * 2 ^ s .args .odd % 2 ^ 64 * 2 ^ 52) q
+    → IsNearest 2 (s .args .m * 2 ^ s .args .odd * 2 ^ 52) q
+near s h = moved-nearest 2 (s .args .m) (s .args .odd) (s .pre .0) (s .pre .1) (s .pre .2) (lit≤ tt) h
+
+is-nearest-requires : tie.Need-is-nearest-requires
+is-nearest-requires c κs = let s = c .before .before in in-range s _
 
 returns : tie.Need-returns
 returns c =
+    let after-is-nearest = c .before in
+    let after-guess = after-is-nearest .before .before in
+    near (after-guess .before) (after-is-nearest .is-nearest .ensures (c .if2 .taken))
+
+settled-requires : tie.Need-settled-requires
+settled-requires c κs =
+    let after-is-nearest = c .before in
+    let after-guess = after-is-nearest .before .before in
+    in-range (after-guess .before) _
+
+returns-2 : tie.Need-returns-2
+returns-2 c =
     let after-settled = c .before in
-    let after-guess = after-settled .before .before in
-    let s = after-guess .before in
-    moved-nearest 2 (s .args .m) (s .args .odd) (s .pre .0) (s .pre .1) (s .pre .2) (lit≤ tt)
-    (after-settled .settled .ensures (c .if2 .taken))
+    let after-is-nearest = after-settled .before .before in
+    let after-guess = after-is-nearest .before .before in
+    near (after-guess .before) (after-settled .settled .ensures (c .if3 .taken))
 
 by-digits-requires : tie.Need-by-digits-requires
 by-digits-requires c κs =
     let s = c .before .before in
     moved-range 2 (s .args .m) (s .args .odd) (s .pre .0) (s .pre .1) (s .pre .2) (lit≤ tt)
 
-returns-2 : tie.Need-returns-2
-returns-2 c =
-    let after-guess = c .before .before in
-    let s = after-guess .before in
-    moved-nearest 2 (s .args .m) (s .args .odd) (s .pre .0) (s .pre .1) (s .pre .2) (lit≤ tt)
-    (c .by-digits .ensures)
+returns-3 : tie.Need-returns-3
+returns-3 c =
+    let after-guess = c .before .before in near (after-guess .before) (c .by-digits .ensures)
 
 pub nearest-spec : {M : Type 1} → statement M
 nearest-spec =
     tie.close (tie.spec (λ c. search needs) (λ c _. search needs) float-to-bits-digits
-    (λ c. search needs) settled-requires returns by-digits-requires returns-2)
+    (λ c. search needs) is-nearest-requires returns settled-requires returns-2 by-digits-requires
+    returns-3)
