@@ -1,35 +1,36 @@
--- The sign of a value and of its bit pattern: a pattern with the sign's bit cleared is the
--- magnitude (`abs-bits`), and that bit is the value's sign (`negative-bits`). Assumes nothing.
-use Prim.Native.Nat.{ℕ, zero, suc, _+_, _-_, _/_, _%_, _<_}
+-- The sign of a value and of its bit pattern: a pattern whose sign's bit is another's stands for the
+-- value with that one's sign (`copysign-bits`), and the bit is the value's sign (`negative-bits`).
+-- Assumes nothing.
+use Prim.Native.Nat.{ℕ, zero, suc, _+_, _-_, _*_, _/_, _%_}
 use mathlib.Core.Path.{_≡_, refl, sym, ap, ap₂, _∙_, subst}
 use mathlib.Core.Bool.{Bool, true, false, not, cond}
-use native.Mathlib.Nat.{mod-lt, mul-pos, zero-lt-suc, mod-mod, mod-mod-of-dvd, dvd-mul-right}
+use native.Mathlib.Nat.{mod-mod, mod-mod-of-dvd, dvd-mul-right}
+use native.Mathlib.Nat.{add-mul-mod-self-right}
 use lib.Dec.{T, leb, eqb}
-use lib.Pow.{pow-pos}
 use lib.Ieee.{Float, nan, inf, Format, prec, low, hid, ones, top, odd, ofFields, ofBits, toBits}
 use lib.Ieee.{isNan, fits}
 use lib.Ieee.Bits.{ofBits-toBits}
-use borrow.Author.Tests.{lt-leb}
-use Rattle.ieee754.specs.Magnitude.{abs}
-use Rattle.ieee754.specs.CopySign.{negative}
+use Rattle.ieee754.specs.CopySign.{negative, copysign}
 
 -- ---- the fields of a pattern
-abs-odd : (d : ℕ) (s : Bool) (q k l : ℕ) → abs (odd d s q k l) ≡ odd d false q k l
-unfolding odd abs
-abs-odd d s zero k l = refl
-abs-odd d s (suc q) k l = refl
+copysign-odd : (d : ℕ) (s : Bool) (q k l : ℕ) (y : Float)
+    → copysign (odd d s q k l) y ≡ odd d (negative y) q k l
+unfolding odd copysign
+copysign-odd d s zero k l y = refl
+copysign-odd d s (suc q) k l y = refl
 
-abs-fields : (f : Format) (s : Bool) (x t : ℕ) → abs (ofFields f s x t) ≡ ofFields f false x t
-unfolding ofFields abs
-abs-fields f s zero t = abs-odd (prec f) s t 0 (low f)
-abs-fields f s (suc x) t = go (eqb (suc x) (ones f)) (eqb t 0)
+copysign-fields : (f : Format) (s : Bool) (x t : ℕ) (y : Float)
+    → copysign (ofFields f s x t) y ≡ ofFields f (negative y) x t
+unfolding ofFields copysign
+copysign-fields f s zero t y = copysign-odd (prec f) s t 0 (low f) y
+copysign-fields f s (suc x) t y = go (eqb (suc x) (ones f)) (eqb t 0)
   where
     go : (a b : Bool)
-        → abs (cond a (cond b (inf s) nan) (odd (prec f) s (hid f + t) x (low f)))
-        ≡ cond a (cond b (inf false) nan) (odd (prec f) false (hid f + t) x (low f))
+        → copysign (cond a (cond b (inf s) nan) (odd (prec f) s (hid f + t) x (low f))) y
+        ≡ cond a (cond b (inf (negative y)) nan) (odd (prec f) (negative y) (hid f + t) x (low f))
     go true true = refl
     go true false = refl
-    go false b = abs-odd (prec f) s (hid f + t) x (low f)
+    go false b = copysign-odd (prec f) s (hid f + t) x (low f) y
 
 negative-odd : (d : ℕ) (s : Bool) (q k l : ℕ) → negative (odd d s q k l) ≡ s
 unfolding odd
@@ -51,17 +52,25 @@ negative-fields f s (suc x) t h = go (eqb (suc x) (ones f)) (eqb t 0) h
     go false b h = negative-odd (prec f) s (hid f + t) x (low f)
 
 -- ---- a value by its pattern
-pub abs-bits : (f : Format) (x : Float) → T (fits f x) → ofBits f (toBits f x % top f) ≡ abs x
+
+-- n is x's pattern without the sign's bit, and with that of y's sign
+pub copysign-bits : (f : Format) (x y : Float) (k : ℕ)
+    → T (fits f x)
+    → let n = toBits f x % top f + k * top f in leb (top f) n ≡ negative y
+    → ofBits f n ≡ copysign x y
 unfolding ofBits
-abs-bits f x h =
+copysign-bits f x y k h s =
     let b = toBits f x in
-    let some : 0 < top f = mul-pos (pow-pos (prec f - 1)) (zero-lt-suc (ones f)) in
-    ap (λ (s : Bool). ofFields f s (b % top f % top f / hid f) (b % top f % hid f))
-    (lt-leb (top f) (b % top f) (mod-lt b some))
-    ∙ ap₂ (λ (y z : ℕ). ofFields f false (y / hid f) z)
-    (mod-mod b (top f)) (mod-mod-of-dvd _ b (dvd-mul-right (hid f) (suc (ones f))))
-    ∙ sym (abs-fields f (leb (top f) b) (b % top f / hid f) (b % hid f))
-    ∙ ap abs (ofBits-toBits f x h)
+    let n = b % top f + k * top f in
+    let upper : n % top f ≡ b % top f = add-mul-mod-self-right (b % top f) k (top f) ∙ mod-mod b (top f) in
+    let lower : n % hid f ≡ b % hid f =
+    sym (mod-mod-of-dvd _ n (dvd-mul-right (hid f) (suc (ones f))))
+    ∙ ap (λ (z : ℕ). z % hid f) upper
+    ∙ mod-mod-of-dvd _ b (dvd-mul-right (hid f) (suc (ones f))) in
+    ap₂ (λ (u v : ℕ). ofFields f (leb (top f) n) (u / hid f) v) upper lower
+    ∙ ap (λ (t : Bool). ofFields f t (b % top f / hid f) (b % hid f)) s
+    ∙ sym (copysign-fields f (leb (top f) b) (b % top f / hid f) (b % hid f) y)
+    ∙ ap (λ (v : Float). copysign v y) (ofBits-toBits f x h)
 
 pub negative-bits : (f : Format) (x : Float)
     → T (fits f x)

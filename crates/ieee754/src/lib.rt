@@ -8,6 +8,7 @@ pub mod cbrt;
 pub mod clamp;
 pub mod copysign;
 pub mod fma;
+pub mod fma_square;
 pub mod is_finite;
 pub mod literal;
 pub mod max;

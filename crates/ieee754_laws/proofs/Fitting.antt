@@ -1,22 +1,17 @@
 -- Every result of the single operations is a double: `sqrt-fits`, `cbrt-fits`, `fma-fits`,
 -- `abs-fits`, `copysign-fits`, `max-fits`, `clamp-fits`. Where an argument can come back as it is,
--- it has to be one. And a double is written in one way, so that two with the same sign and size are
--- equal (`fits-unique`). Assumes nothing.
-use mathlib.Core.Path.{_≡_, refl, sym, ap, _∙_, subst}
-use Prim.Native.Nat.{ℕ, zero, suc, _+_, _-_, _*_, _/_, _%_, _^_, _≤_, _<_, compare}
+-- it has to be one. Assumes nothing.
+use mathlib.Core.Path.{sym, subst}
+use Prim.Native.Nat.{ℕ, zero, suc, _+_, _-_, _*_, _/_, _^_, _≤_, _<_, compare}
 use native.Mathlib.Nat.{le-trans, le-of-eq, le-refl, lt-of-lt-of-le, lt-of-le-of-lt, zero-lt-suc}
-use native.Mathlib.Nat.{mul-right-comm, pow-succ'}
-use native.Mathlib.Omega.{arith}
 use mathlib.Core.Bool.{Bool, true, false, cond, _&&_, Bool·beq}
-use lib.IntN.{ℤ, pos, negsuc}
-use lib.Dec.{T, leb, ltb, eqb, leb→le, ltb→lt, eqb→eq}
+use lib.IntN.{ℤ}
+use lib.Dec.{T, ltb, ltb→lt}
 use lib.Pow.{pow-lt}
-use lib.Ieee.{Float, nan, inf, fin, Format, binary64, prec, emax, low, top, hid, up, down, size}
-use lib.Ieee.{odd, units, round, sum, mul, lt, isNan, fits, toBits}
-use lib.Ieee.Fits.{down-pos, and-l, and-r, odd-fits, nearest-le, round-fits, cond-fits, nan-fits}
+use lib.Ieee.{Float, nan, inf, fin, Format, binary64, prec, emax, low, up, down}
+use lib.Ieee.{odd, units, round, sum, mul, lt, isNan, fits}
+use lib.Ieee.Fits.{down-pos, odd-fits, nearest-le, round-fits, cond-fits, nan-fits}
 use lib.Ieee.Fits.{inf-fits, add-fits}
-use lib.Ieee.Nearest.{div-same}
-use lib.Ieee.Bits.{ofBits-toBits}
 use Rattle.ieee754.specs.Magnitude.{abs}
 use Rattle.ieee754.specs.CopySign.{negative, copysign}
 use Rattle.ieee754.specs.Maximum.{max}
@@ -26,76 +21,6 @@ use Rattle.ieee754.specs.Fma.{fma}
 use Rattle.ieee754.proofs.PowerLaws.{pow-mul, base-lt}
 use Rattle.ieee754.proofs.RootLaws.{dropped, dropped-drops, kept, root-is, quotient-lt}
 use Rattle.ieee754.proofs.RootLaws.{roundRoot-is}
-
--- ---- what it takes to be a double other than zero
-pub record Parts (m : ℕ) (e : ℤ) : Type 0 where
-  pub odd : m % 2 ≡ 1
-  pub short : m < 2 ^ 53
-  pub lowest : down e ≤ 2 ^ 1074
-  pub highest : m * up e < 2 ^ 1024 * down e
-
-pub fits-parts : (s : Bool) (m : ℕ) (e : ℤ) → T (fits binary64 (fin s (suc m) e)) → Parts (suc m) e
-unfolding fits
-fits-parts s m e t =
-    let a : Bool = eqb (suc m % 2) 1 in
-    let b : Bool = ltb (suc m) (2 ^ 53) in
-    let c : Bool = leb (down e) (2 ^ 1074) in
-    let d : Bool = ltb (suc m * up e) (2 ^ 1024 * down e) in
-    record {
-      odd = eqb→eq (suc m % 2) 1 (and-l a b (and-l (a && b) c (and-l (a && b && c) d t)));
-      short = ltb→lt (suc m) (2 ^ 53) (and-r a b (and-l (a && b) c (and-l (a && b && c) d t)));
-      lowest = leb→le (down e) (2 ^ 1074) (and-r (a && b) c (and-l (a && b && c) d t));
-      highest = ltb→lt (suc m * up e) (2 ^ 1024 * down e) (and-r (a && b && c) d t);
-    }
-
--- ---- an odd number times a power of two is so in one way
-pub odd-once : (m n a b : ℕ) → m % 2 ≡ 1 → n % 2 ≡ 1 → m * 2 ^ a ≡ n * 2 ^ b → (m ≡ n) × (a ≡ b)
-odd-once m n zero zero o p h = (omega arith, refl)
-odd-once m n zero (suc b) o p h = absurd (omega (arith, ap (λ (x : ℕ). n * x) (pow-succ' 2 b)))
-odd-once m n (suc a) zero o p h = absurd (omega (arith, ap (λ (x : ℕ). m * x) (pow-succ' 2 a)))
-odd-once m n (suc a) (suc b) o p h =
-    let r =
-    odd-once m n a b o p
-    (omega (arith, ap (λ (x : ℕ). m * x) (pow-succ' 2 a), ap (λ (x : ℕ). n * x) (pow-succ' 2 b))) in
-    (r .0, ap suc (r .1))
-
--- with an exponent of either sign
-pub odd-unique : (m n : ℕ) (e d : ℤ)
-    → m % 2 ≡ 1
-    → n % 2 ≡ 1
-    → m * up e * down d ≡ n * up d * down e
-    → (m ≡ n) × (e ≡ d)
-odd-unique m n (pos a) (pos b) o p h =
-    let r = odd-once m n a b o p (omega arith) in (r .0, ap pos (r .1))
-odd-unique m n (pos a) (negsuc b) o p h =
-    absurd (omega (arith, ap (λ (x : ℕ). m * 2 ^ a * x) (pow-succ' 2 b)))
-odd-unique m n (negsuc a) (pos b) o p h =
-    absurd (omega (arith, ap (λ (x : ℕ). n * 2 ^ b * x) (pow-succ' 2 a)))
-odd-unique m n (negsuc a) (negsuc b) o p h =
-    let r =
-    odd-once m n b a o p
-    (omega (arith, ap (λ (x : ℕ). m * x) (pow-succ' 2 b), ap (λ (x : ℕ). n * x) (pow-succ' 2 a))) in
-    (r .0, ap negsuc (sym (r .1)))
-
--- ---- two doubles with the same sign and size are equal: they have the same bit pattern
-pub fits-unique : (f : Format) (s : Bool) (m : ℕ) (e : ℤ) (n : ℕ) (d : ℤ)
-    → T (fits f (fin s m e))
-    → T (fits f (fin s n d))
-    → m * up e * down d ≡ n * up d * down e
-    → fin s m e ≡ fin s n d
-unfolding toBits
-fits-unique f s m e n d x y h =
-    let l = 2 ^ low f in
-    let same : m * up e * l / down e ≡ n * up d * l / down d =
-    div-same (m * up e * l) (down e) (n * up d * l) (down d) (down-pos e) (down-pos d)
-    (mul-right-comm (m * up e) l (down d)
-    ∙ ap (λ (z : ℕ). z * l) h
-    ∙ mul-right-comm (n * up d) (down e) l) in
-    sym (ofBits-toBits f (fin s m e) x)
-    ∙ ap (λ (z : ℕ).
-    lib.Ieee.ofBits f (cond s (top f) 0 + (size z - prec f) * hid f + z / 2 ^ (size z - prec f)))
-    same
-    ∙ ofBits-toBits f (fin s n d) y
 
 -- ---- roots
 units-fits : (f : Format) (s : Bool) (q k : ℕ) → q ≤ 2 ^ prec f → T (fits f (units f s q k))

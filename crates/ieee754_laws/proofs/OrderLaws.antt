@@ -22,7 +22,7 @@ use Rattle.ieee754.specs.declared.total_cmp.Order.the-variants.{Less, Equal, Gr
 use Rattle.ieee754_parts.proofs.Tests.{lt-or-ge}
 use Rattle.ieee754.proofs.Tests.{or-left, or-right}
 use Rattle.ieee754_parts.proofs.Nearest.{Compared, compared}
-use Rattle.ieee754_laws.proofs.Fitting.{fits-unique}
+use Rattle.ieee754.proofs.Unique.{fits-unique}
 
 -- ---- finite values: ±a is at or below ±b, a minus zero being below a plus zero
 abbrev signed : Bool → ℕ → Bool → ℕ → Bool

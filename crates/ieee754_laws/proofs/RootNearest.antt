@@ -31,7 +31,7 @@ use Rattle.ieee754.proofs.RootLaws.{dropped-drops, root-whole}
 use Rattle.ieee754_laws.proofs.RoundScale.{Normal, zero-or-normal, drop, keep}
 use Rattle.ieee754_laws.proofs.RoundScale.{roundRoot-value}
 use Rattle.ieee754_laws.proofs.RegularNormal.{part, whole-least}
-use Rattle.ieee754_laws.proofs.Fitting.{fits-parts, odd-once}
+use Rattle.ieee754.proofs.Unique.{fits-parts, odd-once}
 use Rattle.ieee754_laws.proofs.RootRegular.{sqrt-regular, cbrt-regular}
 
 -- ---- what is said

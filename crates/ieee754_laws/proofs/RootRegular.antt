@@ -11,7 +11,7 @@ use lib.Ieee.{Float, nan, inf, fin, binary64, up, down, fits}
 use lib.Ieee.Fits.{up-pos, and-i, eq→eqb}
 use Rattle.ieee754.specs.Traced.{inRange, sqrtRegular, cbrtRegular}
 use Rattle.ieee754.proofs.Tests.{or-left, or-right}
-use Rattle.ieee754_laws.proofs.Fitting.{fits-parts}
+use Rattle.ieee754.proofs.Unique.{fits-parts}
 
 -- the two ends of the range, and the p-th powers that they have to reach
 root-regular : (p : ℕ)

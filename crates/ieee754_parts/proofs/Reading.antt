@@ -98,7 +98,7 @@ times (fin t m e) s a c k v = (
 
 -- ---- patterns that are no NaN's: without the sign at most the infinity's
 
-not-nan-bits : (f : Format) (b : ℕ) → b % top f ≤ ones f * hid f → T (not (nanBits f b))
+pub not-nan-bits : (f : Format) (b : ℕ) → b % top f ≤ ones f * hid f → T (not (nanBits f b))
 not-nan-bits f b h =
     subst (λ (t : Bool). T (not t)) (sym (nanBits-above f b))
     (le→nltb (ones f * hid f) (b % top f) h)

@@ -125,6 +125,17 @@ pub fn shift_right(v: Wide, k: u64) -> u64
     (v.hi << (64 - k)) + (v.lo >> k)
 }
 
+// w * 2^k.
+pub fn shift_left(w: u64, k: u64) -> Wide
+    requires { ⌜ (0 < k) × (k < 64) ⌝ }
+    ensures { λ r. ⌜ value r ≡ w * 2 ^ k ⌝ }
+{
+    Wide {
+        hi: w >> (64 - k),
+        lo: w << k,
+    }
+}
+
 // w / 2^k, with the last digit set where that drops anything.
 pub(crate) fn jam(w: u64, k: u64) -> u64
     ensures { λ r. ⌜ r ≡ jam k w ⌝ }

@@ -6,7 +6,7 @@ ghost use Rattle.polynomial.specs.Quadratic.{quadraticRealMonic};
 use crate::Roots;
 use ieee754::abs::abs;
 use ieee754::copysign::copysign;
-use ieee754::fma::fma;
+use ieee754::fma_square::fma_square;
 use ieee754::is_finite::is_finite;
 use ieee754::literal::EPSILON;
 use ieee754::literal::MIN_POSITIVE;
@@ -28,7 +28,7 @@ fn quadratic_real_monic_computed(b: f64, c: f64, c_scale: f64) -> Roots
     if !is_finite(b) | !is_finite(c) {
         return Roots::Refused(4);
     }
-    let discriminant = fma(b, b, -4.0 * c);
+    let discriminant = fma_square(b, -4.0 * c);
     let discriminant_scale = b * b + 4.0 * c_scale;
     let tolerance = 32.0 * EPSILON * max(discriminant_scale, MIN_POSITIVE);
     if (discriminant < -tolerance) | !is_finite(discriminant) {

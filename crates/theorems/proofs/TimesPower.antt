@@ -11,7 +11,7 @@ use lib.Ieee.{Float, nan, inf, fin, binary64, fits}
 use lib.Ieee.Fits.{up-pos, down-pos}
 use lib.Ieee.Scale.{finite}
 use Rattle.ieee754.specs.Scaling.{scale, At}
-use Rattle.ieee754_laws.proofs.Fitting.{fits-parts, fits-unique, odd-unique}
+use Rattle.ieee754.proofs.Unique.{fits-parts, fits-unique, odd-unique}
 use Rattle.ieee754_laws.proofs.Powers.{ℤ-once, moved-ratio, ratio-once}
 use Rattle.theorems.specs.ScalingRule.{Times}
 

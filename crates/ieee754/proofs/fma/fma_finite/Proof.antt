@@ -1,76 +1,21 @@
 -- `fma_finite` meets its contract: over the one denominator 2 ^ 2166 the product and the addend are
--- those of the definition. Assumes nothing.
+-- those of the definition (FmaValue.antt). Assumes nothing.
 use borrow.Author.Needs.{needs}
 use mathlib.Core.Path.{_≡_, refl, sym, ap, ap₂, _∙_, subst}
 use mathlib.Core.Logic.{⊎-elim}
 use Prim.Native.Nat.{ℕ, _+_, _*_, _%_, _^_, _≤_, _<_}
 use native.Mathlib.Nat.{le-trans, mul-le-mul, mul-assoc, mul-comm, mul-left-comm, mul-mod-left}
-use native.Mathlib.Nat.{mul-pos, mul-zero, zero-mul, mul-le-mul-right, not-le-of-lt}
+use native.Mathlib.Nat.{mul-zero, zero-mul, mul-le-mul-right, not-le-of-lt}
 use native.Mathlib.Omega.{arith}
-use mathlib.Core.Bool.{Bool}
 use lib.Arith.{lt-one}
 use lib.Dec.{lit≤}
-use lib.Ieee.{Float, nan, inf, fin, binary64, up, down, unlike, sum}
-use lib.Ieee.Exact.{HasValue}
-use lib.Ieee.Fits.{down-pos}
-use lib.Pow.{pow-add, pow-pos}
-use Rattle.ieee754.specs.Fma.{fma}
-use Rattle.ieee754_parts.specs.Rounded.{summed}
+use lib.Pow.{pow-add}
 use Rattle.ieee754_parts.specs.Value.{value}
 use Rattle.ieee754_parts.proofs.Carry.{product-lt}
 use Rattle.ieee754_parts.proofs.Tests.{lt-or-ge}
-use Rattle.ieee754_parts.proofs.Sums.{sum-same}
+use Rattle.ieee754.proofs.FmaValue.{fma-value}
 use Rattle.ieee754.proofs.fma.fma_finite.Statement.{statement}
 use Rattle.ieee754.proofs.fma.fma_finite.Tie as tie
-
--- ---- from the definition's denominators to the one denominator: X / Dx is a / L, and so on, for L
--- the units of the smallest value
-cross-product : (X Y a b Dx Dy Dz L W : ℕ)
-    → X * L ≡ a * Dx
-    → Y * L ≡ b * Dy
-    → X * Y * Dz * (L * L * W) ≡ a * b * W * (Dx * Dy * Dz)
-cross-product X Y a b Dx Dy Dz L W x y =
-    let before : X * Y * Dz * (L * L * W) ≡ X * L * (Y * L) * (Dz * W) =
-    simp (mul-assoc, mul-left-comm) in
-    let after : a * Dx * (b * Dy) * (Dz * W) ≡ a * b * W * (Dx * Dy * Dz) =
-    simp (mul-assoc, mul-comm, mul-left-comm) in
-    before ∙ ap₂ (λ (u v : ℕ). u * v * (Dz * W)) x y ∙ after
-
-cross-addend : (Z c Dx Dy Dz L W : ℕ)
-    → Z * L ≡ c * Dz
-    → Z * (Dx * Dy) * (L * W) ≡ c * W * (Dx * Dy * Dz)
-cross-addend Z c Dx Dy Dz L W z =
-    let before : Z * (Dx * Dy) * (L * W) ≡ Z * L * (Dx * Dy * W) =
-    simp (mul-assoc, mul-left-comm) in
-    let after : c * Dz * (Dx * Dy * W) ≡ c * W * (Dx * Dy * Dz) =
-    simp (mul-assoc, mul-comm, mul-left-comm) in
-    before ∙ ap (λ (u : ℕ). u * (Dx * Dy * W)) z ∙ after
-
-same : (x y z : Float) (s t u : Bool) (a b c : ℕ)
-    → HasValue x s a (2 ^ 1074)
-    → HasValue y t b (2 ^ 1074)
-    → HasValue z u c (2 ^ 1074)
-    → summed (unlike s t) (a * b * 2 ^ 18) u (c * 2 ^ 1092) ≡ fma x y z
-unfolding fma summed
-same nan y z s t u a b c p q r = absurd p
-same (inf _) y z s t u a b c p q r = absurd p
-same (fin _ _ _) nan z s t u a b c p q r = absurd q
-same (fin _ _ _) (inf _) z s t u a b c p q r = absurd q
-same (fin _ _ _) (fin _ _ _) nan s t u a b c p q r = absurd r
-same (fin _ _ _) (fin _ _ _) (inf _) s t u a b c p q r = absurd r
-same (fin s' m e) (fin t' n d) (fin u' k g) s t u a b c p q r =
-    let X = m * up e in
-    let Y = n * up d in
-    let Z = k * up g in
-    let D = down e * down d * down g in
-    sym
-    ((λ i.
-    sum binary64 (unlike (p .0 i) (q .0 i)) (X * Y * down g) (r .0 i) (Z * (down e * down d)) D)
-    ∙ sum-same binary64 (unlike s t) (X * Y * down g) u (Z * (down e * down d)) D (a * b * 2 ^ 18)
-    (c * 2 ^ 1092) (2 ^ 2166) (mul-pos (mul-pos (down-pos e) (down-pos d)) (down-pos g))
-    (pow-pos 2166)
-    (cross-product X Y a b (down e) (down d) (down g) (2 ^ 1074) (2 ^ 18) (p .1) (q .1))
-    (cross-addend Z c (down e) (down d) (down g) (2 ^ 1074) (2 ^ 1092) (r .1)))
 
 -- ---- the product p of two significands m and n, each moved up by 9 digits
 abbrev moved : ℕ → ℕ → ℕ
@@ -180,17 +125,6 @@ add-leading-requires c κs =
       c .unpack3 .ensures .digits,
     )
 
--- r is what `add_leading` gives for the product q
-whole : (r : Float) (x y z : Float) (s t u : Bool) (q a b c : ℕ)
-    → HasValue x s a (2 ^ 1074)
-    → HasValue y t b (2 ^ 1074)
-    → HasValue z u c (2 ^ 1074)
-    → q ≡ a * b * 2 ^ 18
-    → r ≡ summed (unlike s t) q u (c * 2 ^ 1092)
-    → r ≡ fma x y z
-whole r x y z s t u q a b c i j k h is =
-    is ∙ ap (λ (n : ℕ). summed (unlike s t) n u (c * 2 ^ 1092)) h ∙ same x y z s t u a b c i j k
-
 returns : tie.Need-returns
 returns c =
     let after-unpack3 = c .before in
@@ -213,7 +147,7 @@ returns c =
     product-is (a .result .sig) (b .result .sig) (a .result .exp) (b .result .exp) p (e .result)
     (a .ensures .digits .full) (b .ensures .digits .full) (g .product .ensures) (e .ensures .0)
     (e .ensures .1) in
-    whole (c .add-leading .result) (s .x) (s .y) (s .z) (a .result .negative) (b .result .negative)
+    fma-value (c .add-leading .result) (s .x) (s .y) (s .z) (a .result .negative) (b .result .negative)
     (d .result .negative) (p * 2 ^ e .result) x y z (a .ensures .is) (b .ensures .is)
     (d .ensures .is) is (c .add-leading .ensures)
 

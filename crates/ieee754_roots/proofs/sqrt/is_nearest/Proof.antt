@@ -1,7 +1,7 @@
 -- `is_nearest` meets its contract: n * 2 ^ 52 is q * (q - 1) and a rest from 1 to 2 * q. Assumes
 -- nothing.
-use Prim.Native.Nat.{ℕ, _+_, _-_, _*_, _/_, _%_, _^_, _≤_, _<_}
-use mathlib.Core.Path.{_≡_, refl, sym, ap, _∙_}
+use Prim.Native.Nat.{ℕ, _+_, _-_, _*_, _^_, _≤_, _<_}
+use mathlib.Core.Path.{_≡_, refl, ap, _∙_}
 use mathlib.Core.Bool.{Bool, true, false, not, _&&_, false≢true}
 use native.Mathlib.Nat.{mul-suc}
 use native.Mathlib.Omega.{arith}

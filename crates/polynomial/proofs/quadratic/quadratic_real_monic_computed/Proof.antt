@@ -16,13 +16,13 @@ returns c =
 returns-2 : tie.Need-returns-2
 unfolding quadraticRealMonicComputed
 returns-2 c =
-    let fma = c .before .before .before in
-    let is-finite = fma .before .before .before in
+    let after-fma-square = c .before .before .before in
+    let is-finite = after-fma-square .before .before .before in
     rw (
       ← is-finite .is-finite .ensures,
-      ← fma .before .before .is-finite2 .ensures,
-      fma .before .if1 .left,
-      ← fma .fma .ensures,
+      ← after-fma-square .before .before .is-finite2 .ensures,
+      after-fma-square .before .if1 .left,
+      ← after-fma-square .fma-square .ensures,
       ← c .before .before .max .ensures,
       ← c .before .is-finite3 .ensures,
       c .if2 .taken,
@@ -37,7 +37,7 @@ returns-3 c =
       ← tested .before .before .is-finite .ensures,
       ← tested .before .is-finite2 .ensures,
       tested .if1 .left,
-      ← is-finite3 .before .before .fma .ensures,
+      ← is-finite3 .before .before .fma-square .ensures,
       ← is-finite3 .before .max .ensures,
       ← is-finite3 .is-finite3 .ensures,
       c .before .before .if2 .left,
