@@ -114,30 +114,37 @@ upper-fits u f h g = record { fits = omega arith }
 sum-fits : (x y : ℕ) → x < 2 ^ 63 → y < 2 ^ 63 → Fits w64 (x + y)
 sum-fits x y h g = record { fits = omega arith }
 
+-- so each of the four products fits, and each sum of two such halves or wholes does
+module _ (c : tie.Start) where
+  low-low-c : c .args .a % 2 ^ 32 * (c .args .b % 2 ^ 32) < 2 ^ 64
+  low-low-c = low-low (c .args .a) (c .args .b)
+
+  high-low-c : c .args .a / 2 ^ 32 * (c .args .b % 2 ^ 32) < 2 ^ 62
+  high-low-c = high-low (c .args .a) (c .args .b) (c .pre .0)
+
+  low-high-c : c .args .a % 2 ^ 32 * (c .args .b / 2 ^ 32) < 2 ^ 62
+  low-high-c = low-high (c .args .a) (c .args .b) (c .pre .1)
+
 mul-low : tie.Need-mul-low
-mul-low c = fits-bits (32 + 32) tt (low-low (c .args .a) (c .args .b))
+mul-low c = fits-bits (32 + 32) tt (low-low-c c)
 
 mul-cross : tie.Need-mul-cross
-mul-cross c = fits-bits (30 + 32) tt (high-low (c .args .a) (c .args .b) (c .pre .0))
+mul-cross c = fits-bits (30 + 32) tt (high-low-c c)
 
 mul-other : tie.Need-mul-other
-mul-other c = fits-bits (32 + 30) tt (low-high (c .args .a) (c .args .b) (c .pre .1))
+mul-other c = fits-bits (32 + 30) tt (low-high-c c)
 
 add-first : tie.Need-add-first
 add-first c =
-    let a = c .args .a in
-    let b = c .args .b in
-    sum-fits _ _ (omega (arith, low-low a b)) (omega (arith, high-low a b (c .pre .0)))
+    sum-fits _ _ (omega (arith, low-low-c c)) (omega (arith, high-low-c c, low-high-c c))
 
 add-second : tie.Need-add-second
-add-second c =
-    sum-fits _ _ (omega arith) (omega (arith, low-high (c .args .a) (c .args .b) (c .pre .1)))
+add-second c = sum-fits _ _ (omega arith) (omega (arith, high-low-c c, low-high-c c))
 
 add-wrapping-add-u64 : tie.Need-add-wrapping-add-u64
 add-wrapping-add-u64 c =
-    let a = c .args .a in
-    let b = c .args .b in
-    sum-fits _ _ (omega (arith, high-low a b (c .pre .0))) (omega (arith, low-high a b (c .pre .1)))
+    sum-fits _ _ (omega (arith, high-low-c c, low-high-c c))
+    (omega (arith, high-low-c c, low-high-c c))
 
 mul-t13 : tie.Need-mul-t13
 mul-t13 c =

@@ -6,8 +6,7 @@ use mathlib.Core.Bool.{Bool, true, false, not, _&&_, false≢true}
 use native.Mathlib.Nat.{mul-suc}
 use native.Mathlib.Omega.{arith}
 use borrow.Author.Needs.{needs}
-use mir.Syntax.{w64}
-use mir.Val.{Fits}
+use mir.Facts.{fits-bits}
 use lib.Dec.{ltb, leb, ltb→lt, leb→le}
 use Rattle.ieee754_parts.proofs.Carry.{product-lt, high-below}
 use Rattle.ieee754_parts.proofs.Tests.{answered, both}
@@ -50,13 +49,10 @@ word-difference-requires c κs =
     let p = c .product in
     high-lt (c .before .args .q) (p .result .hi) (p .result .lo) (c .before .pre .2) (p .ensures)
 
-twice-fits : (q : ℕ) → q < 2 ^ 53 → Fits w64 (2 * q)
-twice-fits q h = record { fits = omega arith }
-
 mul-result : tie.Need-mul-result
 mul-result c =
     let after-product = c .before .before in
-    let s = after-product .before in twice-fits (s .args .q) (s .pre .2)
+    let s = after-product .before in fits-bits 60 tt (omega (arith, s .pre .2))
 
 returns : tie.Need-returns
 returns c =
