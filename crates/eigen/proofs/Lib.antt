@@ -1,5 +1,6 @@
--- How the eigensystem scales, and what opens every definition.
+-- How the eigensystem scales, which one pairs are read of, and what opens every definition.
 pub mod EigenvectorScaling
 pub mod EigenvalueScaling
 pub mod SystemScaling
+pub mod EigenpairsRead
 pub mod Evaluated

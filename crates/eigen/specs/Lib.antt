@@ -6,3 +6,4 @@ pub mod ZeroVector
 pub mod EigenPair
 pub mod EigenvectorOf
 pub mod KnownZero
+pub mod Eigenpairs

@@ -4,6 +4,8 @@ pub use Rattle.ieee754.specs.declared.total_cmp.Order.{Order}
 pub use Rattle.ieee754.specs.declared.total_cmp.Order.the-variants.{Less, Equal, Greater}
 pub use Rattle.linalg.specs.declared.matrix3.Matrix3.{Matrix3}
 pub use Rattle.linalg.specs.declared.vector3.Vector3.{Vector3}
+pub use Rattle.eigen.specs.declared.eigenpairs.Eigenpairs.{Eigenpairs}
+pub use Rattle.eigen.specs.declared.eigenpairs.Eigenpairs.the-variants.{Both, Neither}
 pub use Rattle.eigen.specs.declared.eigenvalues.Eigenvalues.{Eigenvalues}
 pub use Rattle.eigen.specs.declared.eigenvalues.Eigenvalues.the-variants.{Pair, NoPair}
 pub use Rattle.eigen.specs.declared.eigenvector.Precomputed.{Precomputed}

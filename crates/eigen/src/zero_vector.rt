@@ -1,6 +1,7 @@
 // The eigenvector of the known eigenvalue zero: the first part of eig_with_known_zero
 // (lambdatwist.rs).
 ghost use mathlib.Core.Path.{_≡_};
+ghost use Rattle.eigen.specs.RowCrosses.{hasVector};
 ghost use Rattle.eigen.specs.ZeroVector.{zeroDirection, zeroVector};
 use crate::row_crosses::Eigenvector;
 use crate::row_crosses::eigenvector_from_row_crosses;
@@ -29,4 +30,18 @@ pub fn zero_vector(m: Matrix3) -> Eigenvector
         return eigenvector_from_row_crosses(m, 0.0);
     }
     Eigenvector::Unit(direction.div(sqrt(zero_norm_squared)))
+}
+
+// Whether there is a zero vector. Where only that is asked, it is not divided by its length.
+pub fn has_zero_vector(m: Matrix3) -> bool
+    ensures { λ r. ⌜ r ≡ hasVector (zeroVector m .value) ⌝ }
+{
+    let zero_norm_squared = zero_direction(m).norm_squared();
+    let matrix_scale = m.norm_squared();
+    if zero_norm_squared <= 64.0 * EPSILON * matrix_scale * matrix_scale {
+        let Eigenvector::Unit(_) = eigenvector_from_row_crosses(m, 0.0) else {
+            return false;
+        };
+    }
+    true
 }

@@ -1,0 +1,51 @@
+-- `eigen::zero_vector::has_zero_vector` meets its contract. Assumes nothing.
+use borrow.Author.Needs.{needs}
+use Rattle.eigen.specs.ZeroVector.{zeroVector}
+use Rattle.eigen.proofs.zero_vector.has_zero_vector.Statement.{statement}
+use Rattle.eigen.proofs.zero_vector.has_zero_vector.Tie as tie
+
+returns : tie.Need-returns
+unfolding zeroVector
+returns c =
+    let crossed = c .before .before in
+    let tested = crossed .before in
+    let norm-squared = tested .before .before in
+    rw (
+      ← norm-squared .before .zero-direction .ensures,
+      ← norm-squared .norm-squared .ensures,
+      ← tested .before .norm-squared2 .ensures,
+      tested .if1 .taken,
+      ← crossed .eigenvector-from-row-crosses .ensures,
+      c .enum-told2 .given .1,
+    )
+
+returns-2 : tie.Need-returns-2
+unfolding zeroVector
+returns-2 c =
+    let crossed = c .before .before in
+    let tested = crossed .before in
+    let norm-squared = tested .before .before in
+    rw (
+      ← norm-squared .before .zero-direction .ensures,
+      ← norm-squared .norm-squared .ensures,
+      ← tested .before .norm-squared2 .ensures,
+      tested .if1 .taken,
+      ← crossed .eigenvector-from-row-crosses .ensures,
+      c .enum-told .given .1,
+    )
+
+returns-3 : tie.Need-returns-3
+unfolding zeroVector
+returns-3 c =
+    let norm-squared = c .before .before in
+    rw (
+      ← norm-squared .before .zero-direction .ensures,
+      ← norm-squared .norm-squared .ensures,
+      ← c .before .norm-squared2 .ensures,
+      c .if1 .left,
+    )
+
+pub has-zero-vector-spec : {M : Type 1} → statement M
+has-zero-vector-spec =
+    tie.close (tie.spec (λ c _. search needs) (λ c _. search needs) (λ c _. search needs)
+    (λ c _. search needs) (λ c. search needs) (λ c. search needs) returns returns-2 returns-3)
