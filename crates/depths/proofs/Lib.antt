@@ -1,6 +1,7 @@
--- How many slots candidates have; the scaling laws of the stages, in the order of a solve; and the
--- definitions that compute.
+-- How many slots candidates have, and how many they are; the scaling laws of the stages, in the
+-- order of a solve; and the definitions that compute.
 pub mod CandidateSlots
+pub mod CandidateCount
 pub mod MatrixScaling
 pub mod RatioScaling
 pub mod ChartScaling

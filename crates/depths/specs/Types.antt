@@ -6,5 +6,8 @@ pub use Rattle.frames.specs.declared.squared_edges.SquaredEdges.{SquaredEdges}
 pub use Rattle.polynomial.specs.declared.Roots.{Roots}
 pub use Rattle.orderings.specs.declared.angles.Factors.{Factors}
 pub use Rattle.depths.specs.declared.candidates.Candidates.{Candidates}
+pub use Rattle.depths.specs.declared.candidates.Depths.{Depths}
+pub use Rattle.depths.specs.declared.candidates.Depths.the-variants.{At, Nowhere}
+pub use Rattle.depths.specs.declared.charts.ChartDepths.{ChartDepths}
 pub use Rattle.depths.specs.declared.ratio.Ratio.{Ratio}
 pub use Rattle.depths.specs.declared.ratio.Ratio.the-variants.{Real, NotReal}

@@ -1,7 +1,13 @@
 // The depth candidates of solve_ordered (lambdatwist.rs): four slots and a count.
 ghost use mathlib.Core.Path.{_≡_};
-ghost use Rattle.depths.specs.DepthSlots.{noCandidates, pushIfPositive};
+ghost use Rattle.depths.specs.DepthSlots.{noCandidates, pushed};
 use linalg::vector3::Vector3;
+
+// The depths of a root, where they are a candidate.
+pub enum Depths {
+    At(Vector3),
+    Nowhere,
+}
 
 pub struct Candidates {
     pub count: usize,
@@ -19,14 +25,16 @@ impl Candidates {
         }
     }
 
-    // `depths` appended where `depth`, one of them, is above zero and there is room.
-    pub fn push_if_positive(mut self, depth: f64, depths: Vector3) -> Self
-        ensures { λ r. ⌜ r ≡ pushIfPositive self depth depths ⌝ }
+    // The depths appended where there are some and there is room.
+    pub fn push(mut self, depths: Depths) -> Self
+        ensures { λ r. ⌜ r ≡ pushed self depths ⌝ }
     {
-        let at = self.count;
-        if (depth > 0.0) & (at < 4) {
-            self.depths[at] = depths;
-            self.count = at + 1;
+        if let Depths::At(some) = depths {
+            let at = self.count;
+            if at < 4 {
+                self.depths[at] = some;
+                self.count = at + 1;
+            }
         }
         self
     }

@@ -1,10 +1,13 @@
 // The two charts of solve_ordered (lambdatwist.rs): from the null vector of one sign to at most two
 // depth candidates, one for each root of the chart's quadratic. Where the quadratic refuses, only
-// that sign's turn ends.
+// that sign's turn ends. No chart takes the candidates found before it, so that none waits for
+// another.
 ghost use mathlib.Core.Path.{_≡_};
+ghost use Rattle.depths.specs.DepthSlots.{pushIfPositive, pushed, pushedBoth};
+ghost use Rattle.depths.specs.Types.{Candidates};
 ghost use Rattle.depths.specs.Charts.{noDivisor, firstChartDepths, firstChart};
 ghost use Rattle.depths.specs.Charts.{secondChartDepths, weightChart, secondChart, chart};
-use crate::candidates::Candidates;
+use crate::candidates::Depths;
 use frames::squared_edges::SquaredEdges;
 use ieee754::abs::abs;
 use ieee754::is_finite::is_finite;
@@ -21,22 +24,48 @@ pub fn no_divisor(denominator: f64) -> bool
     (denominator == 0.0) | !is_finite(denominator)
 }
 
+// What a chart gives for the two roots of its quadratic.
+pub struct ChartDepths {
+    pub first: Depths,
+    pub second: Depths,
+}
+
+fn nothing() -> ChartDepths
+    ensures { λ r. ⌜ ((found : Candidates) → pushedBoth found r ≡ found) ⌝ }
+{
+    ChartDepths {
+        first: Depths::Nowhere,
+        second: Depths::Nowhere,
+    }
+}
+
+// The depths, where `depth`, one of them, is above zero.
+fn if_positive(depth: f64, depths: Vector3) -> Depths
+    ensures { λ r. ⌜ ((found : Candidates) → pushed found r ≡ pushIfPositive found depth depths) ⌝ }
+{
+    if depth > 0.0 {
+        return Depths::At(depths);
+    }
+    Depths::Nowhere
+}
+
 // One root of the first chart's quadratic.
 pub fn first_chart_depths(
     squares: SquaredEdges,
     factors: Factors,
     null_vector: Vector3,
-    found: Candidates,
     tau: f64,
-) -> Candidates
-    ensures { λ r. ⌜ r ≡ firstChartDepths squares factors «null_vector» found tau .value ⌝ }
+) -> Depths
+    ensures { λ r.
+        ⌜ ((found : Candidates) →
+        pushed found r ≡ firstChartDepths squares factors «null_vector» found tau .value) ⌝ }
 {
     let u0 = null_vector.x;
     let u1 = null_vector.y;
     let u2 = null_vector.z;
     let depth_denominator = tau * (tau + factors.b02) + 1.0;
     if (tau <= 0.0) | (depth_denominator <= 0.0) {
-        return found;
+        return Depths::Nowhere;
     }
     let depth0 = sqrt(squares.a02 / depth_denominator);
     let depth2 = tau * depth0;
@@ -46,16 +75,13 @@ pub fn first_chart_depths(
         y: depth1,
         z: depth2,
     };
-    found.push_if_positive(depth1, depths)
+    if_positive(depth1, depths)
 }
 
-pub fn first_chart(
-    squares: SquaredEdges,
-    factors: Factors,
-    null_vector: Vector3,
-    found: Candidates,
-) -> Candidates
-    ensures { λ r. ⌜ r ≡ firstChart squares factors «null_vector» found .value ⌝ }
+pub fn first_chart(squares: SquaredEdges, factors: Factors, null_vector: Vector3) -> ChartDepths
+    ensures { λ r.
+        ⌜ ((found : Candidates) →
+        pushedBoth found r ≡ firstChart squares factors «null_vector» found .value) ⌝ }
 {
     let a01 = squares.a01;
     let a12 = squares.a12;
@@ -66,16 +92,18 @@ pub fn first_chart(
     let u2 = null_vector.z;
     let denominator = (a12 - a01) * u2 * u2 - a01 * u1 * u1 + a01 * b12 * u1 * u2;
     if no_divisor(denominator) {
-        return found;
+        return nothing();
     }
     let quadratic_b = (2.0 * (a12 - a01) * u0 * u2 + a01 * b12 * u0 * u1 - a12 * b01 * u1 * u2)
         / denominator;
     let quadratic_c = ((a12 - a01) * u0 * u0 + a12 * u1 * u1 - a12 * b01 * u0 * u1) / denominator;
     let Roots::Two(first, second) = quadratic_real_monic(quadratic_b, quadratic_c) else {
-        return found;
+        return nothing();
     };
-    let once = first_chart_depths(squares, factors, null_vector, found, first);
-    first_chart_depths(squares, factors, null_vector, once, second)
+    ChartDepths {
+        first: first_chart_depths(squares, factors, null_vector, first),
+        second: first_chart_depths(squares, factors, null_vector, second),
+    }
 }
 
 // One root of the second chart's quadratic.
@@ -84,14 +112,15 @@ pub fn second_chart_depths(
     factors: Factors,
     w0: f64,
     w1: f64,
-    found: Candidates,
     tau: f64,
-) -> Candidates
-    ensures { λ r. ⌜ r ≡ secondChartDepths squares factors w0 w1 found tau .value ⌝ }
+) -> Depths
+    ensures { λ r.
+        ⌜ ((found : Candidates) →
+        pushed found r ≡ secondChartDepths squares factors w0 w1 found tau .value) ⌝ }
 {
     let depth_denominator = tau * (factors.b12 + tau) + 1.0;
     if (tau <= 0.0) | (depth_denominator <= 0.0) {
-        return found;
+        return Depths::Nowhere;
     }
     let depth1 = sqrt(squares.a12 / depth_denominator);
     let depth2 = tau * depth1;
@@ -101,18 +130,14 @@ pub fn second_chart_depths(
         y: depth1,
         z: depth2,
     };
-    found.push_if_positive(depth0, depths)
+    if_positive(depth0, depths)
 }
 
 // The second chart, by the weights w0 and w1.
-pub fn weight_chart(
-    squares: SquaredEdges,
-    factors: Factors,
-    w0: f64,
-    w1: f64,
-    found: Candidates,
-) -> Candidates
-    ensures { λ r. ⌜ r ≡ weightChart squares factors w0 w1 found .value ⌝ }
+pub fn weight_chart(squares: SquaredEdges, factors: Factors, w0: f64, w1: f64) -> ChartDepths
+    ensures { λ r.
+        ⌜ ((found : Candidates) →
+        pushedBoth found r ≡ weightChart squares factors w0 w1 found .value) ⌝ }
 {
     let a01 = squares.a01;
     let a02 = squares.a02;
@@ -120,47 +145,43 @@ pub fn weight_chart(
     let b02 = factors.b02;
     let denominator = (a02 - a01) * w1 * w1 - a01 * b02 * w1 - a01;
     if no_divisor(denominator) {
-        return found;
+        return nothing();
     }
     let quadratic_b = (a02 * b01 * w1 - a01 * b02 * w0 - 2.0 * w0 * w1 * (a01 - a02)) / denominator;
     let quadratic_c = ((a02 - a01) * w0 * w0 + a02 * b01 * w0 + a02) / denominator;
     let Roots::Two(first, second) = quadratic_real_monic(quadratic_b, quadratic_c) else {
-        return found;
+        return nothing();
     };
-    let once = second_chart_depths(squares, factors, w0, w1, found, first);
-    second_chart_depths(squares, factors, w0, w1, once, second)
+    ChartDepths {
+        first: second_chart_depths(squares, factors, w0, w1, first),
+        second: second_chart_depths(squares, factors, w0, w1, second),
+    }
 }
 
-pub fn second_chart(
-    squares: SquaredEdges,
-    factors: Factors,
-    null_vector: Vector3,
-    found: Candidates,
-) -> Candidates
-    ensures { λ r. ⌜ r ≡ secondChart squares factors «null_vector» found .value ⌝ }
+pub fn second_chart(squares: SquaredEdges, factors: Factors, null_vector: Vector3) -> ChartDepths
+    ensures { λ r.
+        ⌜ ((found : Candidates) →
+        pushedBoth found r ≡ secondChart squares factors «null_vector» found .value) ⌝ }
 {
     let u0 = null_vector.x;
     let u1 = null_vector.y;
     let u2 = null_vector.z;
     if no_divisor(u0) {
-        return found;
+        return nothing();
     }
     let inverse = -(1.0 / u0);
     let w0 = u1 * inverse;
     let w1 = u2 * inverse;
-    weight_chart(squares, factors, w0, w1, found)
+    weight_chart(squares, factors, w0, w1)
 }
 
-pub fn chart(
-    squares: SquaredEdges,
-    factors: Factors,
-    null_vector: Vector3,
-    found: Candidates,
-) -> Candidates
-    ensures { λ r. ⌜ r ≡ chart squares factors «null_vector» found .value ⌝ }
+pub fn chart(squares: SquaredEdges, factors: Factors, null_vector: Vector3) -> ChartDepths
+    ensures { λ r.
+        ⌜ ((found : Candidates) →
+        pushedBoth found r ≡ chart squares factors «null_vector» found .value) ⌝ }
 {
     if abs(null_vector.x) < abs(null_vector.y) {
-        return first_chart(squares, factors, null_vector, found);
+        return first_chart(squares, factors, null_vector);
     }
-    second_chart(squares, factors, null_vector, found)
+    second_chart(squares, factors, null_vector)
 }

@@ -1,5 +1,6 @@
 -- `depths::charts::first_chart` meets its contract. Assumes nothing.
 use borrow.Author.Needs.{needs}
+use mathlib.Core.Path.{_∙_}
 use Rattle.ieee754.specs.Traced.{pure}
 use Rattle.polynomial.proofs.RootTags.{no-pair}
 use Rattle.depths.specs.Charts.{firstChart, forRoots}
@@ -8,22 +9,27 @@ use Rattle.depths.proofs.charts.first_chart.Tie as tie
 
 returns : tie.Need-returns
 unfolding firstChart
-returns c = rw (← c .before .no-divisor .ensures, c .if1 .taken)
+returns c found =
+    let divides = c .before in
+    rw (← divides .before .no-divisor .ensures, divides .if1 .taken) (c .nothing .ensures found)
 
 returns-2 : tie.Need-returns-2
 unfolding firstChart forRoots
-returns-2 c =
-    let divides = c .before .before in
+returns-2 c found =
+    let refused = c .before in
+    let roots = refused .before in
+    let divides = roots .before in
     rw (
       ← divides .before .no-divisor .ensures,
       divides .if1 .left,
-      ← c .before .quadratic-real-monic .ensures,
+      ← roots .quadratic-real-monic .ensures,
     )
-    (no-pair (pure _) _ (c .before .quadratic-real-monic .result) (c .match .keys2))
+    (c .nothing2 .ensures found
+    ∙ no-pair (pure _) _ (roots .quadratic-real-monic .result) (refused .match .keys2))
 
 returns-3 : tie.Need-returns-3
 unfolding firstChart forRoots
-returns-3 c =
+returns-3 c found =
     let told = c .before .before .before in
     let roots = told .before .before in
     let divides = roots .before in
@@ -32,11 +38,12 @@ returns-3 c =
       divides .if1 .left,
       ← roots .quadratic-real-monic .ensures,
       told .first .given .1,
-      ← c .before .first-chart-depths .ensures,
-      ← c .first-chart-depths2 .ensures,
+      ← c .before .first-chart-depths .ensures found,
+      ← c .first-chart-depths2 .ensures _,
     )
 
 pub first-chart-spec : {M : Type 1} → statement M
 first-chart-spec =
-    tie.close (tie.spec (λ c _. search needs) returns (λ c _. search needs) (λ c. search needs)
-    returns-2 (λ c _. search needs) (λ c _. search needs) returns-3)
+    tie.close (tie.spec (λ c _. search needs) (λ c _. search needs) returns (λ c _. search needs)
+    (λ c. search needs) (λ c _. search needs) returns-2 (λ c _. search needs) (λ c _. search needs)
+    returns-3)

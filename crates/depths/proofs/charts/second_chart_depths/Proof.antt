@@ -1,18 +1,19 @@
 -- `depths::charts::second_chart_depths` meets its contract. Assumes nothing.
 use borrow.Author.Needs.{needs}
+use Rattle.depths.specs.DepthSlots.{pushed}
 use Rattle.depths.specs.Charts.{secondChartDepths}
 use Rattle.depths.proofs.charts.second_chart_depths.Statement.{statement}
 use Rattle.depths.proofs.charts.second_chart_depths.Tie as tie
 
 returns : tie.Need-returns
-unfolding secondChartDepths
-returns c = rw (c .if1 .taken)
+unfolding pushed secondChartDepths
+returns c found = rw (c .if1 .taken)
 
 returns-2 : tie.Need-returns-2
 unfolding secondChartDepths
-returns-2 c =
+returns-2 c found =
     let above = c .before .before .before in
-    rw (above .if1 .left, ← c .before .sqrt .ensures, ← c .push-if-positive .ensures)
+    rw (above .if1 .left, ← c .before .sqrt .ensures) (c .if-positive .ensures found)
 
 pub second-chart-depths-spec : {M : Type 1} → statement M
 second-chart-depths-spec =

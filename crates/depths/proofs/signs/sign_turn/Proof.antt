@@ -6,9 +6,15 @@ use Rattle.depths.proofs.signs.sign_turn.Tie as tie
 
 returns : tie.Need-returns
 unfolding signTurn
-returns c = cc
+returns c eigenvectors found first second =
+    rw (
+      first,
+      second,
+      ← c .before .before .mul .ensures,
+      ← c .before .sub .ensures,
+    )
+    (c .chart .ensures found)
 
 pub sign-turn-spec : {M : Type 1} → statement M
 sign-turn-spec =
-    tie.close (tie.spec (λ c _. search needs) (λ c _. search needs) (λ c _. search needs)
-    (λ c _. search needs) (λ c _. search needs) returns)
+    tie.close (tie.spec (λ c _. search needs) (λ c _. search needs) (λ c _. search needs) returns)
