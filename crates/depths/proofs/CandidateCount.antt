@@ -1,14 +1,14 @@
 -- The depth candidates of a root are at most four: one more is stored only where there is room.
 -- Assumes nothing.
 use Prim.Native.Nat.{_≤_}
-use mathlib.Core.Bool.{_&&_, _||_}
+use mathlib.Core.Bool.{Bool, _&&_, _||_}
 use native.Mathlib.Omega.{arith}
 use lib.Dec.{ltb, ltb→lt}
 use lib.Ieee.{Float, lt, le, neg}
 use lib.Ieee.Fits.{and-r}
 use Rattle.ieee754.specs.Literal.{plusZero}
 use Rattle.ieee754.specs.Magnitude.{abs}
-use Rattle.ieee754.specs.Traced.{Traced}
+use Rattle.ieee754.specs.Traced.{Traced, pure, if_then_else_}
 use Rattle.ieee754.proofs.Tests.{either-way}
 use Rattle.polynomial.specs.declared.Roots.the-variants.{Two, One, Refused}
 use Rattle.depths.specs.DepthSlots.{noCandidates, pushIfPositive}
@@ -24,6 +24,11 @@ abbrev GivesFew : Traced Candidates → Type 0
 GivesFew m = Few (m .value)
 
 module _ (found : Candidates) (few : Few found) where
+  unless : (test : Bool) (m : Traced Candidates)
+      → GivesFew m
+      → GivesFew (if test then pure found else m)
+  unless test m h = either-way GivesFew test (λ _. few) (λ _. h)
+
   pushIfPositive-few : (depth : Float) (depths : Vector3) → Few (pushIfPositive found depth depths)
   unfolding pushIfPositive
   pushIfPositive-few depth depths =
@@ -49,16 +54,15 @@ module _ (squares : SquaredEdges) (factors : Factors) where
       → Few (firstChartDepths squares factors nullVector found tau .value)
   unfolding firstChartDepths
   firstChartDepths-few nullVector found few tau =
-      either-way GivesFew (le tau plusZero || le _ plusZero) (λ _. few)
-      (λ _. pushIfPositive-few found few _ _)
+      unless found few (le tau plusZero || le _ plusZero) _ (pushIfPositive-few found few _ _)
 
   firstChart-few : (nullVector : Vector3) (found : Candidates)
       → Few found
       → Few (firstChart squares factors nullVector found .value)
   unfolding firstChart
   firstChart-few nullVector found few =
-      either-way GivesFew (noDivisor _) (λ _. few)
-      (λ _. forRoots-few found few _ _ (firstChartDepths-few nullVector))
+      unless found few (noDivisor _) _
+      (forRoots-few found few _ _ (firstChartDepths-few nullVector))
 
   -- ---- the other chart
   secondChartDepths-few : (w0 w1 : Float) (found : Candidates)
@@ -67,23 +71,22 @@ module _ (squares : SquaredEdges) (factors : Factors) where
       → Few (secondChartDepths squares factors w0 w1 found tau .value)
   unfolding secondChartDepths
   secondChartDepths-few w0 w1 found few tau =
-      either-way GivesFew (le tau plusZero || le _ plusZero) (λ _. few)
-      (λ _. pushIfPositive-few found few _ _)
+      unless found few (le tau plusZero || le _ plusZero) _ (pushIfPositive-few found few _ _)
 
   weightChart-few : (w0 w1 : Float) (found : Candidates)
       → Few found
       → Few (weightChart squares factors w0 w1 found .value)
   unfolding weightChart
   weightChart-few w0 w1 found few =
-      either-way GivesFew (noDivisor _) (λ _. few)
-      (λ _. forRoots-few found few _ _ (secondChartDepths-few w0 w1))
+      unless found few (noDivisor _) _
+      (forRoots-few found few _ _ (secondChartDepths-few w0 w1))
 
   secondChart-few : (nullVector : Vector3) (found : Candidates)
       → Few found
       → Few (secondChart squares factors nullVector found .value)
   unfolding secondChart
   secondChart-few nullVector found few =
-      either-way GivesFew (noDivisor (nullVector .x)) (λ _. few) (λ _. weightChart-few _ _ found few)
+      unless found few (noDivisor _) _ (weightChart-few _ _ found few)
 
   -- ---- either chart, a sign's turn, and both signs
   signTurn-few : (eigenvectors : Matrix3) (sign : Float) (found : Candidates)

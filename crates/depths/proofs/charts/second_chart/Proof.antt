@@ -18,4 +18,5 @@ returns-2 c found =
 
 pub second-chart-spec : {M : Type 1} → statement M
 second-chart-spec =
-    tie.close (tie.spec (λ c _. search needs) (λ c _. search needs) returns (λ c _. search needs) returns-2)
+    tie.close (tie.spec (λ c _. search needs) (λ c _. search needs) returns (λ c _. search needs)
+    returns-2)
