@@ -48,14 +48,7 @@ sid safe-arch pool/main/r/rust-safe-arch/librust-safe-arch-dev_1.2.0+ds-1_all.de
 sid wide pool/main/r/rust-wide/librust-wide-dev_1.7.1+ds-1_all.deb e97179266f3acff33a7094e5ca587e1e8e37752c4439d207e6a068b2d0bc7a6c
 sid bytemuck pool/main/r/rust-bytemuck/librust-bytemuck-dev_1.25.2-1_amd64.deb ede635cc28625ef24bf4ee650a5847489c8cad7a6f715b467ac564800ada9b1d
 '
-uri=$(apt-get indextargets --format '$(REPO_URI) $(RELEASE) $(COMPONENT)' 'Created-By: Packages' 2>/dev/null |
-  awk '$3 == "main" && $2 !~ /-/ { print $1; exit }')
-if [ -z "$uri" ]; then # no lists fetched yet: read the sources themselves
-  uri=$( (cat /etc/apt/sources.list.d/*.sources /etc/apt/sources.list 2>/dev/null || true) |
-    sed -nE 's/^URIs:[ ]*([^ ]+).*/\1/p; s/^deb +(\[[^]]*\] +)?([^ ]+) .*/\2/p' | head -n 1)
-fi
-[ -n "$uri" ] || { echo "no mirror in the apt configuration" >&2; exit 1; }
-uri=${uri%/}
+uri=$("$here/mirror.sh")
 work=$(mktemp -d)
 trap 'rm -rf "$work"' EXIT
 get() { curl -sSf --retry 3 -o "$2" "$uri/$1" 2>"$work/err"; }

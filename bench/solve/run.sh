@@ -1,22 +1,80 @@
 #!/usr/bin/env bash
-# How deep the stack of a solve gets, how long a solve takes beside the Rust's, and, where perf is
-# installed, what the time goes into. Needs gcc and what reference/README.md names.
+# All figures of a solve in one run: the library's size, the deepest stack, the times beside the
+# Rust's and, where target/peers is (bench/peers/fetch.sh), other solvers'; the records a second of
+# the program poses; and, where perf is installed, what the time goes into.
 #   bench/solve/run.sh SOURCES     SOURCES: the Rust's original sources (reference/README.md)
-set -eu
+# Needs gcc, python3, GNU time and what reference/README.md names; for other solvers g++.
+set -euo pipefail
 cd "$(dirname "$0")/../.."
 : "${1:?usage: run.sh SOURCES}"
-rt staticlib p3p | tail -1
 library=target/staticlib/libp3p.a
 frames=crates/replay/data/rust/frame.bin
+peers=target/peers
 out=target/bench/solve
 mkdir -p "$out"
+
+rt staticlib p3p | tail -1
+rt check poses | tail -1
+# Bound at the start (now): else the loader, which looks memcpy up when it is first called, adds
+# some 2.7 KiB of its own to the first frame's stack.
 for program in stack repeat; do
-    gcc -O2 -Wall -Wextra -o "$out/$program" "bench/solve/$program.c" "$library" -lpthread
+    gcc -O2 -Wall -Wextra -Wl,-z,now -o "$out/$program" "bench/solve/$program.c" "$library" \
+        -lpthread
 done
-size "$library" | tail -1
-"$out/stack" "$frames"
-P3P_PORT=$library reference/run "$1" bench
-if command -v perf >/dev/null; then
-    perf record -q -o "$out/perf.data" "$out/repeat" "$frames" 2000 >/dev/null
-    perf report -i "$out/perf.data" --stdio 2>/dev/null | grep -E '^ +[1-9][0-9.]*%' | head -12
+if [ -d "$peers" ]; then
+    # Of OpenCV's static library only what a solve calls is kept, which needs no other library.
+    libraries=$PWD/$peers/usr/lib/x86_64-linux-gnu
+    g++ -O2 -Wall -Wextra -fPIC -shared -isystem "$peers/usr/include/eigen3" \
+        -isystem "$peers/usr/include" -o "$out/libpeers.so" bench/peers/peers.cpp \
+        -L"$libraries" -Wl,-rpath,"$libraries" -Wl,--gc-sections -Wl,-z,defs \
+        -l:libopencv_calib3d.a -lopengv
+    export P3P_PEERS=$out/libpeers.so
 fi
+
+echo
+echo "## Size and stack"
+size "$library"
+"$out/stack" "$frames"
+
+echo
+echo "## Times"
+P3P_PORT=$library reference/run "$1" bench
+
+echo
+echo "## The program poses"
+copies=83334
+python3 - "$copies" >"$out/frames" <<'END'
+import sys
+sample = open("samples/frames.bin", "rb").read()
+for _ in range(int(sys.argv[1])):
+    sys.stdout.buffer.write(sample)
+END
+/usr/bin/time -o "$out/time" -f "%U %S %M" target/bin/poses <"$out/frames" >/dev/null
+rm "$out/frames"
+# the sample has 12 frames
+awk -v records=$((12 * copies)) '{
+    printf "%d records in %.2f s of processor time, %.0f a second; peak memory %d KiB\n",
+        records, $1 + $2, records / ($1 + $2), $3 }' "$out/time"
+
+command -v perf >/dev/null || exit 0
+echo
+echo "## What the time goes into"
+# By the processor's time, since a virtual machine may have no counters. A function that the
+# compiler put into another is counted there.
+perf record -q -e cpu-clock -o "$out/perf.data" "$out/repeat" "$frames" 2000 >/dev/null
+printf '| what | share |\n|---|---:|\n'
+perf report -q -i "$out/perf.data" --stdio -F overhead,sym 2>/dev/null | awk '
+    function group(name) {
+        if (name ~ /^ieee754(_roots|::sqrt)/) return "square root"
+        if (name ~ /^ieee754(_parts|::fma)/) return "fused multiply-add"
+        if (name ~ /^(polynomial::cubic|cubic_parts|ieee754::cbrt)/) return "root of the cubic"
+        if (name ~ /^polynomial::quadratic/) return "roots of the quadratic"
+        if (name ~ /^eigen/) return "eigenvectors"
+        if (name ~ /^(depths|refinement)/) return "charts and depths"
+        if (name ~ /^(lambdatwist|orderings|p3p_)/) return "the solve itself"
+        if (name ~ /mem(cpy|move|set)/) return "memcpy, memset"
+        return "other"
+    }
+    NF { share[group($3)] += $1 }
+    END { for (name in share) printf "| %s | %.1f%% |\n", name, share[name] }' |
+    sort -t'|' -k3 -rn

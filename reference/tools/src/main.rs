@@ -8,6 +8,8 @@ mod choice;
 mod coverage;
 mod frames;
 mod orders;
+#[cfg(port)]
+mod peers;
 mod pieces;
 #[cfg(port)]
 mod port;
@@ -25,7 +27,8 @@ reference coverage FOLDER        which branches of the Rust the stored vectors r
 reference orders                 nalgebra's orders of operations, with a witness for each
 reference beside [COUNT [SEED]]  the port and both copies on the same random inputs
 reference pieces COUNT FUNCTION..  the same on COUNT random inputs of each function named
-reference bench [COUNT]          how long a solve takes, the port beside the unchanged copy (COUNT frames of a sort)
+reference bench [COUNT]          how long a solve takes, the port beside the unchanged copy and,
+                                 where P3P_PEERS was set, other solvers (COUNT frames of a sort)
 reference search FUNCTION N SEED COUNT | FILE
                                  inputs that reach what fewer than N stored ones reach";
 
