@@ -1,5 +1,6 @@
--- What the proofs of this crate's functions share: tests, powers, signs, how a double is
--- written, and roots from powers up to the digits and exponent of a double's root; then worked examples of the definitions.
+-- What the proofs of this crate's functions share: tests, powers, signs, how a double is written,
+-- roots from powers up to the digits and exponent of a double's root, and the fused multiply-add's
+-- value; then worked examples of the definitions.
 pub mod Tests
 pub mod PowerLaws
 pub mod Sign

@@ -1,6 +1,6 @@
--- The sign of a value and of its bit pattern: a pattern whose sign's bit is another's stands for the
--- value with that one's sign (`copysign-bits`), and the bit is the value's sign (`negative-bits`).
--- Assumes nothing.
+-- The sign of a value and of its bit pattern: a pattern with another's bit for the sign stands for
+-- the value with that one's sign (`copysign-bits`), and the bit is the value's sign
+-- (`negative-bits`). Assumes nothing.
 use Prim.Native.Nat.{ℕ, zero, suc, _+_, _-_, _*_, _/_, _%_}
 use mathlib.Core.Path.{_≡_, refl, sym, ap, ap₂, _∙_, subst}
 use mathlib.Core.Bool.{Bool, true, false, not, cond}
@@ -62,7 +62,8 @@ unfolding ofBits
 copysign-bits f x y k h s =
     let b = toBits f x in
     let n = b % top f + k * top f in
-    let upper : n % top f ≡ b % top f = add-mul-mod-self-right (b % top f) k (top f) ∙ mod-mod b (top f) in
+    let upper : n % top f ≡ b % top f =
+    add-mul-mod-self-right (b % top f) k (top f) ∙ mod-mod b (top f) in
     let lower : n % hid f ≡ b % hid f =
     sym (mod-mod-of-dvd _ n (dvd-mul-right (hid f) (suc (ones f))))
     ∙ ap (λ (z : ℕ). z % hid f) upper

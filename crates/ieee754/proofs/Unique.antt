@@ -10,8 +10,8 @@ use mathlib.Core.Bool.{Bool, cond, _&&_}
 use lib.IntN.{ℤ, pos, negsuc}
 use lib.Dec.{T, leb, ltb, eqb, leb→le, ltb→lt, eqb→eq}
 use lib.Pow.{pow-add, pow-pos, pow-lt, pow-mono, shl-lt}
-use lib.Ieee.{Float, nan, inf, fin, Format, binary64, prec, emax, low, top, hid, up, down, size, round}
-use lib.Ieee.{fits, toBits}
+use lib.Ieee.{Float, nan, inf, fin, Format, binary64, prec, emax, low, top, hid, up, down, size}
+use lib.Ieee.{round, fits, toBits}
 use lib.Ieee.Exact.{HasValue, round-exact}
 use lib.Ieee.Fits.{down-pos, reach, and-l, and-r, round-fits}
 use lib.Ieee.Nearest.{div-same}
@@ -128,7 +128,8 @@ module _ (f : Format) (s : Bool) (m : ℕ) (short : m < 2 ^ prec f) where
       → 2 ^ suc k ≤ 2 ^ low f
       → HasValue (round f s (m * 1) (2 ^ suc k)) s (m * 1) (2 ^ suc k)
   at-fraction k h =
-      let within : suc k < suc (low f) = exponent-lt (suc k) (suc (low f)) h (pow-lt (le-refl (suc (low f)))) in
+      let within : suc k < suc (low f) =
+      exponent-lt (suc k) (suc (low f)) h (pow-lt (le-refl (suc (low f)))) in
       let j = low f - suc k in
       let split : j + suc k ≡ low f = omega arith in
       round-exact f s (m * 1) (2 ^ suc k) m j (pow-pos (suc k)) short
@@ -141,7 +142,9 @@ module _ (f : Format) (s : Bool) (m : ℕ) (short : m < 2 ^ prec f) where
 exact : (s : Bool) (m : ℕ) (e : ℤ)
     → T (fits binary64 (fin s m e))
     → HasValue (round binary64 s (m * up e) (down e)) s (m * up e) (down e)
-exact s zero (pos k) h = at-whole binary64 s 0 (pow-pos 53) k (lt-of-le-of-lt (le-of-eq (zero-mul (2 ^ k))) (pow-pos 1024))
+exact s zero (pos k) h =
+    at-whole binary64 s 0 (pow-pos 53) k
+    (lt-of-le-of-lt (le-of-eq (zero-mul (2 ^ k))) (pow-pos 1024))
 exact s zero (negsuc k) h = absurd (zero-exponent s k h)
 exact s (suc m) (pos k) h =
     let p = fits-parts s m (pos k) h in at-whole binary64 s (suc m) (p .short) k (p .highest)

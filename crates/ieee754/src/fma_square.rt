@@ -1,5 +1,5 @@
-// Rust's b.mul_add(b, z): x * x + z, rounded once, as `fma` has it for two factors. From document 01,
-// module 1.
+// Rust's f64::mul_add of two equal factors: x * x + z, rounded once, as `fma` has it. From document
+// 01, module 1.
 //
 // A quadratic's discriminant is such a sum, and mostly its parts' exponents are near to each other.
 // Then both are whole numbers of two words over one power of two, and no digit is cut off.

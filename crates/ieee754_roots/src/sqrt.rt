@@ -40,10 +40,10 @@ fn by_digits(n: u64) -> u64
     if root < rest { root + 1 } else { root }
 }
 
-// A guess at the root of x = m * 2^odd / 2^52: half the root's reciprocal from a line gives the root
-// `a`, Newton's method mends both, and the root r once more by the rest x - r * r. That is computed
-// in two parts, of which x - top * top, with the upper digits of `a`, is exact. So the guess is
-// nearly always the nearest double, and else the one below. Nothing is claimed of it.
+// A guess at the root of x = m * 2^odd / 2^52: half the root's reciprocal, from a line, gives the
+// root `a`; Newton's method mends both, and the root r once more by the rest x - r * r. That is
+// computed in two parts, of which x - top * top, with the upper digits of `a`, is exact. So the
+// guess is nearly always the nearest double, and else the one below. Nothing is claimed of it.
 fn guess(m: u64, odd: u64) -> f64
     requires { ⌜ (2 ^ 52 ≤ m) × (m < 2 ^ 53) × (odd < 2) ⌝ }
 {
@@ -96,8 +96,8 @@ fn settled(n: u64, q: u64) -> u64
     if BIAS + q < r.lo { q + 1 } else { q }
 }
 
-// Whether q is the whole number nearest to the root of n * 2^52. That exceeds q * (q - 1) then, by at
-// most 2 * q.
+// Whether q is the whole number nearest to the root of n * 2^52. That exceeds q * (q - 1) then, by
+// at most 2 * q.
 fn is_nearest(n: u64, q: u64) -> bool
     requires { ⌜ (n < 2 ^ 54) × (2 ^ 52 ≤ q) × (q < 2 ^ 53) ⌝ }
     ensures { λ r. ⌜ (r ≡ true → IsNearest 2 (n * 2 ^ 52) q) ⌝ }

@@ -2,6 +2,7 @@
 -- of the crates below.
 pub use Rattle.linalg.specs.declared.matrix3.Matrix3.{Matrix3}
 pub use Rattle.linalg.specs.declared.vector3.Vector3.{Vector3}
+pub use Rattle.frames.specs.declared.pose.Pose.{Pose}
 pub use Rattle.frames.specs.declared.bearings.Bearings.{Bearings}
 pub use Rattle.frames.specs.declared.world.World.{World}
 pub use Rattle.refinement.specs.declared.refine_depths.Refined.{Refined}
@@ -10,4 +11,6 @@ pub use Rattle.p3p_common.specs.declared.solutions.Solutions.{Solutions}
 pub use Rattle.orderings.specs.declared.cubic.Coefficients.{Coefficients}
 pub use Rattle.orderings.specs.declared.measured.Measured.{Measured}
 pub use Rattle.depths.specs.declared.candidates.Candidates.{Candidates}
+pub use Rattle.lambdatwist.specs.declared.slots.Turn.{Turn}
+pub use Rattle.lambdatwist.specs.declared.slots.Turn.the-variants.{Kept, Dropped}
 pub use Rattle.lambdatwist.specs.declared.solve.Answer.{Answer}

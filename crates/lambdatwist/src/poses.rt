@@ -1,15 +1,21 @@
 // From depth candidates to poses: the end of solve_ordered (lambdatwist.rs). Each candidate is
 // refined, and where its depths are positive a pose is made of it and goes to the gate.
 ghost use mathlib.Core.Path.{_≡_};
+ghost use Prim.Native.Nat.{_≤_};
+ghost use Rattle.p3p_common.specs.PushPose.{pushGated};
 ghost use Rattle.lambdatwist.specs.Poses.{allPositive, pushDepths, poseTurn, poses};
+ghost use Rattle.lambdatwist.specs.Slots.{turned, held, Fresh};
+ghost use Rattle.lambdatwist.specs.Types.{Solutions};
+use crate::slots::Turn;
+use crate::slots::store;
 use depths::candidates::Candidates;
 use linalg::matrix3::Matrix3;
 use linalg::vector3::Vector3;
 use orderings::measured::Measured;
+use p3p_common::gate::Gated;
+use p3p_common::gate::gate;
 use p3p_common::input::P3pInput;
-use p3p_common::push_pose::push_pose;
 use p3p_common::rotation_from_edges::rotation_from_edges;
-use p3p_common::solutions::Solutions;
 use refinement::refine_depths::Refined;
 use refinement::refine_depths::refine_depths;
 
@@ -20,16 +26,17 @@ pub fn all_positive(d: Vector3) -> bool
     d.all_finite() & (!(d.x <= 0.0) & (!(d.y <= 0.0) & !(d.z <= 0.0)))
 }
 
-// The pose of three refined depths, appended where the gate lets it by. The gate tests it on the
-// input as it was given.
-pub fn push_depths(
+// What the gate says of the pose of three refined depths. It tests it on the input as it was given.
+pub fn gated_depths(
     input: P3pInput,
     measured: Measured,
     world_inverse: Matrix3,
-    output: Solutions,
     refined: Refined,
-) -> Solutions
-    ensures { λ r. ⌜ r ≡ pushDepths input measured «world_inverse» output refined .value ⌝ }
+) -> Gated
+    ensures { λ r.
+        ⌜ ((output : Solutions) →
+        pushGated output r (refined .updates)
+        ≡ pushDepths input measured «world_inverse» output refined .value) ⌝ }
 {
     let bearings = measured.bearings;
     let depths = refined.depths;
@@ -38,7 +45,7 @@ pub fn push_depths(
     let camera2 = bearings.f2.mul(depths.z);
     let rotation = rotation_from_edges(camera0.sub(camera1), camera0.sub(camera2), world_inverse);
     let translation = camera0.sub(rotation.mul_vector(measured.p0));
-    push_pose(input, output, rotation, translation, refined.updates)
+    gate(input, rotation, translation)
 }
 
 // The turn of one candidate.
@@ -46,38 +53,49 @@ pub fn pose_turn(
     input: P3pInput,
     measured: Measured,
     world_inverse: Matrix3,
-    output: Solutions,
     depths: Vector3,
-) -> Solutions
-    ensures { λ r. ⌜ r ≡ poseTurn input measured «world_inverse» output depths .value ⌝ }
+) -> Turn
+    ensures { λ r.
+        ⌜ ((output : Solutions) →
+        turned output r ≡ poseTurn input measured «world_inverse» output depths .value) ⌝ }
 {
     let squares = measured.squares;
     let cosines = measured.cosines;
     let refined = refine_depths(depths, squares, cosines, 5);
+    let updates = refined.updates;
     if !all_positive(refined.depths) {
-        return output;
+        return Turn::Dropped;
     }
-    push_depths(input, measured, world_inverse, output, refined)
+    match gated_depths(input, measured, world_inverse, refined) {
+        Gated::Passed(pose) => Turn::Kept(pose, updates),
+        Gated::Projected(pose) => Turn::Kept(pose, updates),
+        Gated::Dropped => Turn::Dropped,
+    }
 }
 
+// Fills the slots, and says how many.
 pub fn poses(
     input: P3pInput,
     measured: Measured,
     world_inverse: Matrix3,
     found: Candidates,
-) -> Solutions
-    ensures { λ r. ⌜ r ≡ poses input measured «world_inverse» found .value ⌝ }
+    slots: &mut [[f64; 12]; 4],
+    updates: &mut [u32; 4],
+) -> usize
+    requires { ⌜ found .count ≤ 4 ⌝ }
+    requires { ⌜ Fresh (now slots) (now updates) ⌝ }
+    ensures { λ count.
+        ⌜ held count (now (slots .exit)) (now (updates .exit))
+        ≡ poses input measured «world_inverse» found .value ⌝ }
 {
-    let count = found.count;
+    let depth_count = found.count;
     let depths = found.depths;
-    let mut output = Solutions::empty();
+    let mut count = 0;
     let mut at = 0;
-    while at < 4 {
-        if count <= at {
-            return output;
-        }
-        output = pose_turn(input, measured, world_inverse, output, depths[at]);
+    while at < depth_count {
+        let turn = pose_turn(input, measured, world_inverse, depths[at]);
+        count = store(turn, count, slots, updates);
         at += 1;
     }
-    output
+    count
 }

@@ -3,15 +3,18 @@
 // document 01.
 ghost use mathlib.Core.Path.{_≡_};
 ghost use Prim.Native.Nat.{_≤_};
+ghost use Rattle.lambdatwist.specs.Slots.{Fresh};
 ghost use Rattle.lambdatwist.specs.Solve as Solve;
+ghost use Rattle.lambdatwist.specs.Solve.{Filled};
 use crate::poses::poses;
+use crate::slots::held;
 use depths::candidates::Candidates;
 use depths::matrix::singular_matrix;
 use depths::ratio::Ratio;
 use depths::ratio::ratio_of;
 use depths::signs::candidates;
-use eigen::known_zero::Eigensystem;
-use eigen::known_zero::eig_with_known_zero;
+use eigen::eigenpairs::Eigenpairs;
+use eigen::eigenpairs::eigenpairs_with_known_zero;
 use frames::bearings::Bearings;
 use frames::pose::Pose;
 use frames::world::World;
@@ -69,45 +72,80 @@ fn if_kept(solutions: Solutions) -> Answer
     answered(0, solutions)
 }
 
-fn solve_candidates(input: P3pInput, measured: Measured, found: Candidates) -> Answer
-    ensures { λ r. ⌜ r ≡ Solve.solveCandidates input measured found .value ⌝ }
+// ---- the stages of solve_ordered, from the last to the first: each fills the slots and says how
+// many, 0 where one stops
+
+fn solve_candidates(
+    input: P3pInput,
+    measured: Measured,
+    found: Candidates,
+    slots: &mut [[f64; 12]; 4],
+    updates: &mut [u32; 4],
+) -> usize
+    requires { ⌜ found .count ≤ 4 ⌝ }
+    requires { ⌜ Fresh (now slots) (now updates) ⌝ }
+    ensures { λ count.
+        ⌜ Filled count (now (slots .exit)) (now (updates .exit))
+        (Solve.solveCandidates input measured found .value) ⌝ }
 {
     let d01 = measured.d01;
     let d02 = measured.d02;
     let Basis::Inverse(world_inverse) = world_basis_inverse(d01, d02) else {
-        return refused(3);
+        return 0;
     };
-    if_kept(poses(input, measured, world_inverse, found))
+    poses(input, measured, world_inverse, found, slots, updates)
 }
 
-fn solve_root(input: P3pInput, measured: Measured, g: f64) -> Answer
-    ensures { λ r. ⌜ r ≡ Solve.solveRoot input measured g .value ⌝ }
+fn solve_root(
+    input: P3pInput,
+    measured: Measured,
+    g: f64,
+    slots: &mut [[f64; 12]; 4],
+    updates: &mut [u32; 4],
+) -> usize
+    requires { ⌜ Fresh (now slots) (now updates) ⌝ }
+    ensures { λ count.
+        ⌜ Filled count (now (slots .exit)) (now (updates .exit))
+        (Solve.solveRoot input measured g .value) ⌝ }
 {
     let squares = measured.squares;
     let factors = measured.factors;
     let matrix = singular_matrix(squares, factors, g);
-    let Eigensystem::Found(eigenvectors, eigenvalues) = eig_with_known_zero(matrix) else {
-        return refused(3);
+    let Eigenpairs::Both(column0, column1, first_value, second_value) = eigenpairs_with_known_zero(
+        matrix,
+    ) else {
+        return 0;
     };
-    let Ratio::Real(ratio) = ratio_of(eigenvalues.x, eigenvalues.y) else {
-        return refused(3);
+    let Ratio::Real(ratio) = ratio_of(first_value, second_value) else {
+        return 0;
     };
-    let found = candidates(squares, factors, eigenvectors, ratio);
-    solve_candidates(input, measured, found)
+    let found = candidates(squares, factors, column0, column1, ratio);
+    solve_candidates(input, measured, found, slots, updates)
 }
 
-fn solve_cubic(input: P3pInput, measured: Measured, c: Coefficients) -> Answer
-    ensures { λ r. ⌜ r ≡ Solve.solveCubic input measured c .value ⌝ }
+fn solve_cubic(
+    input: P3pInput,
+    measured: Measured,
+    c: Coefficients,
+    slots: &mut [[f64; 12]; 4],
+    updates: &mut [u32; 4],
+) -> usize
+    requires { ⌜ Fresh (now slots) (now updates) ⌝ }
+    ensures { λ count.
+        ⌜ Filled count (now (slots .exit)) (now (updates .exit))
+        (Solve.solveCubic input measured c .value) ⌝ }
 {
     let cubic3 = c.cubic3;
     let c2 = c.cubic2 / cubic3;
     let c1 = c.cubic1 / cubic3;
     let c0 = c.cubic0 / cubic3;
     let Roots::One(g) = polished_cubic_root(c2, c1, c0) else {
-        return refused(3);
+        return 0;
     };
-    solve_root(input, measured, g)
+    solve_root(input, measured, g, slots, updates)
 }
+
+// ---- the cycle
 
 // The points and bearings in some order of the input's.
 fn solve_ordered(input: P3pInput, world: World, bearings: Bearings, retries: u32) -> Answer
@@ -121,7 +159,10 @@ fn solve_ordered(input: P3pInput, world: World, bearings: Bearings, retries: u32
         }
         return refused(2);
     }
-    solve_cubic(input, measured, cubic)
+    let mut slots = [[0.0; 12]; 4];
+    let mut updates = [0u32; 4];
+    let count = solve_cubic(input, measured, cubic, &mut slots, &mut updates);
+    if_kept(held(count, slots, updates))
 }
 
 fn solve_best_conditioned_permutation(input: P3pInput, retries: u32) -> Answer
@@ -136,6 +177,20 @@ fn solve_best_conditioned_permutation(input: P3pInput, retries: u32) -> Answer
     solve_ordered(input, world, bearings, retries)
 }
 
+// ---- the entry: the first turn of the cycle is written out, so that the common way through it is
+// compiled by itself (docs/DECISIONS.md)
+
+// The given ordering, which is usable. Its slots are this function's own, and are gone where a
+// retry has others.
+fn solve_given(input: P3pInput, measured: Measured, c: Coefficients) -> Answer
+    ensures { λ r. ⌜ r ≡ Solve.solveCubic input measured c .value ⌝ }
+{
+    let mut slots = [[0.0; 12]; 4];
+    let mut updates = [0u32; 4];
+    let count = solve_cubic(input, measured, c, &mut slots, &mut updates);
+    if_kept(held(count, slots, updates))
+}
+
 // The poses of three world points and the bearings to them.
 pub fn solve(world: World, bearings: Bearings) -> Answer
     ensures { λ r. ⌜ r ≡ Solve.solve world bearings .value ⌝ }
@@ -144,5 +199,10 @@ pub fn solve(world: World, bearings: Bearings) -> Answer
     if !input_finite(input) {
         return refused(1);
     }
-    solve_ordered(input, world, bearings, 1)
+    let measured = measure(world, bearings);
+    let cubic = measured_cubic(measured);
+    if is_unusable(cubic) {
+        return solve_best_conditioned_permutation(input, 0);
+    }
+    solve_given(input, measured, cubic)
 }

@@ -1,4 +1,5 @@
--- `ieee754::abs::abs` meets its contract: where x is not above zero, 0 - x is exact. Assumes nothing.
+-- `ieee754::abs::abs` meets its contract: where x is not above zero, 0 - x is exact. Assumes
+-- nothing.
 use Prim.Native.Nat.{ℕ, zero, suc, _+_, _-_, _*_, _<_}
 use mathlib.Core.Path.{_≡_, refl, sym, ap, ap₂, _∙_}
 use mathlib.Core.Bool.{Bool, true, false, cond, _&&_, _||_, false≢true}
@@ -48,7 +49,8 @@ taken (fin true m e) t h =
     ∙ round-own false m e (neg-fits binary64 (fin true m e) t)
 taken (fin false zero e) t h =
     let c = 1 * down e in
-    ap₂ (λ (a b : ℕ). cond (ltb a b) (round binary64 true (b - a) c) (round binary64 false (a - b) c))
+    ap₂
+    (λ (a b : ℕ). cond (ltb a b) (round binary64 true (b - a) c) (round binary64 false (a - b) c))
     (zero-mul (down e)) (ap (λ (a : ℕ). a * 1) (zero-mul (up e)))
     ∙ ap₂ (round binary64 false) (sym (zero-mul (up e))) (one-mul (down e))
     ∙ round-own false 0 e t

@@ -147,9 +147,9 @@ returns c =
     product-is (a .result .sig) (b .result .sig) (a .result .exp) (b .result .exp) p (e .result)
     (a .ensures .digits .full) (b .ensures .digits .full) (g .product .ensures) (e .ensures .0)
     (e .ensures .1) in
-    fma-value (c .add-leading .result) (s .x) (s .y) (s .z) (a .result .negative) (b .result .negative)
-    (d .result .negative) (p * 2 ^ e .result) x y z (a .ensures .is) (b .ensures .is)
-    (d .ensures .is) is (c .add-leading .ensures)
+    fma-value (c .add-leading .result) (s .x) (s .y) (s .z) (a .result .negative)
+    (b .result .negative) (d .result .negative) (p * 2 ^ e .result) x y z (a .ensures .is)
+    (b .ensures .is) (d .ensures .is) is (c .add-leading .ensures)
 
 pub fma-finite-spec : {M : Type 1} → statement M
 fma-finite-spec =

@@ -1,5 +1,5 @@
--- `fma_square_finite` meets its contract: over the one denominator 2 ^ 2166 the square and the addend
--- are those of the definition (FmaValue.antt). Assumes nothing.
+-- `fma_square_finite` meets its contract: over the one denominator 2 ^ 2166 the square and the
+-- addend are those of the definition (FmaValue.antt). Assumes nothing.
 use Prim.Native.Nat.{ℕ, _+_, _-_, _*_, _^_, _≤_, _<_}
 use mathlib.Core.Path.{_≡_, refl, sym, ap, ap₂, _∙_}
 use mathlib.Core.Bool.{Bool, true, false, _&&_}

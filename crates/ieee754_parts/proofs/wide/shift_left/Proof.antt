@@ -12,7 +12,8 @@ use Rattle.ieee754_parts.proofs.wide.shift_left.Tie as tie
 -- j is the number of places, and i of those that stay in the lower word
 raised : (i j n : ℕ) → n / 2 ^ i * 2 ^ (i + j) + n * 2 ^ j % 2 ^ (i + j) ≡ n * 2 ^ j
 raised i j n =
-    ap₂ _+_ (ap (λ (x : ℕ). n / 2 ^ i * x) (pow-add 2 i j) ∙ sym (mul-assoc (n / 2 ^ i) (2 ^ i) (2 ^ j)))
+    ap₂ _+_
+    (ap (λ (x : ℕ). n / 2 ^ i * x) (pow-add 2 i j) ∙ sym (mul-assoc (n / 2 ^ i) (2 ^ i) (2 ^ j)))
     (moved i j n)
     ∙ sym (add-mul (n / 2 ^ i * 2 ^ i) (n % 2 ^ i) (2 ^ j))
     ∙ ap (λ (x : ℕ). x * 2 ^ j) (split n i)
@@ -26,4 +27,5 @@ returns c =
     whole (raised (64 - k) k w)
 
 pub shift-left-spec : {M : Type 1} → statement M
-shift-left-spec = tie.close (tie.spec (λ c. search needs) (λ c. search needs) (λ c. search needs) returns)
+shift-left-spec =
+    tie.close (tie.spec (λ c. search needs) (λ c. search needs) (λ c. search needs) returns)

@@ -32,7 +32,8 @@ in-range s b = (
 near : (s : tie.Start) {q : ℕ}
     → IsNearest 2 (s .args .m * 2 ^ s .args .odd % 2 ^ 64 * 2 ^ 52) q
     → IsNearest 2 (s .args .m * 2 ^ s .args .odd * 2 ^ 52) q
-near s h = moved-nearest 2 (s .args .m) (s .args .odd) (s .pre .0) (s .pre .1) (s .pre .2) (lit≤ tt) h
+near s h =
+    moved-nearest 2 (s .args .m) (s .args .odd) (s .pre .0) (s .pre .1) (s .pre .2) (lit≤ tt) h
 
 is-nearest-requires : tie.Need-is-nearest-requires
 is-nearest-requires c κs = let s = c .before .before in in-range s _

@@ -2,70 +2,83 @@
 -- does. Assumes nothing.
 use borrow.Author.Needs.{needs}
 use native.Mathlib.Omega.{arith}
-use Prim.Native.Nat.{_-_, _≤_, min}
-use mathlib.Core.Path.{_≡_, refl, _∙_}
-use lib.ListN.{length, take, drop}
+use Prim.Native.Nat.{_-_, _≤_}
+use mathlib.Core.Path.{_≡_, _∙_}
+use lib.ListN.{take, drop}
+use Rattle.p3p_common.specs.Slots.{empty}
 use Rattle.lambdatwist.specs.Poses.{poseTurns, poses}
+use Rattle.lambdatwist.specs.Slots.{held}
 use Rattle.depths.proofs.CandidateSlots.{four-slots}
+use Rattle.lambdatwist.proofs.Filling.{none-held}
 use Rattle.lambdatwist.proofs.PoseTurns.{turns-go, turns-end}
 use Rattle.lambdatwist.proofs.poses.poses.Statement.{statement}
 use Rattle.lambdatwist.proofs.poses.poses.Tie as tie
 
 abbrev Inv-loop : tie.InvT-loop
-Inv-loop input measured inverse count depths output₀ at₀ output at =
-    (at ≤ 4)
-    × (poseTurns input measured inverse (drop at (take count depths)) output .value
-    ≡ poseTurns input measured inverse (take count depths) output₀ .value)
+Inv-loop input measured inverse slots₀ updates₀ n depths count₀ at₀ slots updates count at =
+    (at ≤ n)
+    × (count ≤ at)
+    × (poseTurns input measured inverse (drop at (take n depths)) (held count slots updates) .value
+    ≡ poseTurns input measured inverse (take n depths) empty .value)
 
 abbrev μ-loop : tie.MeasureT-loop
-μ-loop input measured inverse count depths output₀ at₀ output at = 4 - at
+μ-loop input measured inverse slots₀ updates₀ n depths count₀ at₀ slots updates count at = n - at
 
 loop-holds : tie.Need-loop-holds Inv-loop μ-loop
-loop-holds c = (search needs, refl)
+loop-holds c =
+    let s = c .before in
+    (omega arith, omega arith, rw (none-held (s .pre .1)))
+
+array-copy-out-pose-turn : tie.Need-array-copy-out-pose-turn Inv-loop μ-loop
+array-copy-out-pose-turn c =
+    let s = c .before .before .before in omega (arith, c .loop-test .taken, s .pre .0)
+
+store-requires : tie.Need-store-requires Inv-loop μ-loop
+store-requires c κs =
+    let after-pose-turn = c .before .before in
+    let test = after-pose-turn .before .before in
+    let head = test .before in
+    let s = head .before .before in
+    omega (arith, test .loop-test .taken, head .loop .inv .1, s .pre .0)
+
+loop-less : tie.Need-loop-less Inv-loop μ-loop
+loop-less c =
+    let after-pose-turn = c .before .before .before in
+    let test = after-pose-turn .before .before in omega (arith, test .loop-test .taken)
+
+loop-again : tie.Need-loop-again Inv-loop μ-loop
+loop-again c =
+    let after-pose-turn = c .before .before .before in
+    let test = after-pose-turn .before .before in
+    let head = test .before in
+    let loop = head .loop in
+    let s = head .before .before in
+    let found = s .args .found in
+    let four = four-slots found (s .good .1 .1 .1 .0) in
+    let below = test .loop-test .taken in (
+      omega arith,
+      omega (arith, c .store .ensures .0),
+      rw (
+        c .store .ensures .1,
+        after-pose-turn .pose-turn .ensures _,
+      )
+          (turns-go _ _ _ (found .count) (found .depths) (loop .at) _ _ below
+          (omega (arith, four, s .pre .0))
+          ∙ loop .inv .2),
+    )
 
 returns : tie.Need-returns Inv-loop μ-loop
 unfolding poses
 returns c =
-    let turn = c .before .before in
-    let loop = turn .loop in
-    let found = turn .before .before .before .args .found in
-    rw (← turn .before .empty .ensures)
-    (turns-end _ _ _ (found .count) (found .depths) (loop .at) (loop .output)
-    (omega (arith, c .if1 .taken))
-    ∙ loop .inv .1)
-
-loop-less : tie.Need-loop-less Inv-loop μ-loop
-loop-less c = omega arith
-
-loop-again : tie.Need-loop-again Inv-loop μ-loop
-loop-again c =
-    let here = c .before .before in
-    let turn = here .before .before in
-    let start = turn .before .before .before in
-    let loop = turn .loop in
-    let four = four-slots (start .args .found) (start .good .1 .1 .1 .0) in (
-      search needs,
-      rw (c .pose-turn .ensures)
-          (turns-go _ _ _ _ _ (loop .at) (loop .output) _ (here .if1 .left)
-          (omega (arith, here .before .loop-test .taken, four))
-          ∙ loop .inv .1),
-    )
-
-returns-2 : tie.Need-returns-2 Inv-loop μ-loop
-unfolding poses
-returns-2 c =
-    let turn = c .before in
-    let loop = turn .loop in
-    let start = turn .before .before .before in
-    let four = four-slots (start .args .found) (start .good .1 .1 .1 .0) in
-    let past : min (start .args .found .count) (length (start .args .found .depths)) ≤ loop .at =
-    omega (arith, c .loop-test .left, four) in
-    rw (← turn .before .empty .ensures)
-    (turns-end _ _ _ (start .args .found .count) (start .args .found .depths) (loop .at)
-    (loop .output) past
-    ∙ loop .inv .1)
+    let head = c .before in
+    let loop = head .loop in
+    let s = head .before .before in
+    let found = s .args .found in
+    turns-end _ _ _ (found .count) (found .depths) (loop .at) _ (omega (arith, c .loop-test .left))
+    ∙ loop .inv .2
 
 pub poses-spec : {M : Type 1} → statement M
 poses-spec =
-    tie.close (tie.spec Inv-loop μ-loop (λ c _. search needs) loop-holds returns (λ c. search needs)
-    (λ c. search needs) (λ c _. search needs) (λ c. search needs) loop-less loop-again returns-2)
+    tie.close (tie.spec Inv-loop μ-loop loop-holds (λ c. search needs)
+    array-copy-out-pose-turn (λ c _. search needs) store-requires (λ c. search needs) loop-less
+    loop-again returns)

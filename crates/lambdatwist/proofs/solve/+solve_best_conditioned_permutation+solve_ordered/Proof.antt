@@ -7,7 +7,9 @@ use Prim.Native.Nat.{ℕ, _+_, _-_, _<_}
 use native.Mathlib.Omega.{arith}
 use borrow.Fn.Kinds.{In}
 use borrow.Fn.PlainCycle.{Measures, is, falls, and}
+use Rattle.lambdatwist.specs.Slots.{held}
 use Rattle.lambdatwist.specs.Solve.{solveBestConditionedPermutation, bestOr, solveOrdered}
+use Rattle.lambdatwist.specs.Solve.{ifKept}
 use Rattle.lambdatwist.proofs.Retries.{out-of-retries, retried, usable}
 use Rattle.lambdatwist.proofs.solve.solve_best_conditioned_permutation.Reads as best
 use Rattle.lambdatwist.proofs.solve.solve_best_conditioned_permutation.Kinds as best-kinds
@@ -21,6 +23,8 @@ use Rattle.orderings.proofs.cubic.is_unusable.Reads as is-unusable-reads
 use Rattle.lambdatwist.proofs.solve.refused.Reads as refused-reads
 use Rattle.orderings.proofs.permutation.best_permutation.Reads as best-permutation-reads
 use Rattle.lambdatwist.proofs.solve.solve_cubic.Reads as solve-cubic-reads
+use Rattle.lambdatwist.proofs.slots.held.Reads as held-reads
+use Rattle.lambdatwist.proofs.solve.if_kept.Reads as if-kept-reads
 use Rattle.lambdatwist.proofs.solve.+solve_best_conditioned_permutation+solve_ordered.{
   statement,
 }
@@ -72,6 +76,10 @@ ordered-calls t = (
   refused-reads.Learnt,
   solve-cubic-reads.Asked,
   solve-cubic-reads.Learnt,
+  held-reads.Asked,
+  held-reads.Learnt,
+  if-kept-reads.Asked,
+  if-kept-reads.Learnt,
 )
 
 -- ---- the retry
@@ -134,12 +142,21 @@ module _ (t : ℕ) where
       (tested .before .before .measured-cubic .ensures)
       (sym (tested .before .is-unusable .ensures) ∙ tested .if1 .taken))
 
+  ordered-if-kept-requires :
+      ordered-lts.Need-if-kept-requires (ordered-calls t) (ordered-at t) ordered.Post
+  unfolding held
+  ordered-if-kept-requires c κs = rw (c .held .ensures) (c .before .solve-cubic .ensures .few)
+
   ordered-returns-3 : ordered-lts.Need-returns-3 (ordered-calls t) (ordered-at t) ordered.Post
   ordered-returns-3 c =
-      let tested = c .before in
+      let after-held = c .before in
+      let after-solve-cubic = after-held .before in
+      let tested = after-solve-cubic .before .before .before in
       let measured = tested .before .before .before in
       let args = measured .before .args in
-      c .solve-cubic .ensures
+      c .if-kept .ensures
+      ∙ ap ifKept (after-held .held .ensures)
+      ∙ after-solve-cubic .solve-cubic .ensures .answers
       ∙ usable (args .input) (args .world) (args .bearings) (measured .measure .ensures)
       (tested .before .before .measured-cubic .ensures)
       (args .retries) (sym (tested .before .is-unusable .ensures) ∙ tested .if1 .left)
@@ -155,4 +172,5 @@ pub +solve-best-conditioned-permutation+solve-ordered-spec : {M : Type 1} → st
     ordered-lts.spec (ordered-calls t) (ordered-at t) ordered.Post (λ c _. search needs)
     (λ c _. search needs) (λ c _. search needs) (λ c. search needs)
     (ordered-solve-best-conditioned-permutation-requires t) (ordered-returns t)
-    (λ c _. search needs) (ordered-returns-2 t) (λ c _. search needs) (ordered-returns-3 t))
+    (λ c _. search needs) (ordered-returns-2 t) (λ c _. search needs) (λ c _. search needs)
+    (ordered-if-kept-requires t) (ordered-returns-3 t))
