@@ -208,3 +208,32 @@ static inline void fma_arguments(double *x, double *y, double *z) {
     *y = of(b);
     *z = of(c);
 }
+
+// Of a square: as above, and with the addend's exponent at or near the ends of the range in which
+// its digits and the square's lie within two words.
+static inline void fma_square_arguments(double *x, double *z) {
+    double y;
+    int64_t e, ends[] = {0, 1, 62, 63, 64, 52, 53, 54};
+    uint64_t a = sign(), c = sign();
+    switch (below(4)) {
+    case 0:
+        fma_arguments(x, &y, z);
+        return;
+    case 1: // minus the rounded square, or a neighbour
+        a |= field(540 + below(960)) | fraction();
+        c = bits(-(of(a) * of(a)));
+        if ((c & ~SIGN) > 4) c += below(9) - 4;
+        break;
+    case 2: // the exponents' difference at an end
+        e = 540 + (int64_t)below(980);
+        a |= field(e) | fraction();
+        c |= field(2 * e - 1075 + ends[below(8)]) | fraction();
+        break;
+    default: // a small square
+        e = (int64_t)below(600);
+        a |= field(e) | fraction();
+        c |= field(2 * e - 1075 + (int64_t)below(70)) | fraction();
+    }
+    *x = of(a);
+    *z = of(c);
+}

@@ -1,12 +1,16 @@
-// The proved single operations beside others, bit for bit, every NaN as one value: the square root
-// and the fused multiply-add beside the C library's, the cube root by whole numbers, and copied
-// sign, maximum and total order by the order of bit patterns.
-//   compare [COUNT [SEED]]     COUNT arguments of sqrt and fma, a hundredth of that of the others
+// The proved single operations beside others, bit for bit, every NaN as one value: the square root,
+// the fused multiply-add, also that of a square, and the magnitude beside the C library's, the cube
+// root by whole numbers, and copied sign, maximum and total order by the order of bit patterns.
+//   compare [COUNT [SEED]]     COUNT arguments of each, of cbrt a hundredth of that
 #include <inttypes.h>
 #include <stdio.h>
 #include <stdlib.h>
 #include "arguments.h"
 #include "../../include/p3p.h"
+
+// crates/ieee754_single
+double ieee754_abs(double x);
+double ieee754_fma_square(double x, double z);
 
 typedef unsigned __int128 u128;
 
@@ -104,6 +108,31 @@ static long compare_fma(long count) {
     return report("fma", count, differ, results);
 }
 
+static long compare_fma_square(long count) {
+    long differ = 0, results[5] = {0};
+    for (long i = 0; i < count; i++) {
+        double x, z;
+        fma_square_arguments(&x, &z);
+        double r = ieee754_fma_square(x, z), s = fma(x, x, z);
+        results[kind(s)]++;
+        if (!same(r, s) && differ++ < 10)
+            printf("fma of a square %016" PRIx64 " %016" PRIx64 ": %016" PRIx64
+                   ", not %016" PRIx64 "\n",
+                   bits(x), bits(z), bits(r), bits(s));
+    }
+    return report("fma of a square", count, differ, results);
+}
+
+static long compare_abs(long count) {
+    long differ = 0, results[5] = {0};
+    for (long i = 0; i < count; i++) {
+        double x = of(below(2) ? special() : next());
+        results[kind(x)]++;
+        differ += !same(ieee754_abs(x), fabs(x));
+    }
+    return report("abs", count, differ, results);
+}
+
 static long compare_cbrt(long count) {
     long differ = 0, results[5] = {0};
     for (long i = 0; i < count; i++) {
@@ -154,7 +183,8 @@ int main(int argc, char **argv) {
     long count = argc > 1 ? atol(argv[1]) : 1000000;
     seed = argc > 2 ? strtoull(argv[2], 0, 0) : 0x9e3779b97f4a7c15;
     printf("seed %016" PRIx64 "\n", seed);
-    long differ = compare_sqrt(count) + compare_fma(count) + compare_cbrt(count / 100) +
-                  compare_pairs(count / 100) + try_the_test(count / 1000);
+    long differ = compare_sqrt(count) + compare_fma(count) + compare_fma_square(count) +
+                  compare_abs(count) + compare_cbrt(count / 100) + compare_pairs(count) +
+                  try_the_test(count / 1000);
     return differ != 0;
 }

@@ -1,0 +1,19 @@
+// The single operations that crate p3p does not export, for bench/ieee754 to link and to compare
+// with the C library's.
+ghost use mathlib.Core.Path.{_≡_};
+ghost use Rattle.ieee754.specs.Fma as Fma;
+ghost use Rattle.ieee754.specs.Magnitude as Magnitude;
+
+#[no_mangle]
+pub extern "C" fn ieee754_abs(x: f64) -> f64
+    ensures { λ r. ⌜ r ≡ Magnitude.abs x ⌝ }
+{
+    ieee754::abs::abs(x)
+}
+
+#[no_mangle]
+pub extern "C" fn ieee754_fma_square(x: f64, z: f64) -> f64
+    ensures { λ r. ⌜ r ≡ Fma.fma x x z ⌝ }
+{
+    ieee754::fma_square::fma_square(x, z)
+}
