@@ -10,7 +10,8 @@ use borrow.Author.Tests.{lt-ltb}
 use Rattle.linalg.specs.Matrices.{fromColumns}
 use Rattle.p3p_common.specs.Slots.{empty, push}
 use Rattle.lambdatwist.specs.Slots.{entries, poseOf, held, Fresh}
-use Rattle.lambdatwist.specs.Solve.{ifKept, refused, Filled}
+use Rattle.lambdatwist.specs.Filled.{Filled}
+use Rattle.lambdatwist.specs.Solve.{ifKept, refused}
 use Rattle.lambdatwist.specs.Types.{Pose, Solutions}
 
 -- ---- at first

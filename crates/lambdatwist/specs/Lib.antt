@@ -1,6 +1,7 @@
 -- The definitions that the contracts of this crate cite: what lambdatwist.rs computes from the
--- depth candidates on, the slots that it fills, the retry, and the solve, line by line.
+-- depth candidates on, the retry, and the solve, line by line; and the slots that the code fills.
 pub mod Types
 pub mod Poses
-pub mod Slots
 pub mod Solve
+pub mod Slots
+pub mod Filled

@@ -2,10 +2,8 @@
 -- `solve_validated` with `solve_solver_minimal` as `solve`, of lambdatwist.rs, with the refusals of
 -- document 01. An ordering is solved with an allowance of retries; where it is unusable and one is
 -- left, the best conditioned of the other orderings is solved with one less.
-use Prim.Native.Nat.{ℕ, zero, suc, _≤_}
-use mathlib.Core.Path.{_≡_}
+use Prim.Native.Nat.{ℕ, zero, suc}
 use mathlib.Core.Bool.{not}
-use mathlib.Core.List.{List}
 use lib.Dec.{eqb}
 use lib.Ieee.{Float, le}
 use Rattle.ieee754.specs.Literal.{sixtyFour, epsilon}
@@ -22,7 +20,6 @@ use Rattle.depths.specs.RatioOf.{withRatio, ratioOf}
 use Rattle.depths.specs.Signs.{candidates}
 use Rattle.eigen.specs.KnownZero.{withSystem, eigWithKnownZero}
 use Rattle.lambdatwist.specs.Poses.{poses}
-use Rattle.lambdatwist.specs.Slots.{held}
 use Rattle.orderings.specs.Permutation.{bestPermutation}
 use Rattle.lambdatwist.specs.Types.{World, Bearings, P3pInput, Solutions, Measured}
 use Rattle.lambdatwist.specs.Types.{Coefficients, Candidates, Answer}
@@ -43,12 +40,6 @@ refused number = answered number empty
 -- question 3 of document 01: was a pose kept?
 unfoldable pub ifKept : Solutions → Answer
 ifKept solutions = if eqb (solutions .count) 0 then refused 3 else answered 0 solutions
-
--- so many slots that a stage filled are this answer
-pub record Filled (count : ℕ) (slots : List (List Float)) (updates : List ℕ) (answer : Answer)
-    : Type 0 where
-  pub few : count ≤ 4
-  pub answers : ifKept (held count slots updates) ≡ answer
 
 -- a step that stops ends the solve with 3
 abbrev pub stopped : Traced Answer

@@ -3,9 +3,9 @@
 // document 01.
 ghost use mathlib.Core.Path.{_≡_};
 ghost use Prim.Native.Nat.{_≤_};
+ghost use Rattle.lambdatwist.specs.Filled.{Filled};
 ghost use Rattle.lambdatwist.specs.Slots.{Fresh};
 ghost use Rattle.lambdatwist.specs.Solve as Solve;
-ghost use Rattle.lambdatwist.specs.Solve.{Filled};
 use crate::poses::poses;
 use crate::slots::held;
 use depths::candidates::Candidates;
