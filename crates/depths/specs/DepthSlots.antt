@@ -8,7 +8,7 @@ use lib.Ieee.{Float, lt}
 use Rattle.ieee754.specs.Literal.{plusZero}
 use Rattle.ieee754.specs.Traced.{if_then_else_}
 use Rattle.linalg.specs.Vectors.{zeros}
-use Rattle.depths.specs.Types.{Vector3, Candidates, Depths, At, Nowhere, ChartDepths}
+use Rattle.depths.specs.Types.{Vector3, Candidates}
 
 -- let mut depths = [Vector3::zeros(); 4];
 -- let mut depth_count = 0;
@@ -22,15 +22,3 @@ pushIfPositive found depth depths =
     if lt plusZero depth && ltb (found .count) 4
     then record { count = found .count + 1; depths = set (found .depths) (found .count) depths }
     else found
-
--- the same in two steps: whether a root gives depths, and whether there is room for them
-unfoldable pub pushed : Candidates → Depths → Candidates
-pushed found (At depths) =
-    if ltb (found .count) 4
-    then record { count = found .count + 1; depths = set (found .depths) (found .count) depths }
-    else found
-pushed found Nowhere = found
-
--- of both roots of a chart's quadratic
-abbrev pub pushedBoth : Candidates → ChartDepths → Candidates
-pushedBoth found both = pushed (pushed found (both .first)) (both .second)

@@ -1,6 +1,7 @@
 // The depth candidates of solve_ordered (lambdatwist.rs): four slots and a count.
 ghost use mathlib.Core.Path.{_≡_};
-ghost use Rattle.depths.specs.DepthSlots.{noCandidates, pushed};
+ghost use Rattle.depths.specs.DepthSlots.{noCandidates};
+ghost use Rattle.depths.specs.Pushed.{pushed};
 use linalg::vector3::Vector3;
 
 // The depths of a root, where they are a candidate.

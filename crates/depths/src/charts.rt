@@ -3,7 +3,8 @@
 // that sign's turn ends. No chart takes the candidates found before it, so that none waits for
 // another.
 ghost use mathlib.Core.Path.{_≡_};
-ghost use Rattle.depths.specs.DepthSlots.{pushIfPositive, pushed, pushedBoth};
+ghost use Rattle.depths.specs.DepthSlots.{pushIfPositive};
+ghost use Rattle.depths.specs.Pushed.{pushed, pushedBoth};
 ghost use Rattle.depths.specs.Types.{Candidates};
 ghost use Rattle.depths.specs.Charts.{noDivisor, firstChartDepths, firstChart};
 ghost use Rattle.depths.specs.Charts.{secondChartDepths, weightChart, secondChart, chart};
@@ -39,7 +40,8 @@ fn nothing() -> ChartDepths
     }
 }
 
-// The depths, where `depth`, one of them, is above zero.
+// The depths, where `depth`, one of them, is above zero: the first half of the Rust's test; `push`
+// asks for room.
 fn if_positive(depth: f64, depths: Vector3) -> Depths
     ensures { λ r. ⌜ ((found : Candidates) → pushed found r ≡ pushIfPositive found depth depths) ⌝ }
 {

@@ -2,7 +2,7 @@
 // solve_ordered (lambdatwist.rs). Both signs' turns are made before a candidate is stored.
 ghost use mathlib.Core.Path.{_≡_};
 ghost use Rattle.linalg.specs.Matrices.{column0, column1};
-ghost use Rattle.depths.specs.DepthSlots.{pushedBoth};
+ghost use Rattle.depths.specs.Pushed.{pushedBoth};
 ghost use Rattle.depths.specs.Signs.{signTurn, candidates};
 ghost use Rattle.depths.specs.Types.{Matrix3};
 use crate::candidates::Candidates;

@@ -1,7 +1,13 @@
--- What the solve reads of `eig_with_known_zero` (lambdatwist.rs): the first two columns of the
--- eigenvectors, and their eigenvalues.
+-- What the solve reads of `eig_with_known_zero` (lambdatwist.rs): whether zero has an eigenvector,
+-- the first two columns of the eigenvectors, and their eigenvalues.
+use mathlib.Core.Bool.{Bool, true, false}
 use Rattle.linalg.specs.Matrices.{column0, column1}
-use Rattle.eigen.specs.Types.{Eigensystem, Found, NotFound, Eigenpairs, Both, Neither}
+use Rattle.eigen.specs.Types.{Eigenvector, Unit, Missing, Eigensystem, Found, NotFound}
+use Rattle.eigen.specs.Types.{Eigenpairs, Both, Neither}
+
+abbrev pub hasVector : Eigenvector → Bool
+hasVector (Unit v) = true
+hasVector Missing = false
 
 abbrev pub pairsOf : Eigensystem → Eigenpairs
 pairsOf (Found eigenvectors eigenvalues) =

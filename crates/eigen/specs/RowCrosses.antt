@@ -1,6 +1,6 @@
 -- `eigenvector_from_row_crosses` of lambdatwist.rs: the longest cross product of two rows of
 -- matrix - eigenvalue, divided by its length.
-use mathlib.Core.Bool.{Bool, true, false, _&&_}
+use mathlib.Core.Bool.{_&&_}
 use lib.Ieee.{Float, lt}
 use lib.Ieee.Scale.{finite}
 use Rattle.ieee754.specs.Literal.{minPositive}
@@ -14,11 +14,6 @@ use Rattle.eigen.specs.Types.{Unit, Missing}
 abbrev pub withVector : {A : Type 0} → Eigenvector → Traced A → (Vector3 → Traced A) → Traced A
 withVector (Unit v) none k = k v
 withVector Missing none k = none
-
--- ---- whether there is one
-abbrev pub hasVector : Eigenvector → Bool
-hasVector (Unit v) = true
-hasVector Missing = false
 
 -- `max_by` keeps what it has only where that compares greater: of equals the last wins
 unfoldable pub lastGreatest : Order → Vector3 → Vector3 → Vector3

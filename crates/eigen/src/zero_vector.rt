@@ -1,7 +1,7 @@
 // The eigenvector of the known eigenvalue zero: the first part of eig_with_known_zero
-// (lambdatwist.rs).
+// (lambdatwist.rs). The solve asks only whether there is one.
 ghost use mathlib.Core.Path.{_≡_};
-ghost use Rattle.eigen.specs.RowCrosses.{hasVector};
+ghost use Rattle.eigen.specs.Eigenpairs.{hasVector};
 ghost use Rattle.eigen.specs.ZeroVector.{zeroDirection, zeroVector};
 use crate::row_crosses::Eigenvector;
 use crate::row_crosses::eigenvector_from_row_crosses;
@@ -32,7 +32,7 @@ pub fn zero_vector(m: Matrix3) -> Eigenvector
     Eigenvector::Unit(direction.div(sqrt(zero_norm_squared)))
 }
 
-// Whether there is a zero vector. Where only that is asked, it is not divided by its length.
+// Whether there is a zero vector: zero_vector's test, without the square root and the division.
 pub fn has_zero_vector(m: Matrix3) -> bool
     ensures { λ r. ⌜ r ≡ hasVector (zeroVector m .value) ⌝ }
 {

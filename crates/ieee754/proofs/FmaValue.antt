@@ -1,5 +1,5 @@
--- The fused multiply-add over one denominator: as the definition's own fractions are over others, a
--- sum over 2 ^ 2166 of the same values is its result (`fma-value`). Assumes nothing.
+-- The fused multiply-add over one denominator. The definition's fractions are over others; a sum of
+-- the same values over 2 ^ 2166 is its result (`fma-value`). Assumes nothing.
 use mathlib.Core.Path.{_≡_, sym, ap, ap₂, _∙_}
 use Prim.Native.Nat.{ℕ, _*_, _^_}
 use native.Mathlib.Nat.{mul-assoc, mul-comm, mul-left-comm, mul-pos}

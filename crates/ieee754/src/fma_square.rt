@@ -25,7 +25,7 @@ fn fma_square_finite(x: f64, z: f64) -> f64
     let m = a.sig;
     let square = 2 * a.exp;
     let addend = c.exp + 1074;
-    if (46 <= square) & ((square < addend) & (addend < square + 64)) {
+    if (square < addend) & (addend < square + 64) {
         let moved = shift_left(c.sig, addend - square);
         return sum_aligned(false, product(m, m), c.negative, moved, square + 18);
     }

@@ -5,7 +5,7 @@ use Prim.Native.Nat.{ℕ, _*_, _≤_, _<_}
 use native.Mathlib.Nat.{mul-lt-mul-of-pos-right, lt-of-mul-lt-mul-right}
 use native.Mathlib.Omega.{arith}
 use native.Mathlib.Decide.{decLt}
-use mathlib.Core.Bool.{Bool, true, false, not, _&&_}
+use mathlib.Core.Bool.{Bool, true, false, not, _&&_, _||_, false≢true}
 use mathlib.Core.Logic.{_⊎_, inl, inr, _↔_, ⊎-elim, by-cases}
 use lib.Dec.{T, ltb}
 use borrow.Author.Tests.{lt-ltb, le-ltb}
@@ -54,3 +54,9 @@ both {a} {b} e = go a b e
     go : (a b : Bool) → a && b ≡ true → (a ≡ true) × (b ≡ true)
     go true b e = (refl, e)
     go false b e = (e, absurd (subst T (sym e) tt))
+
+-- two tests that both fail
+pub both-fail : (a b : Bool) → a || b ≡ false → (a ≡ false) × (b ≡ false)
+both-fail false false h = (refl, refl)
+both-fail true b h = absurd (false≢true (sym h))
+both-fail false true h = absurd (false≢true (sym h))

@@ -1,5 +1,5 @@
-// Numbers below 2^128 as two words of 64 bits: sums, differences, products, and what is left when
-// digits are cut off.
+// Numbers below 2^128 as two words of 64 bits: sums, differences, products, numbers moved up, and
+// what is left when digits are cut off.
 ghost use mathlib.Core.Path.{_≡_};
 ghost use Prim.Native.Nat.{_+_, _*_, _/_, _^_, _≤_, _<_};
 ghost use mathlib.Core.Bool.{false};

@@ -1,3 +1,2 @@
 -- What the functions of this crate return.
-pub mod Types
 pub mod Nearest

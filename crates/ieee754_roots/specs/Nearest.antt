@@ -2,8 +2,6 @@
 -- src/cbrt.rt. Definitions only. Assumes nothing.
 use Prim.Native.Nat.{ℕ, _+_, _-_, _*_, _/_, _^_, _<_}
 use mathlib.Core.Path.{_≡_}
-use mathlib.Core.Bool.{false}
-use Rattle.ieee754_roots.specs.Types.{Difference}
 
 -- q is the whole number nearest to the p-th root of n, with no tie: n lies strictly between the
 -- p-th powers of q - 1 / 2 and q + 1 / 2
@@ -14,10 +12,6 @@ pub record IsNearest (p n q : ℕ) : Type 0 where
 -- q is nearest, unless it is 0, which says that it was not found
 abbrev pub Settled : ℕ → ℕ → ℕ → Type 0
 Settled p n q = (q ≡ 0 → ⊥) → IsNearest p n q
-
--- r's low word is n - q * q, plus 2 ^ 55, unless digits of that are lost
-pub record IsResidue (n q : ℕ) (r : Difference) : Type 0 where
-  pub exact : r .lost ≡ false → r .lo + q * q ≡ n + 2 ^ 55
 
 -- the leading digits of the cube of h
 unfoldable pub cubeTop : ℕ → ℕ

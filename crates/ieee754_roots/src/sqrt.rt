@@ -1,22 +1,18 @@
 // The whole number nearest to a square root.
 //
-// A guess at the root of the significand, made with floats, is settled in integers, and where
-// neither it nor the next number is right the digits are found one by one. So nothing is claimed of
-// the floats.
+// A guess at the root of the significand, made with floats, is tested in integers, and where neither
+// it nor the next number is right the digits are found one by one. So nothing is claimed of the
+// floats.
 ghost use mathlib.Core.Path.{_≡_};
 ghost use mathlib.Core.Bool.{true};
 ghost use Prim.Native.Nat.{_*_, _^_, _≤_, _<_};
-ghost use Rattle.ieee754_roots.specs.Nearest.{IsNearest, Settled, IsResidue};
+ghost use Rattle.ieee754_roots.specs.Nearest.{IsNearest};
 use crate::start::half_reciprocal_root;
 use ieee754_parts::format::INFINITY;
 use ieee754_parts::format::LEADING;
-use ieee754_parts::wide::Difference;
 use ieee754_parts::wide::Wide;
 use ieee754_parts::wide::product;
 use ieee754_parts::wide::word_difference;
-
-// What `residue` adds: 2^55, which is 8 * 2^52.
-const BIAS: u64 = 0x80_0000_0000_0000;
 
 // The whole number nearest to the root of n * 2^52, which has 53 digits. They are found one by one
 // from the top: `root` is what the digits so far come to, `bit` the weight of the last of them, and
@@ -43,7 +39,9 @@ fn by_digits(n: u64) -> u64
 // A guess at the root of x = m * 2^odd / 2^52: half the root's reciprocal, from a line, gives the
 // root `a`; Newton's method mends both, and the root r once more by the rest x - r * r. That is
 // computed in two parts, of which x - top * top, with the upper digits of `a`, is exact. So the
-// guess is nearly always the nearest double, and else the one below. Nothing is claimed of it.
+// guess is nearly always the nearest double, and else the one below. Nothing is claimed of it. (Both
+// tests always pass; they are there because nothing is known of the floats: that `a` is no NaN, and
+// that its pattern has no sign.)
 fn guess(m: u64, odd: u64) -> f64
     requires { ⌜ (2 ^ 52 ≤ m) × (m < 2 ^ 53) × (odd < 2) ⌝ }
 {
@@ -63,43 +61,10 @@ fn guess(m: u64, odd: u64) -> f64
     a
 }
 
-// n * 2^52 - q * q, plus `BIAS` so that it is no less than 0 where it is small.
-fn residue(n: u64, q: u64) -> Difference
-    requires { ⌜ (n < 2 ^ 54) × (q < 2 ^ 53) ⌝ }
-    ensures { λ r. ⌜ IsResidue (n * 2 ^ 52) q r ⌝ }
-{
-    let square = product(q, q);
-    let raised = n + 8;
-    let low = raised % 0x1000 * LEADING;
-    let target = Wide {
-        hi: raised / 0x1000,
-        lo: low,
-    };
-    word_difference(target, square)
-}
-
-// The whole number nearest to the root of n * 2^52, if that is q or q + 1, and 0 if not.
-fn settled(n: u64, q: u64) -> u64
-    requires { ⌜ (n < 2 ^ 54) × (2 ^ 52 ≤ q) × (q < 2 ^ 53) ⌝ }
-    ensures { λ r. ⌜ Settled 2 (n * 2 ^ 52) r ⌝ }
-{
-    let r = residue(n, q);
-    if r.lost {
-        return 0;
-    }
-    if BIAS + 3 * q + 2 < r.lo {
-        return 0;
-    }
-    if r.lo + q <= BIAS {
-        return 0;
-    }
-    if BIAS + q < r.lo { q + 1 } else { q }
-}
-
-// Whether q is the whole number nearest to the root of n * 2^52. That exceeds q * (q - 1) then, by
-// at most 2 * q.
+// Whether q is the whole number nearest to the root of n * 2^52. Where it is, n * 2^52 exceeds
+// q * (q - 1) by 1 to 2 * q. A false says nothing.
 fn is_nearest(n: u64, q: u64) -> bool
-    requires { ⌜ (n < 2 ^ 54) × (2 ^ 52 ≤ q) × (q < 2 ^ 53) ⌝ }
+    requires { ⌜ (n < 2 ^ 54) × (2 ^ 52 ≤ q) × (q ≤ 2 ^ 53) ⌝ }
     ensures { λ r. ⌜ (r ≡ true → IsNearest 2 (n * 2 ^ 52) q) ⌝ }
 {
     let low = n % 0x1000 * LEADING;
@@ -112,8 +77,8 @@ fn is_nearest(n: u64, q: u64) -> bool
     !r.lost & ((0 < rest) & (rest <= 2 * q))
 }
 
-// The whole number nearest to the root of m * 2^odd * 2^52. The guess is asked for by itself first:
-// it is then known before the test of it is.
+// The whole number nearest to the root of m * 2^odd * 2^52. The guess is tested by a branch, so that
+// the result does not wait for the test.
 pub fn nearest(m: u64, odd: u64) -> u64
     requires { ⌜ (2 ^ 52 ≤ m) × (m < 2 ^ 53) × (odd < 2) ⌝ }
     ensures { λ r. ⌜ IsNearest 2 (m * 2 ^ odd * 2 ^ 52) r ⌝ }
@@ -125,9 +90,9 @@ pub fn nearest(m: u64, odd: u64) -> u64
         if is_nearest(n, digits) {
             return digits;
         }
-        let q = settled(n, digits);
-        if q != 0 {
-            return q;
+        let next = digits + 1;
+        if is_nearest(n, next) {
+            return next;
         }
     }
     by_digits(n)

@@ -8,9 +8,9 @@ use lib.Ieee.{Float}
 use lib.ListN.{set}
 use borrow.Author.Tests.{lt-ltb}
 use Rattle.linalg.specs.Matrices.{fromColumns}
+use Rattle.frames.specs.Lent.{vectorAt, poseAt}
 use Rattle.p3p_common.specs.Slots.{empty, push}
-use Rattle.lambdatwist.specs.Slots.{entries, poseOf, held, Fresh}
-use Rattle.lambdatwist.specs.Filled.{Filled}
+use Rattle.lambdatwist.specs.LentSlots.{entries, poseOf, held, Fresh, Filled}
 use Rattle.lambdatwist.specs.Solve.{ifKept, refused}
 use Rattle.lambdatwist.specs.Types.{Pose, Solutions}
 
@@ -18,7 +18,7 @@ use Rattle.lambdatwist.specs.Types.{Pose, Solutions}
 pub none-held : {slots : List (List Float)} {updates : List ℕ}
     → Fresh slots updates
     → held 0 slots updates ≡ empty
-unfolding held empty poseOf fromColumns
+unfolding held empty poseAt vectorAt fromColumns
 none-held f =
     rw (
       f .no-poses,
@@ -27,7 +27,7 @@ none-held f =
 
 -- ---- the next
 pose-of-entries : (p : Pose) → poseOf (entries p) ≡ p
-unfolding poseOf entries
+unfolding entries poseAt vectorAt fromColumns
 pose-of-entries p = refl
 
 map-set : {A B : Type 0} (f : A → B) (l : List A) (i : ℕ) (a : A)

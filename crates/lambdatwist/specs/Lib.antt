@@ -3,5 +3,4 @@
 pub mod Types
 pub mod Poses
 pub mod Solve
-pub mod Slots
-pub mod Filled
+pub mod LentSlots

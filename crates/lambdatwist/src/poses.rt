@@ -4,7 +4,7 @@ ghost use mathlib.Core.Path.{_≡_};
 ghost use Prim.Native.Nat.{_≤_};
 ghost use Rattle.p3p_common.specs.PushPose.{pushGated};
 ghost use Rattle.lambdatwist.specs.Poses.{allPositive, pushDepths, poseTurn, poses};
-ghost use Rattle.lambdatwist.specs.Slots.{turned, held, Fresh};
+ghost use Rattle.lambdatwist.specs.LentSlots.{turned, held, Fresh};
 ghost use Rattle.lambdatwist.specs.Types.{Solutions};
 use crate::slots::Turn;
 use crate::slots::store;
@@ -26,7 +26,7 @@ pub fn all_positive(d: Vector3) -> bool
     d.all_finite() & (!(d.x <= 0.0) & (!(d.y <= 0.0) & !(d.z <= 0.0)))
 }
 
-// What the gate says of the pose of three refined depths. It tests it on the input as it was given.
+// What the gate says of the pose of three refined depths, on the input as it was given.
 pub fn gated_depths(
     input: P3pInput,
     measured: Measured,
@@ -73,7 +73,7 @@ pub fn pose_turn(
     }
 }
 
-// Fills the slots, and says how many.
+// Fills a slot for each pose that is kept, and returns how many.
 pub fn poses(
     input: P3pInput,
     measured: Measured,

@@ -3,10 +3,9 @@
 // from stage to stage.
 ghost use mathlib.Core.Path.{_≡_};
 ghost use Prim.Native.Nat.{_+_, _≤_, _<_};
-ghost use Rattle.lambdatwist.specs.Slots.{entries, poseOf, held, turned};
+ghost use Rattle.lambdatwist.specs.LentSlots.{entries, poseOf, held, turned};
+use frames::lent::pose_at;
 use frames::pose::Pose;
-use linalg::matrix3::Matrix3;
-use linalg::vector3::Vector3;
 use p3p_common::solutions::Solutions;
 
 // What a candidate gives.
@@ -16,7 +15,7 @@ pub enum Turn {
     Dropped,
 }
 
-// A pose's entries: the rotation by rows, then the translation.
+// A pose's entries: the rotation by columns, then the translation.
 pub fn entries(pose: Pose) -> [f64; 12]
     ensures { λ r. ⌜ r ≡ entries pose ⌝ }
 {
@@ -24,13 +23,13 @@ pub fn entries(pose: Pose) -> [f64; 12]
     let t = pose.translation;
     [
         r.m00,
-        r.m01,
-        r.m02,
         r.m10,
-        r.m11,
-        r.m12,
         r.m20,
+        r.m01,
+        r.m11,
         r.m21,
+        r.m02,
+        r.m12,
         r.m22,
         t.x,
         t.y,
@@ -42,29 +41,10 @@ pub fn entries(pose: Pose) -> [f64; 12]
 pub fn pose_of(slot: [f64; 12]) -> Pose
     ensures { λ r. ⌜ r ≡ poseOf slot ⌝ }
 {
-    let rotation = Matrix3 {
-        m00: slot[0],
-        m01: slot[1],
-        m02: slot[2],
-        m10: slot[3],
-        m11: slot[4],
-        m12: slot[5],
-        m20: slot[6],
-        m21: slot[7],
-        m22: slot[8],
-    };
-    let translation = Vector3 {
-        x: slot[9],
-        y: slot[10],
-        z: slot[11],
-    };
-    Pose {
-        rotation,
-        translation,
-    }
+    pose_at(&slot, 0)
 }
 
-// A pose stored in the next slot where there is one; says how many slots are filled then.
+// The pose of a turn that kept one, stored in the next slot. Returns how many slots are filled then.
 pub fn store(turn: Turn, count: usize, slots: &mut [[f64; 12]; 4], updates: &mut [u32; 4]) -> usize
     requires { ⌜ count < 4 ⌝ }
     ensures { λ r. ⌜ r ≤ count + 1 ⌝ }

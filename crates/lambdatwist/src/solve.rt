@@ -3,8 +3,7 @@
 // document 01.
 ghost use mathlib.Core.Path.{_≡_};
 ghost use Prim.Native.Nat.{_≤_};
-ghost use Rattle.lambdatwist.specs.Filled.{Filled};
-ghost use Rattle.lambdatwist.specs.Slots.{Fresh};
+ghost use Rattle.lambdatwist.specs.LentSlots.{Fresh, Filled};
 ghost use Rattle.lambdatwist.specs.Solve as Solve;
 use crate::poses::poses;
 use crate::slots::held;
@@ -72,8 +71,8 @@ fn if_kept(solutions: Solutions) -> Answer
     answered(0, solutions)
 }
 
-// ---- the stages of solve_ordered, from the last to the first: each fills the slots and says how
-// many, 0 where one stops
+// ---- the stages of solve_ordered, from the last to the first: each fills the slots and returns how
+// many, 0 where it stops
 
 fn solve_candidates(
     input: P3pInput,
@@ -147,7 +146,8 @@ fn solve_cubic(
 
 // ---- the cycle
 
-// The points and bearings in some order of the input's.
+// The points and bearings in some order of the input's. The solve comes here with no retry left; the
+// contract holds for any number.
 fn solve_ordered(input: P3pInput, world: World, bearings: Bearings, retries: u32) -> Answer
     ensures { λ r. ⌜ r ≡ Solve.solveOrdered retries input world bearings .value ⌝ }
 {
@@ -180,8 +180,8 @@ fn solve_best_conditioned_permutation(input: P3pInput, retries: u32) -> Answer
 // ---- the entry: the first turn of the cycle is written out, so that the common way through it is
 // compiled by itself (docs/DECISIONS.md)
 
-// The given ordering, which is usable. Its slots are this function's own, and are gone where a
-// retry has others.
+// The given ordering, which is usable. The slots are in a function of their own, so that they take
+// no stack beside a retry's; solve_ordered repeats these lines (docs/DECISIONS.md).
 fn solve_given(input: P3pInput, measured: Measured, c: Coefficients) -> Answer
     ensures { λ r. ⌜ r ≡ Solve.solveCubic input measured c .value ⌝ }
 {

@@ -11,7 +11,11 @@ returns : tie.Need-returns
 unfolding firstChart
 returns c found =
     let divides = c .before in
-    rw (← divides .before .no-divisor .ensures, divides .if1 .taken) (c .nothing .ensures found)
+    rw (
+      ← divides .before .no-divisor .ensures,
+      divides .if1 .taken,
+    )
+    (c .nothing .ensures found)
 
 returns-2 : tie.Need-returns-2
 unfolding firstChart forRoots

@@ -1,5 +1,6 @@
 -- `depths::charts::if_positive` meets its contract. Assumes nothing.
-use Rattle.depths.specs.DepthSlots.{pushIfPositive, pushed}
+use Rattle.depths.specs.DepthSlots.{pushIfPositive}
+use Rattle.depths.specs.Pushed.{pushed}
 use Rattle.depths.proofs.charts.if_positive.Statement.{statement}
 use Rattle.depths.proofs.charts.if_positive.Tie as tie
 

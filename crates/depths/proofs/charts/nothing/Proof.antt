@@ -1,6 +1,6 @@
 -- `depths::charts::nothing` meets its contract. Assumes nothing.
 use mathlib.Core.Path.{refl}
-use Rattle.depths.specs.DepthSlots.{pushed}
+use Rattle.depths.specs.Pushed.{pushed}
 use Rattle.depths.proofs.charts.nothing.Statement.{statement}
 use Rattle.depths.proofs.charts.nothing.Tie as tie
 

@@ -8,13 +8,21 @@ returns : tie.Need-returns
 unfolding secondChart
 returns c found =
     let divides = c .before in
-    rw (← divides .before .no-divisor .ensures, divides .if1 .taken) (c .nothing .ensures found)
+    rw (
+      ← divides .before .no-divisor .ensures,
+      divides .if1 .taken,
+    )
+    (c .nothing .ensures found)
 
 returns-2 : tie.Need-returns-2
 unfolding secondChart
 returns-2 c found =
     let divides = c .before in
-    rw (← divides .before .no-divisor .ensures, divides .if1 .left) (c .weight-chart .ensures found)
+    rw (
+      ← divides .before .no-divisor .ensures,
+      divides .if1 .left,
+    )
+    (c .weight-chart .ensures found)
 
 pub second-chart-spec : {M : Type 1} → statement M
 second-chart-spec =

@@ -1,6 +1,6 @@
 -- `depths::charts::second_chart_depths` meets its contract. Assumes nothing.
 use borrow.Author.Needs.{needs}
-use Rattle.depths.specs.DepthSlots.{pushed}
+use Rattle.depths.specs.Pushed.{pushed}
 use Rattle.depths.specs.Charts.{secondChartDepths}
 use Rattle.depths.proofs.charts.second_chart_depths.Statement.{statement}
 use Rattle.depths.proofs.charts.second_chart_depths.Tie as tie

@@ -3,7 +3,7 @@
 use borrow.Author.Needs.{needs}
 use mathlib.Core.Path.{_≡_, refl, sym, ap, _∙_}
 use mathlib.Core.Bool.{Bool, true, false, not, false≢true}
-use Rattle.eigen.specs.RowCrosses.{hasVector}
+use Rattle.eigen.specs.Eigenpairs.{hasVector}
 use Rattle.eigen.specs.ZeroVector.{zeroVector}
 use Rattle.eigen.specs.KnownZero.{eigWithKnownZero}
 use Rattle.eigen.specs.Types.{Vector3, Eigenvector, Unit, Missing}
@@ -23,7 +23,10 @@ there Missing told some = absurd (false≢true (sym some ∙ ap not told))
 
 returns : tie.Need-returns
 unfolding eigWithKnownZero
-returns c = rw (← c .before .all-finite .ensures, c .if1 .taken)
+returns c = rw (
+  ← c .before .all-finite .ensures,
+  c .if1 .taken,
+)
 
 returns-2 : tie.Need-returns-2
 unfolding eigWithKnownZero

@@ -1,36 +1,38 @@
 -- `eigen::zero_vector::has_zero_vector` meets its contract. Assumes nothing.
 use borrow.Author.Needs.{needs}
+use mathlib.Core.Path.{_≡_}
 use Rattle.eigen.specs.ZeroVector.{zeroVector}
 use Rattle.eigen.proofs.zero_vector.has_zero_vector.Statement.{statement}
 use Rattle.eigen.proofs.zero_vector.has_zero_vector.Tie as tie
 
-returns : tie.Need-returns
+-- where the direction is short, the row crosses decide
+crossed : (c : tie.After-eigenvector-from-row-crosses)
+    → let after-norm-squared = c .before .before .before in
+    let start = after-norm-squared .before .before in
+    c .eigenvector-from-row-crosses .result ≡ zeroVector (start .args .m) .value
 unfolding zeroVector
-returns c =
-    let crossed = c .before .before in
-    let tested = crossed .before in
-    let norm-squared = tested .before .before in
+crossed c =
+    let tested = c .before in
+    let after-norm-squared = tested .before .before in
     rw (
-      ← norm-squared .before .zero-direction .ensures,
-      ← norm-squared .norm-squared .ensures,
+      ← after-norm-squared .before .zero-direction .ensures,
+      ← after-norm-squared .norm-squared .ensures,
       ← tested .before .norm-squared2 .ensures,
       tested .if1 .taken,
-      ← crossed .eigenvector-from-row-crosses .ensures,
+    )
+    (c .eigenvector-from-row-crosses .ensures)
+
+returns : tie.Need-returns
+returns c =
+    rw (
+      ← crossed (c .before .before),
       c .enum-told2 .given .1,
     )
 
 returns-2 : tie.Need-returns-2
-unfolding zeroVector
 returns-2 c =
-    let crossed = c .before .before in
-    let tested = crossed .before in
-    let norm-squared = tested .before .before in
     rw (
-      ← norm-squared .before .zero-direction .ensures,
-      ← norm-squared .norm-squared .ensures,
-      ← tested .before .norm-squared2 .ensures,
-      tested .if1 .taken,
-      ← crossed .eigenvector-from-row-crosses .ensures,
+      ← crossed (c .before .before),
       c .enum-told .given .1,
     )
 

@@ -6,8 +6,8 @@ use mathlib.Core.Bool.{Bool, true, false, _&&_}
 use native.Mathlib.Nat.{mul-assoc, mul-comm, mul-left-comm, lt-trans}
 use native.Mathlib.Omega.{arith}
 use borrow.Author.Needs.{needs}
-use borrow.Author.Tests.{leb-true, ltb-true}
-use lib.Dec.{leb, ltb}
+use borrow.Author.Tests.{ltb-true}
+use lib.Dec.{ltb}
 use lib.Ieee.{unlike}
 use lib.Pow.{pow-add, pow-lt, shl-lt}
 use Rattle.ieee754_parts.specs.Value.{value}
@@ -42,15 +42,9 @@ like-itself false = refl
 
 -- ---- what is asked of them
 tested : (e f : ℕ)
-    → leb 46 e && (ltb e f && ltb f (e + 64)) ≡ true
-    → (46 ≤ e) × (e < f) × (f < e + 64)
-tested e f h =
-    let first = both h in
-    let rest = both (first .1) in (
-      leb-true 46 e (first .0),
-      ltb-true e f (rest .0),
-      ltb-true f (e + 64) (rest .1),
-    )
+    → ltb e f && ltb f (e + 64) ≡ true
+    → (e < f) × (f < e + 64)
+tested e f h = let t = both h in (ltb-true e f (t .0), ltb-true f (e + 64) (t .1))
 
 square-high : (m h l : ℕ) → m < 2 ^ 53 → h * 2 ^ 64 + l ≡ m * m → h < 2 ^ 42
 square-high m h l b e = high-below 42 64 h l (m * m) e (product-lt 53 53 b b)
@@ -64,7 +58,7 @@ passed : (c : tie.Then1)
     → let after-unpack2 = c .before .before .before in
     let x = after-unpack2 .before .unpack .result .exp in
     let z = after-unpack2 .unpack2 .result .exp in
-    (46 ≤ 2 * x) × (2 * x < z + 1074) × (z + 1074 < 2 * x + 64)
+    (2 * x < z + 1074) × (z + 1074 < 2 * x + 64)
 passed c = tested _ _ (c .if1 .taken)
 
 sum-aligned-requires : tie.Need-sum-aligned-requires
@@ -76,7 +70,7 @@ sum-aligned-requires c κs =
     let d = after-unpack2 .unpack2 in
     let p = c .product in
     let q = after-shift-left .shift-left in
-    let gap : d .result .exp + 1074 - 2 * a .result .exp < 64 = omega (arith, passed t .2) in
+    let gap : d .result .exp + 1074 - 2 * a .result .exp < 64 = omega (arith, passed t .1) in
     let first =
     square-high (a .result .sig) (p .result .hi) (p .result .lo) (a .ensures .digits .short)
     (p .ensures) in
@@ -84,7 +78,7 @@ sum-aligned-requires c κs =
     addend-high (d .result .sig) _ (q .result .hi) (q .result .lo) (d .ensures .digits .short) gap
     (q .ensures) in (
       omega arith,
-      omega (arith, passed t .0),
+      omega (arith, passed t .1),
       omega (arith, a .ensures .digits .within),
     )
 
@@ -104,7 +98,7 @@ returns c =
     let q = value (after-product .product .result) * 2 ^ (e + 18) in
     let addend =
     ap (λ (v : ℕ). v * 2 ^ (e + 18)) (after-shift-left .shift-left .ensures)
-    ∙ addend-is (d .result .sig) e (d .result .exp) (passed t .1) in
+    ∙ addend-is (d .result .sig) e (d .result .exp) (passed t .0) in
     fma-value (c .sum-aligned .result) (s .x) (s .x) (s .z) n n (d .result .negative) q x x z
     (a .ensures .is) (a .ensures .is) (d .ensures .is)
     (ap (λ (v : ℕ). v * 2 ^ (e + 18)) (after-product .product .ensures)
@@ -115,6 +109,6 @@ returns c =
 pub fma-square-finite-spec : {M : Type 1} → statement M
 fma-square-finite-spec =
     tie.close (tie.spec (λ c _. search needs) (λ c _. search needs) (λ c. search needs)
-    (λ c. search needs) (λ c. search needs) (λ c. omega (arith, passed c .1))
-    (λ c _. (omega (arith, passed c .1), omega (arith, passed c .2))) (λ c _. search needs)
+    (λ c. search needs) (λ c. search needs) (λ c. omega (arith, passed c .0))
+    (λ c _. (omega (arith, passed c .0), omega (arith, passed c .1))) (λ c _. search needs)
     (λ c. search needs) sum-aligned-requires returns (λ c _. search needs) (λ c. search needs))

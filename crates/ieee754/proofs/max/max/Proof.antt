@@ -7,6 +7,7 @@ use lib.Ieee.{Float, nan, inf, fin, isNan, lt}
 use Rattle.ieee754.specs.CopySign.{negative}
 use Rattle.ieee754.specs.Maximum.{max}
 use Rattle.ieee754_parts.proofs.Reading.{ne-self}
+use Rattle.ieee754_parts.proofs.Tests.{both-fail}
 use Rattle.ieee754.proofs.max.max.Statement.{statement}
 use Rattle.ieee754.proofs.max.max.Tie as tie
 
@@ -43,12 +44,6 @@ ordered x y h =
       numbers x y h .1,
     ) (chosen (lt x y) (lt y x) x y (cond (negative x) y x) h)
 
--- where it does not, neither is
-neither : (a b : Bool) → a || b ≡ false → (a ≡ false) × (b ≡ false)
-neither false false h = (refl, refl)
-neither true b h = absurd (false≢true (sym h))
-neither false true h = absurd (false≢true (sym h))
-
 -- ---- the function
 returns : tie.Need-returns
 returns c = c .larger .ensures ∙ ordered _ _ (c .before .if1 .taken)
@@ -74,7 +69,7 @@ by-sign e s h =
     let else2 = e .before in
     let else1 = else2 .before in
     let a = else1 .before .args in
-    let n = neither (lt (a .x) (a .y)) (lt (a .y) (a .x)) (else1 .if1 .left) in
+    let n = both-fail (lt (a .x) (a .y)) (lt (a .y) (a .x)) (else1 .if1 .left) in
     rw (
       sym (ne-self _) ∙ else2 .if2 .left,
       sym (ne-self _) ∙ e .if3 .left,

@@ -73,9 +73,6 @@ whole : (u q k r y : ℕ)
     → (u + (q + k)) * 2 ^ 64 + r ≡ (u + q + 0) * 2 ^ 64 + y
 whole u q k r y e = omega arith
 
-digits : (p : ℕ) → p % 2 ^ 32 < 2 ^ 32
-digits p = omega arith
-
 -- so the words are those of the product law, in which l and the lower half of m + n make the low
 -- word
 carries : (u l m n r : ℕ)
@@ -95,7 +92,7 @@ carries u l m n r h e =
     ∙ ap (λ (x : ℕ). u + x)
     (steps (w + m) n ∙ ap (λ (x : ℕ). x / 2 ^ 32) (add-assoc w m n) ∙ above w p) in
     ap (λ (x : ℕ). x * 2 ^ 64 + r) upper
-    ∙ whole u (p / 2 ^ 32) k r (l + p % 2 ^ 32 * 2 ^ 32) (carry (p % 2 ^ 32) l r (digits p) h lower)
+    ∙ whole u (p / 2 ^ 32) k r (l + p % 2 ^ 32 * 2 ^ 32) (carry (p % 2 ^ 32) l r (low p) h lower)
     ∙ ap (λ (x : ℕ). (u + p / 2 ^ 32 + 0) * 2 ^ 64 + (l + x)) (sym half)
 
 -- ---- nothing wraps

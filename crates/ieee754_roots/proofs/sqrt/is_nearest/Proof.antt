@@ -39,10 +39,12 @@ tested false t q e =
       leb→le t (2 * q) (answered refl (within .1)),
     )
 
-high-lt : (q h l : ℕ) → q < 2 ^ 53 → h * 2 ^ 64 + l ≡ q * (q - 1) → h + 1 < 2 ^ 64
+high-lt : (q h l : ℕ) → q ≤ 2 ^ 53 → h * 2 ^ 64 + l ≡ q * (q - 1) → h + 1 < 2 ^ 64
 high-lt q h l b e =
+    let most : q < 2 ^ 54 = omega arith in
     let d : q - 1 < 2 ^ 53 = omega arith in
-    let a : h < 2 ^ 42 = high-below 42 64 h l (q * (q - 1)) e (product-lt 53 53 b d) in omega arith
+    let a : h < 2 ^ 43 = high-below 43 64 h l (q * (q - 1)) e (product-lt 54 53 most d) in
+    omega arith
 
 word-difference-requires : tie.Need-word-difference-requires
 word-difference-requires c κs =

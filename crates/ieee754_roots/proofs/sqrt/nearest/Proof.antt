@@ -1,32 +1,29 @@
--- `nearest` meets its contract: a guess that is the nearest number or settles is right, and where
--- none does the digits are found one by one. Assumes nothing.
+-- `nearest` meets its contract: a guess that is the nearest number, or is one below it, is right, and
+-- where neither holds the digits are found one by one. Assumes nothing.
 use Prim.Native.Nat.{ℕ, _+_, _*_, _%_, _^_, _≤_, _<_}
-use native.Mathlib.Nat.{add-comm}
+use native.Mathlib.Omega.{arith}
 use borrow.Author.Needs.{needs}
 use lib.Dec.{lit≤}
 use Rattle.ieee754_roots.specs.Nearest.{IsNearest}
 use Rattle.ieee754_roots.proofs.Moved.{moved-range, moved-nearest}
-use Rattle.ieee754_parts.proofs.Reading.{field-range, below-not-nan}
+use Rattle.ieee754_parts.proofs.Reading.{below-not-nan}
 use Rattle.ieee754_roots.proofs.sqrt.nearest.Statement.{statement}
 use Rattle.ieee754_roots.proofs.sqrt.nearest.Tie as tie
 
--- the digits of a guess, whatever its pattern is
-digits-range : (b : ℕ) → (2 ^ 52 ≤ b % 2 ^ 52 + 2 ^ 52) × (b % 2 ^ 52 + 2 ^ 52 < 2 ^ 53)
-digits-range b = rw (add-comm (b % 2 ^ 52) (2 ^ 52)) (field-range b)
+-- the digits of a guess, whatever its pattern is, and the number after them
+digits-range : (b : ℕ) → (2 ^ 52 ≤ b % 2 ^ 52 + 2 ^ 52) × (b % 2 ^ 52 + 2 ^ 52 ≤ 2 ^ 53)
+digits-range b = (omega arith, omega arith)
+
+next-range : (b : ℕ) → (2 ^ 52 ≤ b % 2 ^ 52 + 2 ^ 52 + 1) × (b % 2 ^ 52 + 2 ^ 52 + 1 ≤ 2 ^ 53)
+next-range b = (omega arith, omega arith)
 
 float-to-bits-digits : tie.Need-float-to-bits-digits
 float-to-bits-digits c = below-not-nan _ _ (c .if1 .taken)
 
--- what is asked of a guess's digits
-in-range : (s : tie.Start) (b : ℕ)
-    → (s .args .m * 2 ^ s .args .odd % 2 ^ 64 < 2 ^ 54)
-    × (2 ^ 52 ≤ b % 2 ^ 52 + 2 ^ 52)
-    × (b % 2 ^ 52 + 2 ^ 52 < 2 ^ 53)
-in-range s b = (
-  moved-range 2 (s .args .m) (s .args .odd) (s .pre .0) (s .pre .1) (s .pre .2) (lit≤ tt) .1,
-  digits-range b .0,
-  digits-range b .1,
-)
+-- the moved significand
+moved-lt : (s : tie.Start) → s .args .m * 2 ^ s .args .odd % 2 ^ 64 < 2 ^ 54
+moved-lt s =
+    moved-range 2 (s .args .m) (s .args .odd) (s .pre .0) (s .pre .1) (s .pre .2) (lit≤ tt) .1
 
 -- a number near to the root by the moved significand is near to the root
 near : (s : tie.Start) {q : ℕ}
@@ -36,7 +33,8 @@ near s h =
     moved-nearest 2 (s .args .m) (s .args .odd) (s .pre .0) (s .pre .1) (s .pre .2) (lit≤ tt) h
 
 is-nearest-requires : tie.Need-is-nearest-requires
-is-nearest-requires c κs = let s = c .before .before in in-range s _
+is-nearest-requires c κs =
+    let s = c .before .before in (moved-lt s, digits-range _ .0, digits-range _ .1)
 
 returns : tie.Need-returns
 returns c =
@@ -44,18 +42,18 @@ returns c =
     let after-guess = after-is-nearest .before .before in
     near (after-guess .before) (after-is-nearest .is-nearest .ensures (c .if2 .taken))
 
-settled-requires : tie.Need-settled-requires
-settled-requires c κs =
+is-nearest-requires-2 : tie.Need-is-nearest-requires-2
+is-nearest-requires-2 c κs =
     let after-is-nearest = c .before in
     let after-guess = after-is-nearest .before .before in
-    in-range (after-guess .before) _
+    (moved-lt (after-guess .before), next-range _ .0, next-range _ .1)
 
 returns-2 : tie.Need-returns-2
 returns-2 c =
-    let after-settled = c .before in
-    let after-is-nearest = after-settled .before .before in
+    let after-is-nearest2 = c .before in
+    let after-is-nearest = after-is-nearest2 .before .before in
     let after-guess = after-is-nearest .before .before in
-    near (after-guess .before) (after-settled .settled .ensures (c .if3 .taken))
+    near (after-guess .before) (after-is-nearest2 .is-nearest2 .ensures (c .if3 .taken))
 
 by-digits-requires : tie.Need-by-digits-requires
 by-digits-requires c κs =
@@ -69,5 +67,5 @@ returns-3 c =
 pub nearest-spec : {M : Type 1} → statement M
 nearest-spec =
     tie.close (tie.spec (λ c. search needs) (λ c _. search needs) float-to-bits-digits
-    (λ c. search needs) is-nearest-requires returns settled-requires returns-2 by-digits-requires
-    returns-3)
+    (λ c. search needs) is-nearest-requires returns (λ c. search needs) is-nearest-requires-2
+    returns-2 by-digits-requires returns-3)

@@ -7,7 +7,7 @@ use mathlib.Core.Path.{_≡_, _∙_}
 use lib.ListN.{take, drop}
 use Rattle.p3p_common.specs.Slots.{empty}
 use Rattle.lambdatwist.specs.Poses.{poseTurns, poses}
-use Rattle.lambdatwist.specs.Slots.{held}
+use Rattle.lambdatwist.specs.LentSlots.{held}
 use Rattle.depths.proofs.CandidateSlots.{four-slots}
 use Rattle.lambdatwist.proofs.Filling.{none-held}
 use Rattle.lambdatwist.proofs.PoseTurns.{turns-go, turns-end}

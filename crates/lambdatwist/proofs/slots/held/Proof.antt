@@ -4,7 +4,7 @@ use mathlib.Core.Path.{_≡_, refl, ap}
 use mathlib.Core.List.{List, [], _∷_, map}
 use native.Mathlib.Omega.{arith}
 use lib.ListN.{length, getD}
-use Rattle.lambdatwist.specs.Slots.{poseOf, held}
+use Rattle.lambdatwist.specs.LentSlots.{poseOf, held}
 use Rattle.lambdatwist.specs.Types.{Pose}
 use Rattle.lambdatwist.proofs.slots.held.Statement.{statement}
 use Rattle.lambdatwist.proofs.slots.held.Tie as tie

@@ -7,7 +7,7 @@ use Prim.Native.Nat.{ℕ, _+_, _-_, _<_}
 use native.Mathlib.Omega.{arith}
 use borrow.Fn.Kinds.{In}
 use borrow.Fn.PlainCycle.{Measures, is, falls, and}
-use Rattle.lambdatwist.specs.Slots.{held}
+use Rattle.lambdatwist.specs.LentSlots.{held}
 use Rattle.lambdatwist.specs.Solve.{solveBestConditionedPermutation, bestOr, solveOrdered}
 use Rattle.lambdatwist.specs.Solve.{ifKept}
 use Rattle.lambdatwist.proofs.Retries.{out-of-retries, retried, usable}

@@ -2,7 +2,7 @@
 use borrow.Author.Needs.{needs}
 use mathlib.Core.Path.{subst}
 use Rattle.polynomial.proofs.RootTags.{no-root}
-use Rattle.lambdatwist.specs.Filled.{Filled}
+use Rattle.lambdatwist.specs.LentSlots.{Filled}
 use Rattle.lambdatwist.specs.Solve.{stopped, solveCubic}
 use Rattle.lambdatwist.specs.Types.{Answer}
 use Rattle.lambdatwist.proofs.Filling.{stops}

@@ -1,7 +1,7 @@
 -- `lambdatwist::solve::solve_given` meets its contract. Assumes nothing.
 use borrow.Author.Needs.{needs}
 use mathlib.Core.Path.{_∙_, ap}
-use Rattle.lambdatwist.specs.Slots.{held}
+use Rattle.lambdatwist.specs.LentSlots.{held}
 use Rattle.lambdatwist.specs.Solve.{ifKept}
 use Rattle.lambdatwist.proofs.solve.solve_given.Statement.{statement}
 use Rattle.lambdatwist.proofs.solve.solve_given.Tie as tie

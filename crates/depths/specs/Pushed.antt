@@ -1,0 +1,18 @@
+-- What `push` appends: the test of `pushIfPositive` in two steps, whether a root gives depths, and
+-- whether there is room for them.
+use Prim.Native.Nat.{_+_}
+use lib.Dec.{ltb}
+use lib.ListN.{set}
+use Rattle.ieee754.specs.Traced.{if_then_else_}
+use Rattle.depths.specs.Types.{Candidates, Depths, At, Nowhere, ChartDepths}
+
+unfoldable pub pushed : Candidates → Depths → Candidates
+pushed found (At depths) =
+    if ltb (found .count) 4
+    then record { count = found .count + 1; depths = set (found .depths) (found .count) depths }
+    else found
+pushed found Nowhere = found
+
+-- of both roots of a chart's quadratic
+abbrev pub pushedBoth : Candidates → ChartDepths → Candidates
+pushedBoth found both = pushed (pushed found (both .first)) (both .second)
