@@ -1,9 +1,9 @@
 #!/usr/bin/env bash
 # Prints the address of the Debian mirror in this machine's apt configuration.
 set -euo pipefail
-uri=$(apt-get indextargets --format '$(REPO_URI) $(RELEASE) $(COMPONENT)' \
-  'Created-By: Packages' 2>/dev/null |
-  awk '$3 == "main" && $2 !~ /-/ { print $1; exit }')
+uri=$( (apt-get indextargets --format '$(REPO_URI) $(RELEASE) $(COMPONENT)' \
+  'Created-By: Packages' 2>/dev/null || true) |
+  awk '$3 == "main" && $2 !~ /-/ && !found { print $1; found = 1 }')
 if [ -z "$uri" ]; then # no lists fetched yet: read the sources themselves
   uri=$( (cat /etc/apt/sources.list.d/*.sources /etc/apt/sources.list 2>/dev/null || true) |
     sed -nE 's/^URIs:[ ]*([^ ]+).*/\1/p; s/^deb +(\[[^]]*\] +)?([^ ]+) .*/\2/p' | head -n 1)

@@ -210,7 +210,7 @@ static inline void fma_arguments(double *x, double *y, double *z) {
 }
 
 // Of a square: as above, and with the addend's exponent at or near the ends of the range in which
-// its digits and the square's lie within two words.
+// its digits and the square's lie within two words, and where the leading digits meet.
 static inline void fma_square_arguments(double *x, double *z) {
     double y;
     int64_t e, ends[] = {0, 1, 62, 63, 64, 52, 53, 54};

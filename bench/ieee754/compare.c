@@ -127,8 +127,10 @@ static long compare_abs(long count) {
     long differ = 0, results[5] = {0};
     for (long i = 0; i < count; i++) {
         double x = of(below(2) ? special() : next());
+        double r = ieee754_abs(x);
         results[kind(x)]++;
-        differ += !same(ieee754_abs(x), fabs(x));
+        if (!same(r, fabs(x)) && differ++ < 10)
+            printf("abs %016" PRIx64 ": %016" PRIx64 "\n", bits(x), bits(r));
     }
     return report("abs", count, differ, results);
 }

@@ -9,8 +9,6 @@ double p3p_sqrt(double x) {
 }
 double p3p_cbrt(double x) { return cbrt(x); }
 double p3p_fma(double x, double y, double z) { return x * y + z; }
-double ieee754_fma_square(double x, double z);
-double ieee754_abs(double x);
 double ieee754_fma_square(double x, double z) { return x * x + z; }
 double ieee754_abs(double x) { return x < 0 ? -x : x; }
 double p3p_copysign(double x, double y) { return y < 0 ? -fabs(x) : fabs(x); }

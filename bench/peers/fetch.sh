@@ -4,9 +4,10 @@
 #
 #   bench/peers/fetch.sh
 #
-# Nothing is installed. The mirror is the one of this machine's apt configuration. Every package
-# is checked against the SHA-256 below, which were read from an index that bore Debian's
-# signature. They are bookworm's (amd64) and need its libc and libstdc++ or later ones.
+# Nothing is installed; needed are curl and dpkg. The mirror is the one of this machine's apt
+# configuration. Every package is checked against the SHA-256 below, which were read from an index
+# that bore Debian's signature. They are bookworm's (amd64) and need its libc and libstdc++ or later
+# ones.
 set -euo pipefail
 cd "$(dirname "$0")/../.."
 

@@ -21,7 +21,7 @@
 #include <opengv/absolute_pose/modules/main.hpp>
 
 // OpenCV's two classes are in its static library but in none of its headers: what is called of
-// them, as version 4.6 has it. Of the data no function that is called here reads any.
+// them, as version 4.6 has it. The functions that solve read none of the data.
 namespace cv {
 class ap3p {
     double camera[8];

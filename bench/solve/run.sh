@@ -2,7 +2,8 @@
 # All figures of a solve in one run: the library's size, the deepest stack, the times beside the
 # Rust's and, where target/peers is (bench/peers/fetch.sh), other solvers'; the records a second of
 # the program poses; and, where perf is installed, what the time goes into.
-#   bench/solve/run.sh SOURCES     SOURCES: the Rust's original sources (reference/README.md)
+#   bench/solve/run.sh SOURCES     SOURCES: the Rust's original sources (reference/README.md), its
+#                                  path from the repository's root or from /
 # Needs gcc, python3, GNU time and what reference/README.md names; for other solvers g++.
 set -euo pipefail
 cd "$(dirname "$0")/../.."

@@ -1,6 +1,6 @@
 // The eigenvectors, by columns, and the eigenvalues of a symmetric matrix of which zero is an
-// eigenvalue: eig_with_known_zero of lambdatwist.rs. The solve reads less of it (`eigenpairs`); this
-// is what is replayed.
+// eigenvalue: eig_with_known_zero of lambdatwist.rs. The solve reads less of it (`eigenpairs`);
+// this is what is replayed.
 ghost use mathlib.Core.Path.{_≡_};
 ghost use Rattle.eigen.specs.KnownZero.{systemOfPair, eigWithKnownZero};
 use crate::eigenvalues::Eigenvalues;

@@ -48,6 +48,17 @@ module _ {A : Type 0} where
   inside-same (a ∷ l) zero d e h = refl
   inside-same (a ∷ l) (suc i) d e h = inside-same l i d e (le-of-suc-le-suc h)
 
+  -- a list of four is that of its entries
+  pub list-of-four : (l : List A) (d : A)
+      → length l ≡ 4
+      → getD l 0 d ∷ getD l 1 d ∷ getD l 2 d ∷ getD l 3 d ∷ [] ≡ l
+  list-of-four [] d h = absurd (omega arith)
+  list-of-four (a ∷ []) d h = absurd (omega arith)
+  list-of-four (a ∷ b ∷ []) d h = absurd (omega arith)
+  list-of-four (a ∷ b ∷ c ∷ []) d h = absurd (omega arith)
+  list-of-four (a ∷ b ∷ c ∷ e ∷ []) d h = refl
+  list-of-four (a ∷ b ∷ c ∷ e ∷ f ∷ l) d h = absurd (omega arith)
+
   pub replicate-entry : (n i : ℕ) (d : A) → getD (replicate n d) i d ≡ d
   replicate-entry zero i d = refl
   replicate-entry (suc n) zero d = refl

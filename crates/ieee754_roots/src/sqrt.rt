@@ -1,8 +1,8 @@
 // The whole number nearest to a square root.
 //
-// A guess at the root of the significand, made with floats, is tested in integers, and where neither
-// it nor the next number is right the digits are found one by one. So nothing is claimed of the
-// floats.
+// A guess at the root of the significand, made with floats, is tested in integers, and where
+// neither it nor the next number is right the digits are found one by one. So nothing is claimed of
+// the floats.
 ghost use mathlib.Core.Path.{_≡_};
 ghost use mathlib.Core.Bool.{true};
 ghost use Prim.Native.Nat.{_*_, _^_, _≤_, _<_};
@@ -39,9 +39,9 @@ fn by_digits(n: u64) -> u64
 // A guess at the root of x = m * 2^odd / 2^52: half the root's reciprocal, from a line, gives the
 // root `a`; Newton's method mends both, and the root r once more by the rest x - r * r. That is
 // computed in two parts, of which x - top * top, with the upper digits of `a`, is exact. So the
-// guess is nearly always the nearest double, and else the one below. Nothing is claimed of it. (Both
-// tests always pass; they are there because nothing is known of the floats: that `a` is no NaN, and
-// that its pattern has no sign.)
+// guess is nearly always the nearest double, and else the one below. Nothing is claimed of it.
+// (Both tests always pass; they are there because nothing is known of the floats: that `a` is no
+// NaN, and that its pattern has no sign.)
 fn guess(m: u64, odd: u64) -> f64
     requires { ⌜ (2 ^ 52 ≤ m) × (m < 2 ^ 53) × (odd < 2) ⌝ }
 {
@@ -77,8 +77,8 @@ fn is_nearest(n: u64, q: u64) -> bool
     !r.lost & ((0 < rest) & (rest <= 2 * q))
 }
 
-// The whole number nearest to the root of m * 2^odd * 2^52. The guess is tested by a branch, so that
-// the result does not wait for the test.
+// The whole number nearest to the root of m * 2^odd * 2^52. The guess is tested by a branch, so
+// that the result does not wait for the test.
 pub fn nearest(m: u64, odd: u64) -> u64
     requires { ⌜ (2 ^ 52 ≤ m) × (m < 2 ^ 53) × (odd < 2) ⌝ }
     ensures { λ r. ⌜ IsNearest 2 (m * 2 ^ odd * 2 ^ 52) r ⌝ }

@@ -10,7 +10,7 @@ use borrow.Author.Tests.{lt-ltb}
 use Rattle.linalg.specs.Matrices.{fromColumns}
 use Rattle.frames.specs.Lent.{vectorAt, poseAt}
 use Rattle.p3p_common.specs.Slots.{empty, push}
-use Rattle.lambdatwist.specs.LentSlots.{entries, poseOf, held, Fresh, Filled}
+use Rattle.lambdatwist.specs.LentSlots.{entries, poseOf, held, Fresh, Answers}
 use Rattle.lambdatwist.specs.Solve.{ifKept, refused}
 use Rattle.lambdatwist.specs.Types.{Pose, Solutions}
 
@@ -52,13 +52,13 @@ next-held count slots updates pose taken room =
 pub filled : (count : ℕ) (slots : List (List Float)) (updates : List ℕ) {solutions : Solutions}
     → held count slots updates ≡ solutions
     → solutions .count ≤ 4
-    → Filled count slots updates (ifKept solutions)
+    → Answers count slots updates (ifKept solutions)
 unfolding held
 filled count slots updates e few = record {
   few = subst⁻¹ (λ (s : Solutions). s .count ≤ 4) e few;
-  answers = ap ifKept e;
+  same = ap ifKept e;
 }
 
-pub stops : (slots : List (List Float)) (updates : List ℕ) → Filled 0 slots updates (refused 3)
+pub stops : (slots : List (List Float)) (updates : List ℕ) → Answers 0 slots updates (refused 3)
 unfolding ifKept held
-stops slots updates = record { few = omega arith; answers = refl }
+stops slots updates = record { few = omega arith; same = refl }

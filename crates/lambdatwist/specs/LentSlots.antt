@@ -37,7 +37,7 @@ turned output (Kept pose updates) = push output pose updates
 turned output Dropped = output
 
 -- ---- what a stage leaves: so many slots that are its answer
-pub record Filled (count : ℕ) (slots : List (List Float)) (updates : List ℕ) (answer : Answer)
+pub record Answers (count : ℕ) (slots : List (List Float)) (updates : List ℕ) (answer : Answer)
     : Type 0 where
   pub few : count ≤ 4
-  pub answers : ifKept (held count slots updates) ≡ answer
+  pub same : ifKept (held count slots updates) ≡ answer

@@ -44,7 +44,8 @@ pub fn pose_of(slot: [f64; 12]) -> Pose
     pose_at(&slot, 0)
 }
 
-// The pose of a turn that kept one, stored in the next slot. Returns how many slots are filled then.
+// The pose of a turn that kept one, stored in the next slot. Returns how many slots are filled
+// then.
 pub fn store(turn: Turn, count: usize, slots: &mut [[f64; 12]; 4], updates: &mut [u32; 4]) -> usize
     requires { ⌜ count < 4 ⌝ }
     ensures { λ r. ⌜ r ≤ count + 1 ⌝ }

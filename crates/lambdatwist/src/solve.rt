@@ -3,7 +3,7 @@
 // document 01.
 ghost use mathlib.Core.Path.{_≡_};
 ghost use Prim.Native.Nat.{_≤_};
-ghost use Rattle.lambdatwist.specs.LentSlots.{Fresh, Filled};
+ghost use Rattle.lambdatwist.specs.LentSlots.{Fresh, Answers};
 ghost use Rattle.lambdatwist.specs.Solve as Solve;
 use crate::poses::poses;
 use crate::slots::held;
@@ -71,8 +71,8 @@ fn if_kept(solutions: Solutions) -> Answer
     answered(0, solutions)
 }
 
-// ---- the stages of solve_ordered, from the last to the first: each fills the slots and returns how
-// many, 0 where it stops
+// ---- the stages of solve_ordered, from the last to the first: each fills the slots and returns
+// how many, 0 where it stops
 
 fn solve_candidates(
     input: P3pInput,
@@ -84,7 +84,7 @@ fn solve_candidates(
     requires { ⌜ found .count ≤ 4 ⌝ }
     requires { ⌜ Fresh (now slots) (now updates) ⌝ }
     ensures { λ count.
-        ⌜ Filled count (now (slots .exit)) (now (updates .exit))
+        ⌜ Answers count (now (slots .exit)) (now (updates .exit))
         (Solve.solveCandidates input measured found .value) ⌝ }
 {
     let d01 = measured.d01;
@@ -104,7 +104,7 @@ fn solve_root(
 ) -> usize
     requires { ⌜ Fresh (now slots) (now updates) ⌝ }
     ensures { λ count.
-        ⌜ Filled count (now (slots .exit)) (now (updates .exit))
+        ⌜ Answers count (now (slots .exit)) (now (updates .exit))
         (Solve.solveRoot input measured g .value) ⌝ }
 {
     let squares = measured.squares;
@@ -131,7 +131,7 @@ fn solve_cubic(
 ) -> usize
     requires { ⌜ Fresh (now slots) (now updates) ⌝ }
     ensures { λ count.
-        ⌜ Filled count (now (slots .exit)) (now (updates .exit))
+        ⌜ Answers count (now (slots .exit)) (now (updates .exit))
         (Solve.solveCubic input measured c .value) ⌝ }
 {
     let cubic3 = c.cubic3;
@@ -146,8 +146,8 @@ fn solve_cubic(
 
 // ---- the cycle
 
-// The points and bearings in some order of the input's. The solve comes here with no retry left; the
-// contract holds for any number.
+// The points and bearings in some order of the input's. The solve comes here with no retry left;
+// the contract holds for any number.
 fn solve_ordered(input: P3pInput, world: World, bearings: Bearings, retries: u32) -> Answer
     ensures { λ r. ⌜ r ≡ Solve.solveOrdered retries input world bearings .value ⌝ }
 {

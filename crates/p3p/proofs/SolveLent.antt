@@ -1,16 +1,16 @@
 -- The solve over lent arrays: its answer, what is held where it refuses and where it does not, and
 -- the four slots one after another. Assumes nothing.
 use Prim.Native.Nat.{ℕ}
-use mathlib.Core.Path.{_≡_, refl, sym, ap}
+use mathlib.Core.Path.{_≡_, sym, ap}
 use mathlib.Core.Bool.{Bool}
-use mathlib.Core.List.{List, [], _∷_, _++_}
-use native.Mathlib.Omega.{arith}
+use mathlib.Core.List.{List, _++_}
 use borrow.Author.Tests.{eq-eqb, ne-eqb}
 use lib.Dec.{eqb}
 use lib.Ieee.{Float}
 use lib.ListN.{length, getD}
 use Rattle.ieee754.specs.Traced.{if_then_else_}
 use Rattle.frames.specs.Lent.{worldAt, bearingsAt}
+use Rattle.frames.proofs.Entries.{list-of-four}
 use Rattle.lambdatwist.specs.Solve.{solve}
 use Rattle.p3p.specs.Types.{Pose, World, Bearings, Answer}
 use Rattle.p3p.specs.SolveLent.{solved, entries, allEntries}
@@ -38,9 +38,4 @@ pub four-entries : (ps : List Pose) (d : Pose)
     ++ entries (getD ps 2 d) ++ entries (getD ps 3 d)
     ≡ allEntries ps
 unfolding entries allEntries
-four-entries [] d h = absurd (omega arith)
-four-entries (p ∷ []) d h = absurd (omega arith)
-four-entries (p ∷ q ∷ []) d h = absurd (omega arith)
-four-entries (p ∷ q ∷ r ∷ []) d h = absurd (omega arith)
-four-entries (p ∷ q ∷ r ∷ s ∷ []) d h = refl
-four-entries (p ∷ q ∷ r ∷ s ∷ t ∷ ps) d h = absurd (omega arith)
+four-entries ps d h = ap allEntries (list-of-four ps d h)

@@ -4,6 +4,8 @@ use crate::record::input;
 use crate::record::matrix_agrees;
 use crate::record::matrix_at;
 use crate::record::vector_agrees;
+use eigen::eigenpairs::Eigenpairs;
+use eigen::eigenpairs::eigenpairs_with_known_zero;
 use eigen::known_zero::Eigensystem;
 use eigen::known_zero::eig_with_known_zero;
 use eigen::row_crosses::Eigenvector;
@@ -58,6 +60,19 @@ fn frame_holds(s: &[u8; 632]) -> bool {
     number & count & slot0 & slot1 & slot2 & slot3
 }
 
+// The two pairs that the solve reads of a system.
+fn pairs_hold(s: &[u8; 632]) -> bool {
+    let matrix = matrix_at(s, 0);
+    let Eigenpairs::Both(first, second, first_value, second_value) = eigenpairs_with_known_zero(
+        matrix,
+    ) else {
+        return word(s, 72) == 0;
+    };
+    let columns = vector_agrees(first, s, 80) & vector_agrees(second, s, 104);
+    let values = agrees(first_value, word(s, 152)) & agrees(second_value, word(s, 160));
+    (word(s, 72) == 1) & columns & values
+}
+
 fn eig_holds(s: &[u8; 632]) -> bool {
     let Eigensystem::Found(eigenvectors, eigenvalues) = eig_with_known_zero(matrix_at(s, 0)) else {
         return word(s, 72) == 0;
@@ -88,7 +103,7 @@ fn condition_holds(s: &[u8; 632]) -> bool {
 pub fn holds(stage: Stage, s: &[u8; 632]) -> bool {
     match stage {
         Stage::Frame => frame_holds(s),
-        Stage::Eig => eig_holds(s),
+        Stage::Eig => eig_holds(s) & pairs_hold(s),
         Stage::RowCrosses => row_crosses_holds(s),
         Stage::Condition => condition_holds(s),
     }

@@ -1,6 +1,6 @@
 -- `fma_square_finite` meets its contract: over the one denominator 2 ^ 2166 the square and the
 -- addend are those of the definition (FmaValue.antt). Assumes nothing.
-use Prim.Native.Nat.{ℕ, _+_, _-_, _*_, _^_, _≤_, _<_}
+use Prim.Native.Nat.{ℕ, _+_, _-_, _*_, _^_, _<_}
 use mathlib.Core.Path.{_≡_, refl, sym, ap, ap₂, _∙_}
 use mathlib.Core.Bool.{Bool, true, false, _&&_}
 use native.Mathlib.Nat.{mul-assoc, mul-comm, mul-left-comm, lt-trans}

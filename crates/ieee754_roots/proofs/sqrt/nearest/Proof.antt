@@ -1,5 +1,5 @@
--- `nearest` meets its contract: a guess that is the nearest number, or is one below it, is right, and
--- where neither holds the digits are found one by one. Assumes nothing.
+-- `nearest` meets its contract: a guess that is the nearest number, or is one below it, is right,
+-- and where neither holds the digits are found one by one. Assumes nothing.
 use Prim.Native.Nat.{ℕ, _+_, _*_, _%_, _^_, _≤_, _<_}
 use native.Mathlib.Omega.{arith}
 use borrow.Author.Needs.{needs}

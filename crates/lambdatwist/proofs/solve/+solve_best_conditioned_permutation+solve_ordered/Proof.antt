@@ -156,7 +156,7 @@ module _ (t : ℕ) where
       let args = measured .before .args in
       c .if-kept .ensures
       ∙ ap ifKept (after-held .held .ensures)
-      ∙ after-solve-cubic .solve-cubic .ensures .answers
+      ∙ after-solve-cubic .solve-cubic .ensures .same
       ∙ usable (args .input) (args .world) (args .bearings) (measured .measure .ensures)
       (tested .before .before .measured-cubic .ensures)
       (args .retries) (sym (tested .before .is-unusable .ensures) ∙ tested .if1 .left)

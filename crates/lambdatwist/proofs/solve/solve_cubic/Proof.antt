@@ -2,7 +2,7 @@
 use borrow.Author.Needs.{needs}
 use mathlib.Core.Path.{subst}
 use Rattle.polynomial.proofs.RootTags.{no-root}
-use Rattle.lambdatwist.specs.LentSlots.{Filled}
+use Rattle.lambdatwist.specs.LentSlots.{Answers}
 use Rattle.lambdatwist.specs.Solve.{stopped, solveCubic}
 use Rattle.lambdatwist.specs.Types.{Answer}
 use Rattle.lambdatwist.proofs.Filling.{stops}
@@ -15,7 +15,7 @@ returns c =
     let root = c .before in
     let s = root .before .before .before .before in
     rw (← root .polished-cubic-root .ensures)
-    (subst (λ (a : Answer). Filled 0 (s .args .slots .now) (s .args .updates .now) a)
+    (subst (λ (a : Answer). Answers 0 (s .args .slots .now) (s .args .updates .now) a)
     (no-root stopped _ (root .polished-cubic-root .result) (c .match .keys2)) (stops _ _))
 
 returns-2 : tie.Need-returns-2

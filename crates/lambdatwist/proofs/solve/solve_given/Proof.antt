@@ -15,7 +15,7 @@ returns c =
     let after-held = c .before in
     c .if-kept .ensures
     ∙ ap ifKept (after-held .held .ensures)
-    ∙ after-held .before .solve-cubic .ensures .answers
+    ∙ after-held .before .solve-cubic .ensures .same
 
 pub solve-given-spec : {M : Type 1} → statement M
 solve-given-spec =
