@@ -74,7 +74,7 @@ pub fn pose_turn(
 }
 
 // Fills a slot for each pose that is kept, and returns how many.
-pub fn poses(
+pub(crate) fn poses(
     input: P3pInput,
     measured: Measured,
     world_inverse: Matrix3,

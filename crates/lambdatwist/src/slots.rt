@@ -16,7 +16,7 @@ pub enum Turn {
 }
 
 // A pose's entries: the rotation by columns, then the translation.
-pub fn entries(pose: Pose) -> [f64; 12]
+pub(crate) fn entries(pose: Pose) -> [f64; 12]
     ensures { λ r. ⌜ r ≡ entries pose ⌝ }
 {
     let r = pose.rotation;
@@ -38,7 +38,7 @@ pub fn entries(pose: Pose) -> [f64; 12]
 }
 
 // The pose of these entries.
-pub fn pose_of(slot: [f64; 12]) -> Pose
+pub(crate) fn pose_of(slot: [f64; 12]) -> Pose
     ensures { λ r. ⌜ r ≡ poseOf slot ⌝ }
 {
     pose_at(&slot, 0)
@@ -46,7 +46,12 @@ pub fn pose_of(slot: [f64; 12]) -> Pose
 
 // The pose of a turn that kept one, stored in the next slot. Returns how many slots are filled
 // then.
-pub fn store(turn: Turn, count: usize, slots: &mut [[f64; 12]; 4], updates: &mut [u32; 4]) -> usize
+pub(crate) fn store(
+    turn: Turn,
+    count: usize,
+    slots: &mut [[f64; 12]; 4],
+    updates: &mut [u32; 4],
+) -> usize
     requires { ⌜ count < 4 ⌝ }
     ensures { λ r. ⌜ r ≤ count + 1 ⌝ }
     ensures { λ r.
@@ -64,7 +69,7 @@ pub fn store(turn: Turn, count: usize, slots: &mut [[f64; 12]; 4], updates: &mut
 }
 
 // The solutions that `count` filled slots hold.
-pub fn held(count: usize, slots: [[f64; 12]; 4], updates: [u32; 4]) -> Solutions
+pub(crate) fn held(count: usize, slots: [[f64; 12]; 4], updates: [u32; 4]) -> Solutions
     ensures { λ r. ⌜ r ≡ held count slots updates ⌝ }
 {
     let p0 = pose_of(slots[0]);
