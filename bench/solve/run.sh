@@ -16,8 +16,8 @@ mkdir -p "$out"
 
 rt staticlib p3p | tail -1
 rt check poses | tail -1
-# Bound at the start (now): else the loader, which looks memcpy up when it is first called, adds
-# some 2.7 KiB of its own to the first frame's stack.
+# Bound at the start (now): else the loader, which looks a function of the C library up when it is
+# first called, can add stack of its own to the first frame's.
 for program in stack repeat; do
     gcc -O2 -Wall -Wextra -Wl,-z,now -o "$out/$program" "bench/solve/$program.c" "$library" \
         -lpthread
