@@ -1,7 +1,7 @@
 // The proved single operations beside others, bit for bit, every NaN as one value: the square root,
 // the fused multiply-add, also that of a square, and the magnitude beside the C library's, the cube
 // root by whole numbers, and copied sign, maximum and total order by the order of bit patterns.
-//   compare [COUNT [SEED]]     COUNT arguments of each, of cbrt a hundredth of that
+//   compare [COUNT [SEED]]     COUNT arguments of each
 #include <inttypes.h>
 #include <stdio.h>
 #include <stdlib.h>
@@ -186,7 +186,7 @@ int main(int argc, char **argv) {
     seed = argc > 2 ? strtoull(argv[2], 0, 0) : 0x9e3779b97f4a7c15;
     printf("seed %016" PRIx64 "\n", seed);
     long differ = compare_sqrt(count) + compare_fma(count) + compare_fma_square(count) +
-                  compare_abs(count) + compare_cbrt(count / 100) + compare_pairs(count) +
+                  compare_abs(count) + compare_cbrt(count) + compare_pairs(count) +
                   try_the_test(count / 1000);
     return differ != 0;
 }

@@ -1,8 +1,8 @@
 #!/usr/bin/env bash
 # Compares the single operations with the C library's and with exact arithmetic, then times them.
 # Needs gcc.
-#   bench/ieee754/run.sh          10^6 arguments of each operation, 10^4 of the cube root
-#   bench/ieee754/run.sh long     10^7 and 10^5
+#   bench/ieee754/run.sh          10^6 arguments of each operation
+#   bench/ieee754/run.sh long     10^7
 set -eu
 cd "$(dirname "$0")/../.."
 count=1000000
