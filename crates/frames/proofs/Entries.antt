@@ -1,7 +1,7 @@
 -- Lists by their entries. Two lists of one length whose entries are in a relation, place by place
 -- (the library's `Forall₂`), stay so where one place is set in both and where both are cut. What is
--- read past a list's end does not matter inside it, and is no matter where every entry is that.
--- Assumes nothing.
+-- read past a list's end does not matter inside it, and is no matter where every entry is that. A
+-- list of four is that of its entries. Assumes nothing.
 use mathlib.Core.Path.{_≡_, refl, subst}
 use mathlib.Core.List.{List, [], _∷_, Forall₂, Forall₂·nil, Forall₂·cons}
 use Prim.Native.Nat.{ℕ, zero, suc, _<_}
