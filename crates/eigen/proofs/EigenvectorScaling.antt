@@ -22,7 +22,7 @@ use Rattle.eigen.specs.ZeroVector.{zeroDirection, zeroVector}
 use Rattle.eigen.specs.EigenvectorOf.{precompute, eigenDenominator, denominatorScale}
 use Rattle.eigen.specs.EigenvectorOf.{ifFinite, eigenvectorByDivision, eigenvectorOf}
 use Rattle.eigen.specs.Types.{Order, Less, Equal, Greater, Vector3, Matrix3, Eigenvector}
-use Rattle.eigen.specs.Types.{Unit, Missing, Precomputed}
+use Rattle.eigen.specs.Types.{Normalised, Missing, Precomputed}
 use Rattle.linalg.proofs.SquaredLength.{squared-normal}
 
 -- what follows an eigenvector that is the same in the two runs, in any relation of them
@@ -31,7 +31,7 @@ module _ {A : Type 0} {R : A → A → Type 0} {none none' : Traced A} {f f' : V
       → Both R none none'
       → ((v : Vector3) → Both R (f v) (f' v))
       → Both R (withVector e none f) (withVector e none' f')
-  withVector-scales (Unit v) none next = next v
+  withVector-scales (Normalised v) none next = next v
   withVector-scales Missing none next = none
 
 module _ {k : ℤ} where
@@ -66,10 +66,10 @@ module _ {k : ℤ} where
   unfolding unitVector norm
   unitVector-same {v} {v'} h =
       norm-at {n = pos 4} (normSquared-scales h) (squared-normal v) (squared-normal v') >>=
-      λ _ _ length.
-      vecDiv-scales h (length .0) >>= λ _ _ unit.
-      let valid = ap₂ _&&_ (length .1) (finite-same (length .0)) in
-      pure (choose _≡_ valid (ap Unit (vector-at-zero unit)) (refl {a = Missing}))
+      λ _ _ vectorNorm.
+      vecDiv-scales h (vectorNorm .0) >>= λ _ _ unit.
+      let valid = ap₂ _&&_ (vectorNorm .1) (finite-same (vectorNorm .0)) in
+      pure (choose _≡_ valid (ap Normalised (vector-at-zero unit)) (refl {a = Missing}))
 
   module _ {m m' : Matrix3} (M : AtMatrix k (pos 2) m m') where
     pub rowCrosses-same : {e e' : Float}
@@ -110,9 +110,9 @@ module _ {k : ℤ} where
         ! same sixtyFour ⊗ ! same epsilon ⊗ ! matrixScale ⊗ ! matrixScale >>= λ _ _ limit.
         if le-same zeroNormSquared limit then rowCrosses-same null
         else (
-        √_ {n = pos 4} (! zeroNormSquared) >>= λ _ _ length.
-        vecDiv-scales direction length >>= λ _ _ unit.
-        pure (ap Unit (vector-at-zero unit)))
+        √_ {n = pos 4} (! zeroNormSquared) >>= λ _ _ zeroNorm.
+        vecDiv-scales direction zeroNorm >>= λ _ _ unit.
+        pure (ap Normalised (vector-at-zero unit)))
 
     -- ---- the eigenvector of a nonzero eigenvalue
     pub record AtPrecomputed (p p' : Precomputed) : Type 0 where

@@ -2,11 +2,11 @@
 -- the first two columns of the eigenvectors, and their eigenvalues.
 use mathlib.Core.Bool.{Bool, true, false}
 use Rattle.linalg.specs.Matrices.{column0, column1}
-use Rattle.eigen.specs.Types.{Eigenvector, Unit, Missing, Eigensystem, Found, NotFound}
+use Rattle.eigen.specs.Types.{Eigenvector, Normalised, Missing, Eigensystem, Found, NotFound}
 use Rattle.eigen.specs.Types.{Eigenpairs, Both, Neither}
 
 abbrev pub hasVector : Eigenvector → Bool
-hasVector (Unit v) = true
+hasVector (Normalised v) = true
 hasVector Missing = false
 
 abbrev pub pairsOf : Eigensystem → Eigenpairs

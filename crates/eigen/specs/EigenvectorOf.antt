@@ -9,7 +9,7 @@ use Rattle.ieee754.specs.Maximum.{max}
 use Rattle.ieee754.specs.Traced.{Traced, pure, _>>=_, if_then_else_, _⊗_, _⊕_, _⊖_, _⊘_, !_, ⊝_, √_}
 use Rattle.linalg.specs.Vectors.{vector, allFinite}
 use Rattle.eigen.specs.RowCrosses.{eigenvectorFromRowCrosses}
-use Rattle.eigen.specs.Types.{Vector3, Matrix3, Eigenvector, Unit, Missing, Precomputed}
+use Rattle.eigen.specs.Types.{Vector3, Matrix3, Eigenvector, Normalised, Missing, Precomputed}
 
 -- let product00_11 = -matrix[(0, 0)] * matrix[(1, 1)];
 -- let precomputed0 = matrix[(0, 1)] * matrix[(1, 2)] - matrix[(0, 2)] * matrix[(1, 1)];
@@ -42,7 +42,7 @@ denominatorScale m p eigenvalue = do
 
 -- vector.iter().all(|value| value.is_finite()).then_some(vector)
 unfoldable pub ifFinite : Vector3 → Eigenvector
-ifFinite v = if allFinite v then Unit v else Missing
+ifFinite v = if allFinite v then Normalised v else Missing
 
 unfoldable pub eigenvectorByDivision : Matrix3 → Precomputed → Float → Float → Traced Eigenvector
 eigenvectorByDivision m p eigenvalue denominator = do

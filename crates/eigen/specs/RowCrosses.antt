@@ -8,11 +8,11 @@ use Rattle.ieee754.specs.TotalOrder.{totalCmp}
 use Rattle.ieee754.specs.Traced.{Traced, pure, _>>=_, if_then_else_, _⊖_, !_}
 use Rattle.linalg.specs.Vectors.{vector, cross, normSquared, norm, vecDiv}
 use Rattle.eigen.specs.Types.{Order, Less, Equal, Greater, Vector3, Matrix3, Eigenvector}
-use Rattle.eigen.specs.Types.{Unit, Missing}
+use Rattle.eigen.specs.Types.{Normalised, Missing}
 
 -- ---- what follows an eigenvector: what `k` makes of it, and `none` where it is missing
 abbrev pub withVector : {A : Type 0} → Eigenvector → Traced A → (Vector3 → Traced A) → Traced A
-withVector (Unit v) none k = k v
+withVector (Normalised v) none k = k v
 withVector Missing none k = none
 
 -- `max_by` keeps what it has only where that compares greater: of equals the last wins
@@ -33,9 +33,9 @@ longer left right = do
 -- (norm > f64::MIN_POSITIVE && norm.is_finite()).then_some(vector / norm)
 unfoldable pub unitVector : Vector3 → Traced Eigenvector
 unitVector v = do
-  length ← norm v
-  unit ← vecDiv v length
-  pure (if lt minPositive length && finite length then Unit unit else Missing)
+  vectorNorm ← norm v
+  unit ← vecDiv v vectorNorm
+  pure (if lt minPositive vectorNorm && finite vectorNorm then Normalised unit else Missing)
 
 unfoldable pub eigenvectorFromRowCrosses : Matrix3 → Float → Traced Eigenvector
 eigenvectorFromRowCrosses m eigenvalue = do

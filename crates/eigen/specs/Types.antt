@@ -12,4 +12,4 @@ pub use Rattle.eigen.specs.declared.eigenvector.Precomputed.{Precomputed
 pub use Rattle.eigen.specs.declared.known_zero.Eigensystem.{Eigensystem}
 pub use Rattle.eigen.specs.declared.known_zero.Eigensystem.the-variants.{Found, NotFound}
 pub use Rattle.eigen.specs.declared.row_crosses.Eigenvector.{Eigenvector}
-pub use Rattle.eigen.specs.declared.row_crosses.Eigenvector.the-variants.{Unit, Missing}
+pub use Rattle.eigen.specs.declared.row_crosses.Eigenvector.the-variants.{Normalised, Missing}

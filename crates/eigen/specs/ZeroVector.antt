@@ -7,7 +7,7 @@ use Rattle.ieee754.specs.Traced.{Traced, pure, _>>=_, if_then_else_, _⊗_, _�
 use Rattle.linalg.specs.Vectors.{vector, normSquared, vecDiv}
 use Rattle.linalg.specs.Matrices.{matNormSquared}
 use Rattle.eigen.specs.RowCrosses.{eigenvectorFromRowCrosses}
-use Rattle.eigen.specs.Types.{Vector3, Matrix3, Eigenvector, Unit}
+use Rattle.eigen.specs.Types.{Vector3, Matrix3, Eigenvector, Normalised}
 
 -- Vector3::new(
 --     matrix[(0, 1)] * matrix[(1, 2)] - matrix[(0, 2)] * matrix[(1, 1)],
@@ -30,6 +30,6 @@ zeroVector m = do
   if le zeroNormSquared limit then eigenvectorFromRowCrosses m plusZero
       else do
         -- zero_vector /= zero_norm_squared.sqrt();
-        length ← √ ! zeroNormSquared
-        unit ← vecDiv direction length
-        pure (Unit unit)
+        zeroNorm ← √ ! zeroNormSquared
+        unit ← vecDiv direction zeroNorm
+        pure (Normalised unit)

@@ -31,10 +31,10 @@ pub fn eigenpairs_of(
         .value)) ⌝ }
 {
     let p = precompute(m, off_diagonal_squared);
-    let Eigenvector::Unit(column0) = eigenvector(m, p, first_value) else {
+    let Eigenvector::Normalised(column0) = eigenvector(m, p, first_value) else {
         return Eigenpairs::Neither;
     };
-    let Eigenvector::Unit(column1) = eigenvector(m, p, second_value) else {
+    let Eigenvector::Normalised(column1) = eigenvector(m, p, second_value) else {
         return Eigenpairs::Neither;
     };
     Eigenpairs::Both(column0, column1, first_value, second_value)

@@ -64,7 +64,7 @@ pub fn eigenvector_by_division(
         z: inverse_norm,
     };
     if vector.all_finite() {
-        return Eigenvector::Unit(vector);
+        return Eigenvector::Normalised(vector);
     }
     Eigenvector::Missing
 }

@@ -29,10 +29,10 @@ pub fn system_of_pair(
         ⌜ r ≡ systemOfPair m zero «off_diagonal_squared» «first_value» «second_value» .value ⌝ }
 {
     let p = precompute(m, off_diagonal_squared);
-    let Eigenvector::Unit(column0) = eigenvector(m, p, first_value) else {
+    let Eigenvector::Normalised(column0) = eigenvector(m, p, first_value) else {
         return Eigensystem::NotFound;
     };
-    let Eigenvector::Unit(column1) = eigenvector(m, p, second_value) else {
+    let Eigenvector::Normalised(column1) = eigenvector(m, p, second_value) else {
         return Eigensystem::NotFound;
     };
     let eigenvalues = Vector3 {
@@ -49,7 +49,7 @@ pub fn eig_with_known_zero(m: Matrix3) -> Eigensystem
     if !m.all_finite() {
         return Eigensystem::NotFound;
     }
-    let Eigenvector::Unit(zero) = zero_vector(m) else {
+    let Eigenvector::Normalised(zero) = zero_vector(m) else {
         return Eigensystem::NotFound;
     };
     let off_diagonal_squared = m.m01 * m.m01;

@@ -10,7 +10,7 @@ use linalg::matrix3::Matrix3;
 use linalg::vector3::Vector3;
 
 pub enum Eigenvector {
-    Unit(Vector3),
+    Normalised(Vector3),
     Missing,
 }
 
@@ -28,10 +28,10 @@ pub fn longer(left: Vector3, right: Vector3) -> Vector3
 pub fn unit_vector(v: Vector3) -> Eigenvector
     ensures { λ r. ⌜ r ≡ unitVector v .value ⌝ }
 {
-    let length = v.norm();
-    let unit = v.div(length);
-    if (length > MIN_POSITIVE) & is_finite(length) {
-        return Eigenvector::Unit(unit);
+    let norm = v.norm();
+    let unit = v.div(norm);
+    if (norm > MIN_POSITIVE) & is_finite(norm) {
+        return Eigenvector::Normalised(unit);
     }
     Eigenvector::Missing
 }

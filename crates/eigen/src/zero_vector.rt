@@ -29,7 +29,7 @@ pub fn zero_vector(m: Matrix3) -> Eigenvector
     if zero_norm_squared <= 64.0 * EPSILON * matrix_scale * matrix_scale {
         return eigenvector_from_row_crosses(m, 0.0);
     }
-    Eigenvector::Unit(direction.div(sqrt(zero_norm_squared)))
+    Eigenvector::Normalised(direction.div(sqrt(zero_norm_squared)))
 }
 
 // Whether there is a zero vector: zero_vector's test, without the square root and the division.
@@ -39,7 +39,7 @@ pub fn has_zero_vector(m: Matrix3) -> bool
     let zero_norm_squared = zero_direction(m).norm_squared();
     let matrix_scale = m.norm_squared();
     if zero_norm_squared <= 64.0 * EPSILON * matrix_scale * matrix_scale {
-        let Eigenvector::Unit(_) = eigenvector_from_row_crosses(m, 0.0) else {
+        let Eigenvector::Normalised(_) = eigenvector_from_row_crosses(m, 0.0) else {
             return false;
         };
     }

@@ -84,7 +84,8 @@ fn eig_holds(s: &[u8; 632]) -> bool {
 
 fn row_crosses_holds(s: &[u8; 632]) -> bool {
     let eigenvalue = from_bits(word(s, 72));
-    let Eigenvector::Unit(vector) = eigenvector_from_row_crosses(matrix_at(s, 0), eigenvalue) else {
+    let Eigenvector::Normalised(vector) = eigenvector_from_row_crosses(matrix_at(s, 0), eigenvalue)
+    else {
         return word(s, 80) == 0;
     };
     let same = vector_agrees(vector, s, 88);

@@ -6,19 +6,19 @@ use mathlib.Core.Bool.{Bool, true, false, not, false≢true}
 use Rattle.eigen.specs.Eigenpairs.{hasVector}
 use Rattle.eigen.specs.ZeroVector.{zeroVector}
 use Rattle.eigen.specs.KnownZero.{eigWithKnownZero}
-use Rattle.eigen.specs.Types.{Vector3, Eigenvector, Unit, Missing}
+use Rattle.eigen.specs.Types.{Vector3, Eigenvector, Normalised, Missing}
 use Rattle.eigen.proofs.eigenpairs.eigenpairs_with_known_zero.Statement.{statement}
 use Rattle.eigen.proofs.eigenpairs.eigenpairs_with_known_zero.Tie as tie
 
 missing : (v : Eigenvector) {has : Bool} → has ≡ hasVector v → not has ≡ true → v ≡ Missing
-missing (Unit zero) told none = absurd (false≢true (ap not (sym told) ∙ none))
+missing (Normalised zero) told none = absurd (false≢true (ap not (sym told) ∙ none))
 missing Missing told none = refl
 
 there : (v : Eigenvector) {has : Bool}
     → has ≡ hasVector v
     → not has ≡ false
-    → (zero : Vector3) × (v ≡ Unit zero)
-there (Unit zero) told some = (zero, refl)
+    → (zero : Vector3) × (v ≡ Normalised zero)
+there (Normalised zero) told some = (zero, refl)
 there Missing told some = absurd (false≢true (sym some ∙ ap not told))
 
 returns : tie.Need-returns
