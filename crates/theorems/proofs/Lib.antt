@@ -1,8 +1,10 @@
--- The answer to eighteen doubles, the scaling rule with a plate to which it applies and one to
--- which it does not, and the marked cases.
+-- The answer to eighteen doubles, why one retry is enough, the scaling rule with plates to which it
+-- applies and one to which it does not, the marked cases, and whole answers.
 pub mod OneAnswer
+pub mod OneRetry
 mod TimesPower
 mod FiniteTranslation
 pub mod ScalingRule
 pub mod ScalingExamples
 pub mod MarkedCases
+pub mod Answers

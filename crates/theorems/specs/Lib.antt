@@ -1,6 +1,7 @@
--- The theorems' statements, and the frames that they name.
+-- The theorems' statements, the frames that they name, and whole answers.
 pub mod Types
 pub mod OneAnswer
 pub mod ScalingRule
 pub mod Plates
 pub mod Cases
+pub mod Answers
