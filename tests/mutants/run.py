@@ -11,6 +11,8 @@ proofs/ stay as they are.
   tests/mutants/run.py --witness CRATE..  look again for inputs at which the mutants of its result
                                      differ (interpret/witness.py)
   tests/mutants/run.py --list CRATE  print the mutants and try none
+  tests/mutants/run.py --edits       see that each must-fail edit changes an answer, at the input
+                                     that its comment names (check/edits.py)
 
 Run it at the repository's root, after `rt check`. `RT` in the environment is the command for rt.
 
@@ -39,6 +41,7 @@ import sys
 from change.bodies import functions_of
 from change.mutants import mutants_of
 from check.crates import CRATES
+from check.edits import try_edits
 from check.results import add_witness
 from check.rounds import try_crate
 from check.table import write_table
@@ -62,6 +65,8 @@ def main():
         for crate in words:
             add_witness(crate, World(root, CRATES))
         write_table(root)
+    elif "--edits" in sys.argv:
+        sys.exit(0 if try_edits() else 1)
     elif "--table" in sys.argv:
         write_table(root)
     else:

@@ -1,3 +1,3 @@
 """An interpreter, and inputs at which a mutant differs: a body as a tree (trees), values,
-operations, expressions (evaluate), calls and statements (machine), random inputs (inputs), and the
-comparison of a function with its mutant (witness)."""
+operations, expressions (evaluate), calls and statements (machine), random inputs (inputs), the
+comparison of a function with its mutant (witness), and values in a plain notation (notation)."""

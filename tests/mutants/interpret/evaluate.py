@@ -139,6 +139,8 @@ class Evaluate:
         target = self.named(path)
         if target[2] == "sqrt" and target[0] == "ieee754":
             return root(values[0])
+        if target in self.world.tuples:
+            return Struct(target, dict(zip(self.world.parts(target), values)))
         if target not in self.world.functions:
             raise Outside()
         return self.call(self.world.functions[target], values)

@@ -83,7 +83,8 @@ class Items(Types):
         name = self.declared()
         fields = {}
         if self.sees("("):
-            self.skip("(", ")")
+            key, parts = self.file.key(name), self.parts()
+            self.file.later.append(lambda: self.world.tuples.update({key: self.types(parts)}))
             self.expect(";")
         else:
             self.expect("{")
@@ -113,6 +114,7 @@ class Items(Types):
         parts = []
         if self.passes("("):
             for _ in self.each(")"):
+                self.passes("pub")
                 parts.append(self.at)
                 self.pass_type()
         elif self.passes("{"):

@@ -11,6 +11,7 @@ class World:
 
     def __init__(self, root, crates):
         self.structs, self.enums, self.functions, self.consts, self.files = {}, {}, {}, {}, []
+        self.tuples = {}  # the types of the parts of each struct that has no names for them
         with open(os.path.join(root, "crates.txt"), encoding="utf-8") as f:
             self.uses = {
                 m.group(1): m.group(2).split() for m in re.finditer(r"^(\w+):(.*)$", f.read(), re.M)
@@ -27,6 +28,12 @@ class World:
             Items(file).declare()
         for file in self.files:
             file.resolve()
+
+    def parts(self, kind):
+        """The types of a struct's fields, which are numbers from 0 where they have no names."""
+        if kind in self.tuples:
+            return {str(i): t for i, t in enumerate(self.tuples[kind])}
+        return self.structs[kind]
 
 
 class File:
