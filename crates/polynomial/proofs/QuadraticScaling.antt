@@ -14,8 +14,8 @@ use Rattle.ieee754_laws.proofs.Degrees.{pure}
 use Rattle.ieee754_laws.proofs.Degrees.{_>>=_, if_then_else_}
 use Rattle.ieee754_laws.proofs.MinPositive.{floored, epsilon32-small}
 use Rattle.polynomial.specs.Literal.{four, thirtyTwo}
-use Rattle.polynomial.specs.Quadratic.{quadraticPair, quadraticRealMonicComputed}
-use Rattle.polynomial.specs.Quadratic.{quadraticRealMonic}
+use Rattle.polynomial.specs.Quadratic.{discriminantOf, bandOf, quadraticPair}
+use Rattle.polynomial.specs.Quadratic.{quadraticRealMonicComputed, quadraticRealMonic}
 use Rattle.polynomial.specs.RootScaling.{AtRoots, two-at, refused-at}
 
 module _ {k n : ℤ} {b b' c c' : Float} (B : At k n b b') (C : At k (n +ℤ n) c c') where
@@ -35,6 +35,17 @@ module _ {k n : ℤ} {b b' c c' : Float} (B : At k n b b') (C : At k (n +ℤ n) 
       degree (+ℤ-negℤ-cancel n n) (! C ⊘ ! q) >>= λ _ _ other.
       pure (two-at q other)))
 
+  discriminant-scales : Both (At k (n +ℤ n)) (discriminantOf b c) (discriminantOf b' c')
+  discriminant-scales = mulAdd (! B) (! B) (degree (+ℤ-idl (n +ℤ n)) (⊝ ! same four ⊗ ! C))
+
+  band-scales : {s s' : Float}
+      → At k (n +ℤ n) s s'
+      → Both (At k (n +ℤ n)) (bandOf b s) (bandOf b' s')
+  band-scales S =
+      ! B ⊗ ! B ⊕ degree (+ℤ-idl (n +ℤ n)) (! same four ⊗ ! S) >>= λ _ _ scale.
+      degree (+ℤ-idl (n +ℤ n))
+      (floored (! same thirtyTwo ⊗ ! same epsilon) epsilon32-small scale)
+
   computed-scales : {s s' : Float}
       → At k (n +ℤ n) s s'
       → Both (AtRoots k n) (quadraticRealMonicComputed b c s) (quadraticRealMonicComputed b' c' s')
@@ -42,10 +53,8 @@ module _ {k n : ℤ} {b b' c c' : Float} (B : At k n b b') (C : At k (n +ℤ n) 
   computed-scales S =
       if ap₂ _||_ (ap not (finite-same B)) (ap not (finite-same C)) then pure (refused-at 4)
       else (
-      mulAdd (! B) (! B) (degree (+ℤ-idl (n +ℤ n)) (⊝ ! same four ⊗ ! C)) >>= λ _ _ discriminant.
-      ! B ⊗ ! B ⊕ degree (+ℤ-idl (n +ℤ n)) (! same four ⊗ ! S) >>= λ _ _ scale.
-      degree (+ℤ-idl (n +ℤ n))
-      (floored (! same thirtyTwo ⊗ ! same epsilon) epsilon32-small scale) >>= λ _ _ tolerance.
+      discriminant-scales >>= λ _ _ discriminant.
+      band-scales S >>= λ _ _ tolerance.
       if ap₂ _||_ (lt-same discriminant (neg-at tolerance)) (ap not (finite-same discriminant)) then
       pure (refused-at 5)
       else pair-scales (max-at discriminant null))

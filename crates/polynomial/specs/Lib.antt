@@ -4,5 +4,6 @@ pub mod Literal
 pub mod Answer
 pub mod Quadratic
 pub mod PolishedRoot
+pub mod OneAnswer
 pub mod RootScaling
 pub mod Cases

@@ -13,6 +13,18 @@ use Rattle.polynomial.specs.Literal.{four, thirtyTwo}
 use Rattle.polynomial.specs.Answer.{notFinite, noRealRoots}
 use Rattle.polynomial.specs.Types.{Roots, Two}
 
+-- let discriminant = b.mul_add(b, -4.0 * c);
+abbrev pub discriminantOf : Float → Float → Traced Float
+discriminantOf b c = mulAdd (! b) (! b) (⊝ ! four ⊗ ! c)
+
+-- the band below zero in which the discriminant counts as zero
+abbrev pub bandOf : Float → Float → Traced Float
+bandOf b cScale = do
+  -- let discriminant_scale = b * b + 4.0 * c_scale;
+  discriminantScale ← ! b ⊗ ! b ⊕ ! four ⊗ ! cScale
+  -- let tolerance = 32.0 * f64::EPSILON * discriminant_scale.max(f64::MIN_POSITIVE);
+  ! thirtyTwo ⊗ ! epsilon ⊗ ! (max discriminantScale minPositive)
+
 -- the roots where the discriminant is in the band or above it; the caller has cut a negative one to
 -- zero
 unfoldable pub quadraticPair : Float → Float → Float → Traced Roots
@@ -35,12 +47,8 @@ unfoldable pub quadraticRealMonicComputed : Float → Float → Float → Traced
 quadraticRealMonicComputed b c cScale =
     if not (finite b) || not (finite c) then pure notFinite
     else do
-      -- let discriminant = b.mul_add(b, -4.0 * c);
-      discriminant ← mulAdd (! b) (! b) (⊝ ! four ⊗ ! c)
-      -- let discriminant_scale = b * b + 4.0 * c_scale;
-      discriminantScale ← ! b ⊗ ! b ⊕ ! four ⊗ ! cScale
-      -- let tolerance = 32.0 * f64::EPSILON * discriminant_scale.max(f64::MIN_POSITIVE);
-      tolerance ← ! thirtyTwo ⊗ ! epsilon ⊗ ! (max discriminantScale minPositive)
+      discriminant ← discriminantOf b c
+      tolerance ← bandOf b cScale
       if lt discriminant (neg tolerance) || not (finite discriminant) then pure noRealRoots
           else quadraticPair b c (max discriminant plusZero)
 

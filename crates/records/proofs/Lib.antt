@@ -1,5 +1,5 @@
 -- The laws of this crate, in reading order.
 pub mod BigEndian
 pub mod Answers
-pub mod RecordNumbers
+pub mod OneAnswer
 pub mod RoundTrip

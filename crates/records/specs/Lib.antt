@@ -2,4 +2,5 @@
 pub mod Types
 pub mod Format
 pub mod Record
+pub mod OneAnswer
 pub mod Encoding

@@ -1,11 +1,11 @@
--- Reading a record: document 01's questions, in their order, and the number and frame of each
--- answer. From document 01, "Questions, in order".
+-- Reading a record: document 01's questions, in their order, and the number, the frame and the
+-- next position of each answer. From document 01, "Questions, in order".
 use Prim.Native.Nat.{ℕ, _+_, _-_}
 use mathlib.Core.Bool.{Bool, true, false}
-use mathlib.Core.List.{List}
+use mathlib.Core.List.{List, [], _∷_}
 use lib.Dec.{eqb, leb, ltb}
 use lib.ListN.{length, getD}
-use Rattle.records.specs.Types.{Record, End, Stop, Skip, Accepted}
+use Rattle.records.specs.Types.{Frame, Record, End, Stop, Skip, Accepted}
 use Rattle.records.specs.Format.{part, bigEndian, frameAt}
 
 -- where the answer to a question is no, that is the record's answer; else the next question is
@@ -31,3 +31,17 @@ number End = 0
 number (Stop n) = n
 number (Skip n next) = n
 number (Accepted frame next) = 0
+
+-- the frame of an accepted record; the others have none
+abbrev pub frames : Record → List Frame
+frames End = []
+frames (Stop n) = []
+frames (Skip n next) = []
+frames (Accepted frame next) = frame ∷ []
+
+-- where the next record begins; after the input's end and after a stop there is none
+abbrev pub nexts : Record → List ℕ
+nexts End = []
+nexts (Stop n) = []
+nexts (Skip n next) = next ∷ []
+nexts (Accepted frame next) = next ∷ []

@@ -1,0 +1,145 @@
+-- Demand 1 of the mission for the root finders, as specs/OneAnswer.antt states it: the quadratic
+-- answers with two roots, 4 or 5 (`quadratic-answer`), the cubic with one root, 4 or 6
+-- (`cubic-answer`). So the quadratic never has one root (`quadratic-not-one`) and the cubic never
+-- two (`cubic-not-two`), and no refusal has number 0. Assumes nothing.
+use mathlib.Core.Path.{_≡_, refl, ap, subst}
+use mathlib.Core.Bool.{Bool, true, false, not, _&&_, _||_}
+use mathlib.Core.List.{List}
+use Prim.Native.Nat.{ℕ}
+use native.Mathlib.Omega.{arith}
+use lib.Dec.{T}
+use lib.Ieee.{Float, binary64, mul, eq, ofBits}
+use lib.Ieee.Fits.{and-i}
+use lib.Ieee.Scale.{finite}
+use lib.ListN.{length}
+use mir.Facts.{T-not-not}
+use Rattle.ieee754.specs.Literal.{plusZero}
+use Rattle.ieee754.specs.Traced.{Traced, pure, if_then_else_}
+use Rattle.ieee754.proofs.Tests.{either-way, not-both-left, not-both-right}
+use Rattle.cubic_parts.specs.CubicScale.{allZero, cubicVariableScale, normalised}
+use Rattle.cubic_parts.specs.CubicStart.{startRoot}
+use Rattle.cubic_parts.specs.Newton.{newtonSteps}
+use Rattle.cubic_parts.specs.Steps.{after}
+use Rattle.polynomial.specs.Answer.{noRoot}
+use Rattle.polynomial.specs.Quadratic.{quadraticPair, quadraticRealMonicComputed}
+use Rattle.polynomial.specs.Quadratic.{quadraticRealMonic}
+use Rattle.polynomial.specs.PolishedRoot.{rescaledRoot, polishedRoot, polishedCubicRoot}
+use Rattle.polynomial.specs.OneAnswer.{NoRoots, TwoRoots, OneRoot, noRealPair, nothingFrom}
+use Rattle.polynomial.specs.OneAnswer.{noCubicRoot, QuadraticAnswer, quadratic-4, quadratic-5}
+use Rattle.polynomial.specs.OneAnswer.{quadratic-roots, CubicAnswer, cubic-4, cubic-6}
+use Rattle.polynomial.specs.OneAnswer.{cubic-root}
+use Rattle.polynomial.specs.Types.{Monic, Roots, Two, One, Refused, Step, Next, Stop}
+
+refused : (n : ℕ) → NoRoots n (Refused n)
+refused n = record { refused = refl; roots = refl }
+
+-- ---- the tests of the definitions: one of two or of three is not finite
+both-finite : (b c : Bool) → not b || not c ≡ not (b && c)
+both-finite true c = refl
+both-finite false c = refl
+
+all-finite : (b c d : Bool) → not b || not c || not d ≡ not (b && c && d)
+all-finite true true d = refl
+all-finite true false d = refl
+all-finite false c d = refl
+
+-- what holds in both cases of such a test
+either-finite : {A : Type 0} (P : A → Type 0) (test all : Bool) {x y : A}
+    → test ≡ not all
+    → (T (not all) → P x)
+    → (T all → P y)
+    → P (if test then x else y)
+either-finite P test all same f g =
+    either-way P test (λ t. f (subst T same t))
+    (λ t. g (T-not-not all (subst (λ (b : Bool). T (not b)) same t)))
+
+-- ---- the quadratic
+two : (x y : Float) → TwoRoots (Two x y)
+two x y = record { first = x; second = y; not-refused = refl; roots = refl }
+
+pair-two : (b c d : Float) → TwoRoots (quadraticPair b c d .value)
+unfolding quadraticPair
+pair-two b c d =
+    either-way (λ (m : Traced Roots). TwoRoots (m .value)) (eq d plusZero) (λ _. two _ _)
+    (λ _. either-way (λ (m : Traced Roots). TwoRoots (m .value)) (eq _ plusZero) (λ _. two _ _)
+    (λ _. two _ _))
+
+pub quadratic-answer : (b c : Float) → QuadraticAnswer b c (quadraticRealMonic b c .value)
+unfolding quadraticRealMonic quadraticRealMonicComputed noRealPair
+quadratic-answer b c =
+    let P : Traced Roots → Type 0 = λ m. QuadraticAnswer b c (m .value) in
+    either-finite P (not (finite b) || not (finite c)) (finite b && finite c)
+    (both-finite (finite b) (finite c))
+    (λ nonfinite. quadratic-4 nonfinite (refused 4))
+    (λ all.
+    either-way P (noRealPair b c) (λ none. quadratic-5 all none (refused 5))
+    (λ some. quadratic-roots all some (pair-two b c _)))
+
+-- ---- the cubic
+twice : (b : Bool) → T b → T (not (not b))
+twice true h = tt
+twice false h = h
+
+one : (x : Float) → T (finite x) → OneRoot (One x)
+one x h = record { root = x; not-refused = refl; roots = refl; root-finite = h }
+
+zero-finite : T (finite plusZero)
+unfolding ofBits
+zero-finite = tt
+
+-- from the start on
+started : (P : Roots → Type 0) (m : Monic) (scale : Float) (start : Step)
+    → (T (nothingFrom m scale start) → P noRoot)
+    → (T (not (nothingFrom m scale start)) → (r : Roots) → OneRoot r → P r)
+    → P (after start (pure noRoot) (rescaledRoot m scale) .value)
+unfolding nothingFrom rescaledRoot
+started P m scale Stop none some = none tt
+started P m scale (Next start) none some =
+    let root = mul binary64 (newtonSteps 4 m start .value) scale in
+    either-way (λ (m : Traced Roots). P (m .value)) (finite root)
+    (λ h. some (twice (finite root) h) (One root) (one root h))
+    none
+
+pub cubic-answer : (b c d : Float) → CubicAnswer b c d (polishedCubicRoot b c d .value)
+unfolding polishedCubicRoot polishedRoot noCubicRoot
+cubic-answer b c d =
+    let scale = cubicVariableScale b c d .value in
+    let m = normalised b c d scale .value in
+    let zeros = allZero b c d in
+    let none : Bool = nothingFrom m scale (startRoot m .value) in
+    let P : Traced Roots → Type 0 = λ m. CubicAnswer b c d (m .value) in
+    either-finite P (not (finite b) || not (finite c) || not (finite d))
+    (finite b && finite c && finite d) (all-finite (finite b) (finite c) (finite d))
+    (λ nonfinite. cubic-4 nonfinite (refused 4))
+    (λ all.
+    either-way P zeros
+    (λ z. cubic-root all (not-both-left (not zeros) none (twice zeros z)) (one plusZero zero-finite))
+    (λ some.
+    started (CubicAnswer b c d) m scale (startRoot m .value)
+    (λ stop. cubic-6 all (and-i (not zeros) none some stop) (refused 6))
+    (λ goes r found. cubic-root all (not-both-right (not zeros) none goes) found)))
+
+-- ---- the cases of `Roots` that do not come up
+pub quadratic-not-one : {b c x : Float} → QuadraticAnswer b c (One x) → ⊥
+quadratic-not-one (quadratic-4 h none) = let e = none .refused in omega (arith, e)
+quadratic-not-one (quadratic-5 h k none) = let e = none .refused in omega (arith, e)
+quadratic-not-one (quadratic-roots h k found) =
+    let e = ap length (found .roots) in
+    omega (arith, e)
+
+pub quadratic-not-0 : {b c : Float} → QuadraticAnswer b c (Refused 0) → ⊥
+quadratic-not-0 (quadratic-4 h none) = let e = none .refused in omega (arith, e)
+quadratic-not-0 (quadratic-5 h k none) = let e = none .refused in omega (arith, e)
+quadratic-not-0 (quadratic-roots h k found) =
+    let e = ap length (found .roots) in
+    omega (arith, e)
+
+pub cubic-not-two : {b c d x y : Float} → CubicAnswer b c d (Two x y) → ⊥
+cubic-not-two (cubic-4 h none) = let e = none .refused in omega (arith, e)
+cubic-not-two (cubic-6 h k none) = let e = none .refused in omega (arith, e)
+cubic-not-two (cubic-root h k found) = let e = ap length (found .roots) in omega (arith, e)
+
+pub cubic-not-0 : {b c d : Float} → CubicAnswer b c d (Refused 0) → ⊥
+cubic-not-0 (cubic-4 h none) = let e = none .refused in omega (arith, e)
+cubic-not-0 (cubic-6 h k none) = let e = none .refused in omega (arith, e)
+cubic-not-0 (cubic-root h k found) = let e = ap length (found .roots) in omega (arith, e)
