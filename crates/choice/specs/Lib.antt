@@ -3,3 +3,4 @@ pub mod Types
 pub mod Answer
 pub mod Score
 pub mod Choose
+pub mod OneAnswer

@@ -1,10 +1,9 @@
 -- Demand 1 of the mission for the root finders, as specs/OneAnswer.antt states it: the quadratic
 -- answers with two roots, 4 or 5 (`quadratic-answer`), the cubic with one root, 4 or 6
--- (`cubic-answer`). So the quadratic never has one root (`quadratic-not-one`) and the cubic never
--- two (`cubic-not-two`), and no refusal has number 0. Assumes nothing.
+-- (`cubic-answer`). So a quadratic that is not refused has two roots (`quadratic-two`), and such a
+-- cubic has one (`cubic-one`). Assumes nothing.
 use mathlib.Core.Path.{_≡_, refl, ap, subst}
 use mathlib.Core.Bool.{Bool, true, false, not, _&&_, _||_}
-use mathlib.Core.List.{List}
 use Prim.Native.Nat.{ℕ}
 use native.Mathlib.Omega.{arith}
 use lib.Dec.{T}
@@ -20,7 +19,7 @@ use Rattle.cubic_parts.specs.CubicScale.{allZero, cubicVariableScale, normalise
 use Rattle.cubic_parts.specs.CubicStart.{startRoot}
 use Rattle.cubic_parts.specs.Newton.{newtonSteps}
 use Rattle.cubic_parts.specs.Steps.{after}
-use Rattle.polynomial.specs.Answer.{noRoot}
+use Rattle.polynomial.specs.Answer.{noRoot, number, values}
 use Rattle.polynomial.specs.Quadratic.{quadraticPair, quadraticRealMonicComputed}
 use Rattle.polynomial.specs.Quadratic.{quadraticRealMonic}
 use Rattle.polynomial.specs.PolishedRoot.{rescaledRoot, polishedRoot, polishedCubicRoot}
@@ -119,27 +118,31 @@ cubic-answer b c d =
     (λ stop. cubic-6 all (and-i (not zeros) none some stop) (refused 6))
     (λ goes r found. cubic-root all (not-both-right (not zeros) none goes) found)))
 
--- ---- the cases of `Roots` that do not come up
-pub quadratic-not-one : {b c x : Float} → QuadraticAnswer b c (One x) → ⊥
-quadratic-not-one (quadratic-4 h none) = let e = none .refused in omega (arith, e)
-quadratic-not-one (quadratic-5 h k none) = let e = none .refused in omega (arith, e)
-quadratic-not-one (quadratic-roots h k found) =
-    let e = ap length (found .roots) in
-    omega (arith, e)
+-- ---- so an answer that is not refused has two roots, or one
+two-of : {b c : Float} {r : Roots}
+    → QuadraticAnswer b c r
+    → number r ≡ 0
+    → length (values r) ≡ 2
+two-of (quadratic-4 h none) e = let n = none .refused in absurd (omega (arith, n, e))
+two-of (quadratic-5 h k none) e = let n = none .refused in absurd (omega (arith, n, e))
+two-of (quadratic-roots h k found) e = ap length (found .roots)
 
-pub quadratic-not-0 : {b c : Float} → QuadraticAnswer b c (Refused 0) → ⊥
-quadratic-not-0 (quadratic-4 h none) = let e = none .refused in omega (arith, e)
-quadratic-not-0 (quadratic-5 h k none) = let e = none .refused in omega (arith, e)
-quadratic-not-0 (quadratic-roots h k found) =
-    let e = ap length (found .roots) in
-    omega (arith, e)
+pub quadratic-two : (b c : Float)
+    → let answer = quadraticRealMonic b c .value in
+    number answer ≡ 0
+    → length (values answer) ≡ 2
+quadratic-two b c = two-of (quadratic-answer b c)
 
-pub cubic-not-two : {b c d x y : Float} → CubicAnswer b c d (Two x y) → ⊥
-cubic-not-two (cubic-4 h none) = let e = none .refused in omega (arith, e)
-cubic-not-two (cubic-6 h k none) = let e = none .refused in omega (arith, e)
-cubic-not-two (cubic-root h k found) = let e = ap length (found .roots) in omega (arith, e)
+one-of : {b c d : Float} {r : Roots}
+    → CubicAnswer b c d r
+    → number r ≡ 0
+    → length (values r) ≡ 1
+one-of (cubic-4 h none) e = let n = none .refused in absurd (omega (arith, n, e))
+one-of (cubic-6 h k none) e = let n = none .refused in absurd (omega (arith, n, e))
+one-of (cubic-root h k found) e = ap length (found .roots)
 
-pub cubic-not-0 : {b c d : Float} → CubicAnswer b c d (Refused 0) → ⊥
-cubic-not-0 (cubic-4 h none) = let e = none .refused in omega (arith, e)
-cubic-not-0 (cubic-6 h k none) = let e = none .refused in omega (arith, e)
-cubic-not-0 (cubic-root h k found) = let e = ap length (found .roots) in omega (arith, e)
+pub cubic-one : (b c d : Float)
+    → let answer = polishedCubicRoot b c d .value in
+    number answer ≡ 0
+    → length (values answer) ≡ 1
+cubic-one b c d = one-of (cubic-answer b c d)
