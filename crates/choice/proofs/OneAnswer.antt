@@ -1,9 +1,8 @@
 -- Demand 1 of the mission for the choice, as specs/OneAnswer.antt states it, by induction over the
 -- poses: what holds of the scores passed so far holds with one more (`with-one`). Assumes nothing.
 use mathlib.Core.Path.{_≡_, refl, sym, ap, _∙_, subst}
-use mathlib.Core.Bool.{not}
 use mathlib.Core.List.{List, [], _∷_, _++_, map, append-nil, append-assoc}
-use Prim.Native.Nat.{ℕ, _+_, _≤_, min}
+use Prim.Native.Nat.{ℕ, _+_, min}
 use native.Mathlib.Nat.{min-le-left, min-le-right}
 use native.Mathlib.Omega.{arith}
 use lib.Dec.{T, T-not}
@@ -77,17 +76,20 @@ module _ (passed : List Float) (value : Float) where
       → Each (Above value) passed
   below-each {lowest = lowest} f w h =
       let L = w .lowest-finite in
-      subst (Each (Above value)) (sym (w .scores-are))
-      (each-append (Above value) (w .before) (lowest ∷ w .after)
-      (each-also (Above lowest) (Above value)
+      let before : Each (Above value) (w .before) =
+      each-also (Above lowest) (Above value)
       (λ x above X. below-third value lowest x f L X h (not-both-below lowest x L X (above X)))
-      (w .before) (w .earlier)) (
-        λ _. h,
-        each-also (NotBelow lowest) (Above value)
-            (λ x not-below X. below-third value lowest x f L X h (not-below X)) (w .after) (w .later),
-      ))
+      (w .before) (w .earlier) in
+      let after : Each (Above value) (w .after) =
+      each-also (NotBelow lowest) (Above value)
+      (λ x not-below X. below-third value lowest x f L X h (not-below X))
+      (w .after) (w .later) in
+      subst (Each (Above value)) (sym (w .scores-are))
+      (each-append (Above value) (w .before) (lowest ∷ w .after) before (λ _. h, after))
 
-  with-one : (best : Choice) → Among passed best → Among more (better best (length passed + 1) value)
+  with-one : (best : Choice)
+      → Among passed best
+      → Among more (better best (length passed + 1) value)
   unfolding better lower
   with-one (Refused n) h =
       either-way (Among more) (finite value)

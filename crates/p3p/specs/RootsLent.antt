@@ -1,14 +1,11 @@
--- What the doubles that are lent to a root finder hold when it returns: a root, or what they held
--- before where there is none to write: document 01, "Questions, in order".
+-- What the doubles that are lent to a root finder hold when it returns, in their order: the roots,
+-- or what they held before where it refuses: document 01, "Questions, in order".
+use mathlib.Core.List.{List}
+use lib.Dec.{eqb}
 use lib.Ieee.{Float}
-use Rattle.p3p.specs.Types.{Roots, Two, One, Refused}
+use Rattle.ieee754.specs.Traced.{if_then_else_}
+use Rattle.polynomial.specs.Answer.{number, values}
+use Rattle.p3p.specs.Types.{Roots}
 
-abbrev pub firstAfter : Roots → Float → Float
-firstAfter (Two x y) held = x
-firstAfter (One x) held = x
-firstAfter (Refused n) held = held
-
-abbrev pub secondAfter : Roots → Float → Float
-secondAfter (Two x y) held = y
-secondAfter (One x) held = held
-secondAfter (Refused n) held = held
+abbrev pub rootsAfter : Roots → List Float → List Float
+rootsAfter answer held = if eqb (number answer) 0 then values answer else held

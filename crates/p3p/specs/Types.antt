@@ -6,6 +6,6 @@ pub use Rattle.frames.specs.declared.bearings.Bearings.{Bearings}
 pub use Rattle.frames.specs.declared.pose.Pose.{Pose}
 pub use Rattle.frames.specs.declared.world.World.{World}
 pub use Rattle.polynomial.specs.declared.Roots.{Roots}
-pub use Rattle.polynomial.specs.declared.Roots.the-variants.{Two, One, Refused}
+pub use Rattle.polynomial.specs.declared.Roots.the-variants.{Refused}
 pub use Rattle.lambdatwist.specs.declared.solve.Answer.{Answer}
 pub use Rattle.choice.specs.declared.choose.Choice.{Choice}

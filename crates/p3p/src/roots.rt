@@ -1,10 +1,11 @@
 // The root finders. Each returns 0, or the refusal number of document 01 with nothing written.
 ghost use mathlib.Core.Path.{_≡_};
+ghost use mathlib.Core.List.{[], _∷_};
 ghost use Rattle.polynomial.specs.Answer.{number};
 ghost use Rattle.cubic_parts.specs.FastCbrt.{fastCbrt};
 ghost use Rattle.polynomial.specs.PolishedRoot.{polishedCubicRoot};
 ghost use Rattle.polynomial.specs.Quadratic.{quadraticRealMonic};
-ghost use Rattle.p3p.specs.RootsLent.{firstAfter, secondAfter};
+ghost use Rattle.p3p.specs.RootsLent.{rootsAfter};
 use polynomial::Roots;
 
 // The two roots of x^2 + b*x + c, not sorted.
@@ -12,9 +13,9 @@ use polynomial::Roots;
 pub extern "C" fn p3p_quadratic(b: f64, c: f64, first: &mut f64, second: &mut f64) -> u32
     ensures { λ r. ⌜ r ≡ number (quadraticRealMonic b c .value) ⌝ }
     ensures { λ _.
-        ⌜ now (first .exit) ≡ firstAfter (quadraticRealMonic b c .value) (now (first .entry)) ⌝ }
-    ensures { λ _.
-        ⌜ now (second .exit) ≡ secondAfter (quadraticRealMonic b c .value) (now (second .entry)) ⌝ }
+        ⌜ now (first .exit) ∷ now (second .exit) ∷ []
+        ≡ rootsAfter (quadraticRealMonic b c .value)
+        (now (first .entry) ∷ now (second .entry) ∷ []) ⌝ }
 {
     let roots = polynomial::quadratic::quadratic_real_monic(b, c);
     match roots {
@@ -23,10 +24,8 @@ pub extern "C" fn p3p_quadratic(b: f64, c: f64, first: &mut f64, second: &mut f6
             *second = y;
             0
         }
-        Roots::One(x) => {
-            *first = x;
-            0
-        }
+        // Never reached: `quadratic-two` in crates/polynomial/proofs/OneAnswer.antt.
+        Roots::One(_) => 0,
         Roots::Refused(refusal) => refusal,
     }
 }
@@ -36,14 +35,13 @@ pub extern "C" fn p3p_quadratic(b: f64, c: f64, first: &mut f64, second: &mut f6
 pub extern "C" fn p3p_cubic(b: f64, c: f64, d: f64, root: &mut f64) -> u32
     ensures { λ r. ⌜ r ≡ number (polishedCubicRoot b c d .value) ⌝ }
     ensures { λ _.
-        ⌜ now (root .exit) ≡ firstAfter (polishedCubicRoot b c d .value) (now (root .entry)) ⌝ }
+        ⌜ now (root .exit) ∷ []
+        ≡ rootsAfter (polishedCubicRoot b c d .value) (now (root .entry) ∷ []) ⌝ }
 {
     let roots = polynomial::cubic::polished_cubic_root(b, c, d);
     match roots {
-        Roots::Two(x, _) => {
-            *root = x;
-            0
-        }
+        // Never reached: `cubic-one` in crates/polynomial/proofs/OneAnswer.antt.
+        Roots::Two(_, _) => 0,
         Roots::One(x) => {
             *root = x;
             0

@@ -112,7 +112,8 @@ cubic-answer b c d =
     (λ nonfinite. cubic-4 nonfinite (refused 4))
     (λ all.
     either-way P zeros
-    (λ z. cubic-root all (not-both-left (not zeros) none (twice zeros z)) (one plusZero zero-finite))
+    (λ z.
+    cubic-root all (not-both-left (not zeros) none (twice zeros z)) (one plusZero zero-finite))
     (λ some.
     started (CubicAnswer b c d) m scale (startRoot m .value)
     (λ stop. cubic-6 all (and-i (not zeros) none some stop) (refused 6))

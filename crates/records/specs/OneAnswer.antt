@@ -11,10 +11,10 @@ use Rattle.records.specs.Types.{Frame, Record}
 
 -- an answer by its number, its frame if there is one, and where the next record begins if there can
 -- be one
-pub record Gives (n : ℕ) (fs : List Frame) (at : List ℕ) (answer : Record) : Type 0 where
+pub record Gives (n : ℕ) (fs : List Frame) (next : List ℕ) (answer : Record) : Type 0 where
   pub number-is : number answer ≡ n
   pub frames-are : frames answer ≡ fs
-  pub nexts-are : nexts answer ≡ at
+  pub nexts-are : nexts answer ≡ next
 
 -- the number that the two length bytes stand for
 abbrev pub lengthAt : List ℕ → ℕ → ℕ
@@ -23,8 +23,8 @@ lengthAt s at = bigEndian (part s at 2)
 abbrev pub versionAt : List ℕ → ℕ → ℕ
 versionAt s at = getD s (at + 2) 0
 
--- ---- no byte is left; one only; two, and the length is not 193; it is, and less than 195 are left;
---      all are there, and the version is not 1; it is
+-- ---- no byte is left; only one is; two are, and the length is not 193; it is, but of the 195 some
+--      are missing; all are there, but the version is not 1; it is
 pub data OneAnswer (s : List ℕ) (at : ℕ) (answer : Record) : Type 0 where
   ended : length s ≤ at → Gives 0 [] [] answer → OneAnswer s at answer
   no-length-9 : at < length s
