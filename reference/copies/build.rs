@@ -3,7 +3,8 @@
 //! P3P_SOURCES names the folder of the originals: a checkout of openMVG/openmvg-rs
 //! at fce50650ac, or a folder with the three files under their flattened names.
 //! copy-asis is the test copy; copy-second the second copy, made from the first;
-//! copy-counted the second copy with a counter at each branch.
+//! copy-counted the second copy with a counter at each branch; copy-flags the second copy
+//! for reading the processor's exception flags.
 //!
 //! An edit: a line `@ FILE FUNCTION [K/N | all/N]`, then lines `- old`, then lines
 //! `+ new`. Within that function (`*`: within the file) the old text must stand
@@ -31,6 +32,7 @@ fn main() {
         "copy-asis" => &["test-copy"],
         "copy-second" => &["test-copy", "second-copy"],
         "copy-counted" => &["test-copy", "second-copy", "counters"],
+        "copy-flags" => &["test-copy", "second-copy", "flags"],
         name => panic!("no copy is named {name}"),
     };
 

@@ -8,6 +8,8 @@ extern crate self as openmvg_core;
 
 use nalgebra::{Matrix3, Point3, UnitVector3, Vector3};
 
+#[cfg(target_arch = "x86_64")]
+pub mod flags;
 pub mod listed;
 pub mod reach;
 pub mod record;

@@ -6,6 +6,8 @@ mod beside;
 mod check;
 mod choice;
 mod coverage;
+#[cfg(target_arch = "x86_64")]
+mod flags;
 mod frames;
 mod orders;
 #[cfg(port)]
@@ -29,6 +31,9 @@ reference beside [COUNT [SEED]]  the port and both copies on the same random inp
 reference pieces COUNT FUNCTION..  the same on COUNT random inputs of each function named
 reference bench [COUNT]          how long a solve takes, the port beside the unchanged copy and,
                                  where P3P_PEERS was set, other solvers (COUNT frames of a sort)
+reference frames COUNT FILE       COUNT random frames of each kind, eighteen words a frame
+reference flags FILE             the exception flags that the processor raises in each frame's solve,
+                                 and the answer
 reference search FUNCTION N SEED COUNT | FILE
                                  inputs that reach what fewer than N stored ones reach";
 
@@ -57,6 +62,12 @@ fn main() {
         ["bench", ..] => {
             Err("built without the port (set P3P_PORT to its static library)".to_string())
         }
+        #[cfg(target_arch = "x86_64")]
+        ["frames", count, path] => {
+            number(count).and_then(|count| flags::frames(count, vectors::SEED, path))
+        }
+        #[cfg(target_arch = "x86_64")]
+        ["flags", path] => flags::run(path),
         ["search", name, enough, seed, count] => (|| {
             let source = vectors::Source::Random { seed: number(seed)?, count: number(count)? };
             vectors::search(name, source, number(enough)? as usize);

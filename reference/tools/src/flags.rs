@@ -1,0 +1,50 @@
+//! What a solve raises of the processor's exception flags, for frames of a file; and frames of
+//! every kind for such a file. A frame is eighteen words, big-endian.
+
+use crate::frames;
+use crate::random::Random;
+use crate::table::word;
+use std::fs;
+use std::io::{self, BufWriter, Write};
+
+/// A line a frame: the flags (copies/flags.rs) in two hexadecimal digits, the refusal number, the
+/// count, and for each pose its updates and twelve words.
+pub fn run(path: &str) -> Result<(), String> {
+    let bytes = fs::read(path).map_err(|e| format!("{path}: {e}"))?;
+    if bytes.len() % 144 != 0 {
+        return Err(format!("{path}: not a row of frames of 144 bytes"));
+    }
+    let mut out = BufWriter::new(io::stdout().lock());
+    for frame in bytes.chunks(144) {
+        let input = std::array::from_fn(|index| {
+            f64::from_bits(u64::from_be_bytes(frame[8 * index..][..8].try_into().unwrap()))
+        });
+        line(&mut out, &input).map_err(|e| e.to_string())?;
+    }
+    out.flush().map_err(|e| e.to_string())
+}
+
+fn line(out: &mut impl Write, input: &[f64; 18]) -> io::Result<()> {
+    let (answer, flags) = copy_flags::flags::solve(input);
+    write!(out, "{flags:02x} {} {}", answer.refusal, answer.count)?;
+    for slot in 0..answer.count {
+        write!(out, " {}", answer.updates[slot])?;
+        for entry in answer.poses[slot] {
+            write!(out, " {:016x}", word(entry))?;
+        }
+    }
+    writeln!(out)
+}
+
+/// So many frames of each kind.
+pub fn frames(count: u64, seed: u64, path: &str) -> Result<(), String> {
+    let mut bytes = Vec::new();
+    let mut seeds = Random::new(seed);
+    for (_, _, make) in frames::KINDS {
+        let mut r = Random::new(seeds.word());
+        for _ in 0..count {
+            bytes.extend(make(&mut r)[..18].iter().flat_map(|x| x.to_bits().to_be_bytes()));
+        }
+    }
+    fs::write(path, bytes).map_err(|e| format!("{path}: {e}"))
+}

@@ -1,0 +1,138 @@
+#!/usr/bin/env python3
+"""The premise of the scaling rule beside runs of the Rust: `.regular` of the definition `solve`
+against the exception flags that the processor raises in the Rust's solve of the same frame.
+
+  tests/premise/run.py SOURCES                 compare; any violation ends with status 1
+  tests/premise/run.py SOURCES --must-notice   the same with each wrong reading of wrong.py in turn,
+                                               which must give a violation
+  .. --each=N                                  frames of each of the reference's kinds (200)
+
+SOURCES is the folder of the Rust's originals (reference/README.md). Run it at the repository's
+root, on x86-64, after reference/fetch-nalgebra.sh. README.md says what is compared."""
+import os
+import struct
+import subprocess
+import sys
+import time
+from collections import Counter
+from concurrent.futures import ProcessPoolExecutor
+
+import compare
+import frames
+import wrong
+from interpret import raised
+
+ROOT = os.getcwd()
+FOLDER = os.path.join(ROOT, "target", "premise")
+DIRECTIONS = {
+    "(a) raised, though regular": compare.raised_though_regular,
+    "(b) not regular, and nothing raised": compare.silent_though_irregular,
+    "other flags than the definition's operations raise": compare.other_flags,
+    "another answer": lambda seen: not seen.same,
+}
+
+
+def brinks(frame):
+    return list(frames.brinks(frame, compare.Definition(ROOT).is_regular))
+
+
+def flags_of(sources, listed):
+    """The lines of the reference's command `flags` for these frames."""
+    path = os.path.join(FOLDER, "frames.bin")
+    with open(path, "wb") as file:
+        file.writelines(struct.pack(">18Q", *frame) for _, frame in listed)
+    command = [os.path.join(ROOT, "reference/run"), sources, "flags", path]
+    done = subprocess.run(command, check=True, stdout=subprocess.PIPE, text=True)
+    return done.stdout.splitlines()
+
+
+def see_all(work):
+    """What is seen of some frames, by the definition with a wrong reading or None."""
+    reading, pairs = work
+    definition = compare.Definition(ROOT, reading and wrong.changed(ROOT, reading))
+    return [compare.see(definition, frame, line) for frame, line in pairs]
+
+
+def seen_of(pool, listed, lines, reading=None):
+    pairs = [(frame, line) for (_, frame), line in zip(listed, lines, strict=True)]
+    works = [(reading, pairs[i : i + 500]) for i in range(0, len(pairs), 500)]
+    return [seen for part in pool.map(see_all, works) for seen in part]
+
+
+def violations(seen):
+    return {name: [i for i, s in enumerate(seen) if test(s)] for name, test in DIRECTIONS.items()}
+
+
+def named(marks):
+    return ", ".join(name for bit, name in raised.NAMES.items() if marks & bit) or "nothing"
+
+
+def print_counts(listed, seen):
+    sorts = Counter(sort for sort, _ in listed)
+    regular = Counter(sort for (sort, _), s in zip(listed, seen) if s.regular)
+    for sort, count in sorts.items():
+        print(f"  {sort}: {count}, of which regular {regular[sort]}")
+    irregular = [s for s in seen if not s.regular]
+    print(f"{len(seen)} frames: {len(seen) - len(irregular)} regular, {len(irregular)} not")
+    for bit in (raised.DIVISION, raised.OVERFLOW, raised.UNDERFLOW, raised.INVALID):
+        print(f"  not regular, with {named(bit)}: {sum(1 for s in irregular if s.flags & bit)}")
+    quiet = Counter(
+        (named(s.marks), named(s.flags & raised.DENORMAL))
+        for s in irregular
+        if not s.flags & compare.TELLING
+    )
+    print(f"  not regular, with none of these: {sum(quiet.values())}")
+    for (marks, flag), count in quiet.items():
+        print(f"    by {marks}, raised: {flag}: {count}")
+    roots = sum(1 for s in seen if s.marks & raised.NEGATIVE_ROOT)
+    print(f"  with a negative number's square root: {roots}")
+
+
+def print_violations(listed, found):
+    for name, places in found.items():
+        print(f"{name}: {len(places)}")
+        for i in places[:3]:
+            print(f"  {listed[i][0]}: {' '.join(f'{w:016x}' for w in listed[i][1])}")
+    total = sum(len(places) for places in found.values())
+    print(f"{total} violations")
+    return total == 0
+
+
+def must_notice(pool, listed, lines):
+    """Whether every wrong reading is noticed in one direction or the other."""
+    well = True
+    for reading in wrong.READINGS:
+        found = violations(seen_of(pool, listed, lines, reading))
+        counts = [len(found[name]) for name in list(DIRECTIONS)[:2]]
+        noticed = any(counts)
+        well &= noticed
+        print(f"{'noticed' if noticed else 'NOT NOTICED'}: {reading}: (a) {counts[0]}, "
+              f"(b) {counts[1]}, flags {len(found[list(DIRECTIONS)[2]])}")  # fmt: skip
+    return well
+
+
+def main():
+    words = [w for w in sys.argv[1:] if not w.startswith("--")]
+    options = [w for w in sys.argv[1:] if w.startswith("--")]
+    if len(words) != 1 or not os.path.exists("crates.txt"):
+        sys.exit(__doc__)
+    each = next((int(w[7:]) for w in options if w.startswith("--each=")), 200)
+    os.makedirs(FOLDER, exist_ok=True)
+    started = time.monotonic()
+    reference = os.path.join(ROOT, "reference/run")
+    with ProcessPoolExecutor(os.cpu_count()) as pool:
+        brinks_of = lambda plates: pool.map(brinks, plates)
+        listed = frames.all_frames(ROOT, reference, words[0], FOLDER, each, brinks_of)
+        lines = flags_of(words[0], listed)
+        if "--must-notice" in options:
+            well = must_notice(pool, listed, lines)
+        else:
+            seen = seen_of(pool, listed, lines)
+            print_counts(listed, seen)
+            well = print_violations(listed, violations(seen))
+    print(f"{time.monotonic() - started:.0f} seconds", file=sys.stderr)
+    sys.exit(0 if well else 1)
+
+
+if __name__ == "__main__":
+    main()
