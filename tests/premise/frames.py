@@ -14,6 +14,10 @@ def bits(x):
     return struct.unpack(">Q", struct.pack(">d", x))[0]
 
 
+def of_word(word):
+    return struct.unpack(">d", struct.pack(">Q", word))[0]
+
+
 def doubles(frame):
     return struct.unpack(">18d", struct.pack(">18Q", *frame))
 
@@ -66,13 +70,15 @@ def brinks(frame, is_regular):
         if not is_regular(scaled(frame, inside)) or is_regular(scaled(frame, outside)):
             continue
         step = -1 if outside < inside else 1
-        last = next(k for k in range(inside, outside, step) if not is_regular(scaled(frame, k + step)))
-        yield from bisected(frame, min(last, last + step), is_regular)
+        k = inside
+        while is_regular(scaled(frame, k + step)):
+            k += step
+        yield from bisected(frame, min(k, k + step), is_regular)
 
 
 def bisected(frame, k, is_regular):
     """Where the premise changes between the world times 2^k and times 2^(k + 1)."""
-    at = lambda word: scaled(frame, k, struct.unpack(">d", struct.pack(">Q", word))[0])
+    at = lambda word: scaled(frame, k, of_word(word))
     low, high = bits(1.0), bits(2.0)
     first = is_regular(at(low))
     while high - low > 1:
@@ -112,7 +118,7 @@ EDGES = {
 
 
 def at_edges(frame):
-    """In two bearings an entry is replaced, so that a product of their dot product is at an edge."""
+    """In two bearings an entry is replaced, so that a product in their dot is at an edge."""
     for u, v in EDGES.values():
         for i, j in [(0, 1), (1, 2), (2, 0)]:
             for axis in range(3):
@@ -134,6 +140,17 @@ def at_sums(frame, r):
             yield of_doubles(xs)
 
 
+def alike(r):
+    """Two points alike, and bearings that are all but alike: many reach the division by the length
+    of `eigenvector_from_row_crosses` with a length of zero, and meet the premise up to there."""
+    points = [[float(r.randint(-3, 3)) for _ in range(3)] for _ in range(3)]
+    one, other = r.sample(range(3), 2)
+    points[one] = points[other]
+    aside = lambda: r.randint(-16, 16) * 2.0 ** -r.randint(24, 30)
+    bearings = [[1.0, aside(), aside()] for _ in range(3)]
+    return of_doubles(x for vector in points + bearings for x in vector)
+
+
 def with_zeros(frame, r):
     """Some coordinates and entries zero, of either sign."""
     return tuple(r.choice([0, 1 << 63]) if r.random() < 0.3 else w for w in frame)
@@ -149,6 +166,7 @@ def all_frames(root, reference, sources, folder, each, brinks_of):
         "of the reference's kinds": kinds,
         "stored": stored(root),
         "whole numbers": [whole(r, most) for most in (1, 2, 3) for _ in range(6 * each)],
+        "two points alike": [alike(r) for _ in range(3 * each)],
         "plates swept by 2^k": [f for plate in plates[::4] for f in swept(plate)],
         "plates at the brink": [f for found in brinks_of(plates) for f in found],
         "products at the edges": [f for plate in plates[::2] for f in at_edges(plate)],

@@ -19,6 +19,7 @@ from concurrent.futures import ProcessPoolExecutor
 
 import compare
 import frames
+import natives
 import wrong
 from interpret import raised
 
@@ -99,16 +100,25 @@ def print_violations(listed, found):
 
 
 def must_notice(pool, listed, lines):
-    """Whether every wrong reading is noticed in one direction or the other."""
+    """Whether every wrong reading is noticed in one direction or the other: the first on all
+    frames, the others on every fifth."""
     well = True
-    for reading in wrong.READINGS:
-        found = violations(seen_of(pool, listed, lines, reading))
-        counts = [len(found[name]) for name in list(DIRECTIONS)[:2]]
-        noticed = any(counts)
+    for place, reading in enumerate(wrong.READINGS):
+        step = 5 if place else 1
+        found = violations(seen_of(pool, listed[::step], lines[::step], reading))
+        raised_only, silent_only, flags, _ = (len(places) for places in found.values())
+        noticed = raised_only + silent_only > 0
         well &= noticed
-        print(f"{'noticed' if noticed else 'NOT NOTICED'}: {reading}: (a) {counts[0]}, "
-              f"(b) {counts[1]}, flags {len(found[list(DIRECTIONS)[2]])}")  # fmt: skip
+        print(f"{'noticed' if noticed else 'NOT NOTICED'}: {reading}")
+        print(f"  of {len(listed[::step])} frames (a) {raised_only}, (b) {silent_only}, "
+              f"other flags {flags}", flush=True)  # fmt: skip
     return well
+
+
+def natives_agree():
+    asked, differ = natives.differences(ROOT)
+    print(f"roots and fused multiply-add beside their text: {asked} asked, {len(differ)} differ")
+    return not differ
 
 
 def main():
@@ -129,7 +139,7 @@ def main():
         else:
             seen = seen_of(pool, listed, lines)
             print_counts(listed, seen)
-            well = print_violations(listed, violations(seen))
+            well = print_violations(listed, violations(seen)) and natives_agree()
     print(f"{time.monotonic() - started:.0f} seconds", file=sys.stderr)
     sys.exit(0 if well else 1)
 

@@ -31,17 +31,15 @@ READINGS = {
               pure (Next offset)
 """,
     ),
-    "all three rays tested, whatever the first says": (
-        "crates/p3p_common/specs/ProjectedPose.antt",
-        """      if not fits0 then pure false
-          else do
-            fits1 ← observationFits pose p1 f1
-            if not fits1 then pure false else observationFits pose p2 f2
+    "the leading share divided before its test": (
+        "crates/orderings/specs/Condition.antt",
+        """    if eq (foldedScale c) plusZero || not (finite (foldedScale c)) then pure plusZero
+    else ! abs (c .cubic3) ⊘ ! foldedScale c
 """,
-        """      fits1 ← observationFits pose p1 f1
-      fits2 ← observationFits pose p2 f2
-      if not fits0 then pure false
-          else if not fits1 then pure false else pure fits2
+        """    do
+      share ← ! abs (c .cubic3) ⊘ ! foldedScale c
+      if eq (foldedScale c) plusZero || not (finite (foldedScale c)) then pure plusZero
+          else pure share
 """,
     ),
     "2^-1022 itself too small": (

@@ -31,9 +31,9 @@ reference beside [COUNT [SEED]]  the port and both copies on the same random inp
 reference pieces COUNT FUNCTION..  the same on COUNT random inputs of each function named
 reference bench [COUNT]          how long a solve takes, the port beside the unchanged copy and,
                                  where P3P_PEERS was set, other solvers (COUNT frames of a sort)
-reference frames COUNT FILE       COUNT random frames of each kind, eighteen words a frame
-reference flags FILE             the exception flags that the processor raises in each frame's solve,
-                                 and the answer
+reference frames COUNT FILE      COUNT random frames of each kind, eighteen words a frame
+reference flags FILE             the exception flags that the processor raises in the solve of each
+                                 frame of a file, and the answers
 reference search FUNCTION N SEED COUNT | FILE
                                  inputs that reach what fewer than N stored ones reach";
 

@@ -41,10 +41,11 @@ def record_class(names, found={}):
 
 
 class Program:
-    """The definitions under a root; `changed` gives other texts for some files."""
+    """The definitions under a root; `changed` gives other texts for some files, and `native` the
+    definitions that are not read from their text."""
 
-    def __init__(self, root, changed=None):
-        self.modules = Modules(root, changed)
+    def __init__(self, root, changed=None, native=library.NATIVE):
+        self.modules, self.native = Modules(root, changed), native
         self.arity = {}  # by a Python name: how many arguments it takes
         self.space = {
             "partial": functools.partial, "parts": library.parts,
@@ -76,8 +77,8 @@ class Program:
 
     def define(self, key, definition):
         arity = len(definition.clauses[0][0])
-        if key in library.NATIVE:
-            return self.add(key, arity, library.NATIVE[key])
+        if key in self.native:
+            return self.add(key, arity, self.native[key])
         python = self.add(key, arity, None)
         text = Compiler(self, definition).function(python)
         exec(compile(text, f"{definition.path}: {definition.name}", "exec"), self.space)

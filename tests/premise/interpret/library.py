@@ -81,17 +81,36 @@ def fused(x, y, z):
     (a, b), (c, d), (e, f) = (v.as_integer_ratio() for v in (x, y, z))
     n = a * c * f + e * b * d
     if n == 0:
-        return x * y + z if a * c == 0 or e == 0 else 0.0
-    try:
-        return n / (b * d * f)  # Python divides whole numbers with one rounding
-    except OverflowError:
-        return math.inf if n > 0 else -math.inf
+        return x * y + z if a * c == 0 else 0.0
+    return quotient(n < 0, abs(n), b * d * f)
 
 
 def power(a, k):
-    if (a, k) not in POWERS:
-        POWERS[a, k] = a**k
-    return POWERS[a, k]
+    if a != 2:
+        return a**k
+    if k not in POWERS:
+        POWERS[k] = 1 << k
+    return POWERS[k]
+
+
+def quotient(s, n, d):
+    """The double nearest to ±n / d: Python divides whole numbers with one rounding."""
+    try:
+        x = n / d
+    except OverflowError:
+        x = math.inf
+    return -x if s else x
+
+
+def summed(_, s, a, t, b, c):
+    """±a / c + ±b / c; an exact zero is -0 where both signs are set, and else +0."""
+    total = (-a if s else a) + (-b if t else b)
+    return quotient(total < 0 or (total == 0 and s and t), abs(total), c)
+
+
+def nearest(q, order):
+    """q or q + 1, by how what is left compares with a half."""
+    return q + 1 if order > 0 or (order == 0 and q % 2) else q
 
 
 def put_at(xs, at, x):
@@ -110,6 +129,9 @@ NAMES = {
         "ofBits": (2, of_bits), "toBits": (2, to_bits),
         "up": (1, lambda e: 1 << e if e > 0 else 1), "down": (1, lambda e: 1 << -e if e < 0 else 1),
         "unlike": (2, lambda s, t: bool(s) != bool(t)),
+        "prec": (1, lambda f: 53), "low": (1, lambda f: 1074), "size": (1, int.bit_length),
+        "nearest": (2, nearest), "sum": (6, summed),
+        "units": (4, lambda f, s, q, k: quotient(s, q << k, 1 << 1074)),
     },
     "lib.Ieee.Scale": {"finite": (1, math.isfinite)},
     "lib.Dec": {
@@ -127,6 +149,7 @@ NAMES = {
         "zero": (0, 0), "suc": (1, lambda a: a + 1), "_+_": (2, lambda a, b: a + b),
         "_-_": (2, lambda a, b: max(a - b, 0)), "_*_": (2, lambda a, b: a * b),
         "_/_": (2, lambda a, b: a // b if b else 0), "_^_": (2, power),
+        "compare": (2, lambda a, b: (a > b) - (a < b)),
     },
 }  # fmt: skip
 
