@@ -6,6 +6,8 @@ import random
 import struct
 import subprocess
 
+import named
+
 SEED = 20180527
 QUIET = 0x0008000000000000
 
@@ -163,6 +165,7 @@ def all_frames(root, reference, sources, folder, each, brinks_of):
     # of the first nine kinds, which a camera could see
     plates = [kinds[each * kind + i] for kind in range(9) for i in range(min(each, 4))]
     sorts = {
+        "named": [named.frame(name) for name in named.NAMED],
         "of the reference's kinds": kinds,
         "stored": stored(root),
         "whole numbers": [whole(r, most) for most in (1, 2, 3) for _ in range(6 * each)],

@@ -19,6 +19,7 @@ from concurrent.futures import ProcessPoolExecutor
 
 import compare
 import frames
+import named
 import natives
 import wrong
 from interpret import raised
@@ -64,7 +65,7 @@ def violations(seen):
     return {name: [i for i, s in enumerate(seen) if test(s)] for name, test in DIRECTIONS.items()}
 
 
-def named(marks):
+def names_of(marks):
     return ", ".join(name for bit, name in raised.NAMES.items() if marks & bit) or "nothing"
 
 
@@ -76,9 +77,9 @@ def print_counts(listed, seen):
     irregular = [s for s in seen if not s.regular]
     print(f"{len(seen)} frames: {len(seen) - len(irregular)} regular, {len(irregular)} not")
     for bit in (raised.DIVISION, raised.OVERFLOW, raised.UNDERFLOW, raised.INVALID):
-        print(f"  not regular, with {named(bit)}: {sum(1 for s in irregular if s.flags & bit)}")
+        print(f"  not regular, with {names_of(bit)}: {sum(1 for s in irregular if s.flags & bit)}")
     quiet = Counter(
-        (named(s.marks), named(s.flags & raised.DENORMAL))
+        (names_of(s.marks), names_of(s.flags & raised.DENORMAL))
         for s in irregular
         if not s.flags & compare.TELLING
     )
@@ -121,6 +122,12 @@ def natives_agree():
     return not differ
 
 
+def named_as_expected():
+    other = named.unexpected(compare.Definition(ROOT))
+    print(f"named frames: {len(named.NAMED)}, of which other than expected {len(other)}")
+    return not other
+
+
 def main():
     words = [w for w in sys.argv[1:] if not w.startswith("--")]
     options = [w for w in sys.argv[1:] if w.startswith("--")]
@@ -139,7 +146,8 @@ def main():
         else:
             seen = seen_of(pool, listed, lines)
             print_counts(listed, seen)
-            well = print_violations(listed, violations(seen)) and natives_agree()
+            well = print_violations(listed, violations(seen))
+            well &= natives_agree() & named_as_expected()
     print(f"{time.monotonic() - started:.0f} seconds", file=sys.stderr)
     sys.exit(0 if well else 1)
 

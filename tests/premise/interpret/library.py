@@ -44,10 +44,11 @@ def infinity_of(s):
 
 
 def divide(_, x, y):
-    if y == 0 and x == x:
-        sign = math.copysign(1.0, x) * math.copysign(1.0, y)
-        return math.nan if x == 0 else math.inf * sign
-    return x / y
+    if y != 0:
+        return x / y
+    if x == 0 or x != x:
+        return math.nan
+    return math.inf * math.copysign(1.0, x) * math.copysign(1.0, y)
 
 
 def square_root(x):
