@@ -165,7 +165,7 @@ def all_frames(root, reference, sources, folder, each, brinks_of):
     # of the first nine kinds, which a camera could see
     plates = [kinds[each * kind + i] for kind in range(9) for i in range(min(each, 4))]
     sorts = {
-        "named": [named.frame(name) for name in named.NAMED],
+        "named": named.frames(),
         "of the reference's kinds": kinds,
         "stored": stored(root),
         "whole numbers": [whole(r, most) for most in (1, 2, 3) for _ in range(6 * each)],

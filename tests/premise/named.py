@@ -1,153 +1,32 @@
-"""A few frames at the edges of the premise by name: the three points and the three bearings by
-their bit patterns, whether the frame is regular, the refusal number and the count. The plate is
-`plateInMetres` with `plateBearings` of crates/theorems/specs/Plates.antt. What a frame that is not
-regular fails by stands after its name, or is its name."""
+"""A few frames at the edges of the premise by name, with whether each is regular, its refusal
+number and its count: those of crates/theorems/specs/PremiseCases.antt, of which the prover computes
+the same. What a frame that is not regular fails by stands after its name, or is its name."""
+import re
 
-NAMED = {
-    "the plate times 2^-120": (
-        """
-        38432617c1bda512 384d63886594af4f b7f26e978d4fdf3b
-        b846a7ef9db22d0e b8346dc5d6388659 37f5b573eab367a1
-        b8221ff2e48e8a72 3813dd97f62b6ae8 b79a36e2eb1c432d
-        3fde0c06af98346e 3fe781227c378885 3fdf5bbc7d1bbe65
-        3fedee70d70a68d1 3fd3f11dd8304640 3fc56cfa5b6f541c
-        3fe93a1f684708ab 3fe0b3f31cc92cba 3fd4d7d46da9b0d4
-        """,
-        True, 0, 2,
-    ),
-    "the plate times 2^-121: underflow": (
-        """
-        38332617c1bda512 383d63886594af4f b7e26e978d4fdf3b
-        b836a7ef9db22d0e b8246dc5d6388659 37e5b573eab367a1
-        b8121ff2e48e8a72 3803dd97f62b6ae8 b78a36e2eb1c432d
-        3fde0c06af98346e 3fe781227c378885 3fdf5bbc7d1bbe65
-        3fedee70d70a68d1 3fd3f11dd8304640 3fc56cfa5b6f541c
-        3fe93a1f684708ab 3fe0b3f31cc92cba 3fd4d7d46da9b0d4
-        """,
-        False, 0, 2,
-    ),
-    "the plate times 2^130": (
-        """
-        47e32617c1bda512 47ed63886594af4f c7926e978d4fdf3b
-        c7e6a7ef9db22d0e c7d46dc5d6388659 4795b573eab367a1
-        c7c21ff2e48e8a72 47b3dd97f62b6ae8 c73a36e2eb1c432d
-        3fde0c06af98346e 3fe781227c378885 3fdf5bbc7d1bbe65
-        3fedee70d70a68d1 3fd3f11dd8304640 3fc56cfa5b6f541c
-        3fe93a1f684708ab 3fe0b3f31cc92cba 3fd4d7d46da9b0d4
-        """,
-        True, 0, 2,
-    ),
-    "the plate times 2^131: overflow": (
-        """
-        47f32617c1bda512 47fd63886594af4f c7a26e978d4fdf3b
-        c7f6a7ef9db22d0e c7e46dc5d6388659 47a5b573eab367a1
-        c7d21ff2e48e8a72 47c3dd97f62b6ae8 c74a36e2eb1c432d
-        3fde0c06af98346e 3fe781227c378885 3fdf5bbc7d1bbe65
-        3fedee70d70a68d1 3fd3f11dd8304640 3fc56cfa5b6f541c
-        3fe93a1f684708ab 3fe0b3f31cc92cba 3fd4d7d46da9b0d4
-        """,
-        False, 0, 2,
-    ),
-    "whole numbers: zero by zero": (
-        """
-        3ff0000000000000 bff0000000000000 0000000000000000
-        3ff0000000000000 bff0000000000000 0000000000000000
-        bff0000000000000 3ff0000000000000 3ff0000000000000
-        0000000000000000 0000000000000000 0000000000000000
-        3ff0000000000000 bff0000000000000 0000000000000000
-        0000000000000000 0000000000000000 0000000000000000
-        """,
-        False, 3, 0,
-    ),
-    "the row crosses vanish: zero by zero": (
-        """
-        0000000000000000 bff0000000000000 3ff0000000000000
-        3ff0000000000000 0000000000000000 0000000000000000
-        3ff0000000000000 0000000000000000 0000000000000000
-        3ff0000000000000 be64000000000000 3e60000000000000
-        3ff0000000000000 3e38000000000000 be60000000000000
-        3ff0000000000000 3e8c000000000000 be60000000000000
-        """,
-        False, 3, 0,
-    ),
-    "a number by zero": (
-        """
-        bfcb50a01c899bc8 bfe62e494e80c238 bfe4ca9e5f54c68a
-        3fe7a6678d849308 bfa621886dae74e8 3f9b272775868737
-        3fe7a6678d8493d0 bfa621886dae8080 3f9b27277586a540
-        bfb57b05f03bf62a 3fbae0bd8a22d44b 3fefb5ac4fc4475c
-        3fbbdb89d3eb78cb bfa1fd1935c460fb 3fefca43ce578a71
-        3fbbdb89d3eb7930 bfa1fd1935c46471 3fefca43ce578a6e
-        """,
-        False, 3, 0,
-    ),
-    "whole numbers: an exact subnormal": (
-        """
-        0000000000000000 3ff0000000000000 bff0000000000000
-        bff0000000000000 0000000000000000 3ff0000000000000
-        bff0000000000000 bff0000000000000 3ff0000000000000
-        0000000000000000 3ff0000000000000 0000000000000000
-        3ff0000000000000 bff0000000000000 3ff0000000000000
-        0000000000000000 0000000000000000 bff0000000000000
-        """,
-        False, 3, 0,
-    ),
-    "a product of 2^-1022": (
-        """
-        0000000000000000 0000000000000000 c000000000000000
-        0000000000000000 3ff0000000000000 c000000000000000
-        0000000000000000 4000000000000000 bff0000000000000
-        2000000000000000 0000000000000000 4000000000000000
-        2000000000000000 0000000000000000 bff0000000000000
-        0000000000000000 4000000000000000 0000000000000000
-        """,
-        True, 3, 0,
-    ),
-    "a product that rounds up to 2^-1022": (
-        """
-        0000000000000000 0000000000000000 c000000000000000
-        0000000000000000 3ff0000000000000 c000000000000000
-        0000000000000000 4000000000000000 bff0000000000000
-        1ffffffffffffffe 0000000000000000 4000000000000000
-        2000000000000001 0000000000000000 bff0000000000000
-        0000000000000000 4000000000000000 0000000000000000
-        """,
-        False, 3, 0,
-    ),
-    "a product just below 2^-1022": (
-        """
-        0000000000000000 0000000000000000 c000000000000000
-        0000000000000000 3ff0000000000000 c000000000000000
-        0000000000000000 4000000000000000 bff0000000000000
-        1fffffffffffffff 0000000000000000 4000000000000000
-        2000000000000000 0000000000000000 bff0000000000000
-        0000000000000000 4000000000000000 0000000000000000
-        """,
-        False, 3, 0,
-    ),
-    "a product of 2^-1023": (
-        """
-        0000000000000000 0000000000000000 c000000000000000
-        0000000000000000 3ff0000000000000 c000000000000000
-        0000000000000000 4000000000000000 bff0000000000000
-        2000000000000000 0000000000000000 4000000000000000
-        1ff0000000000000 0000000000000000 bff0000000000000
-        0000000000000000 4000000000000000 0000000000000000
-        """,
-        False, 3, 0,
-    ),
-}  # fmt: skip
+TABLE = "crates/theorems/specs/PremiseCases.antt"
+ROW = r"-- (.+)\n +(?:∷ )?frame \(([^()]+) ∷ \[\]\)\s+(true|false) (\d) (\d)\n"
 
 
-def frame(name):
-    return tuple(int(word, 16) for word in NAMED[name][0].split())
+def rows():
+    with open(TABLE, encoding="utf-8") as f:
+        text = f.read()
+    found = re.findall(ROW, text)
+    assert len(found) == text.count("frame (0"), TABLE
+    for name, words, regular, refusal, count in found:
+        frame = tuple(int(word.replace("_", ""), 0) for word in words.split("∷"))
+        assert len(frame) == 18, name
+        yield name, frame, [regular == "true", int(refusal), int(count)]
+
+
+def frames():
+    return [frame for _, frame, _ in rows()]
 
 
 def unexpected(definition):
-    """The names of frames of which the definition says other than stands here."""
+    """The names of frames of which the definition says other than the table."""
     found = []
-    for name, (_, *expected) in NAMED.items():
-        traced = definition.of(frame(name))
+    for name, frame, expected in rows():
+        traced = definition.of(frame)
         if [bool(traced.regular), traced.value.refusal, traced.value.count] != expected:
             found.append(name)
     return found

@@ -124,7 +124,7 @@ def natives_agree():
 
 def named_as_expected():
     other = named.unexpected(compare.Definition(ROOT))
-    print(f"named frames: {len(named.NAMED)}, of which other than expected {len(other)}")
+    print(f"named frames: {len(named.frames())}, of which other than expected {len(other)}")
     return not other
 
 

@@ -6,5 +6,6 @@ mod TimesPower
 mod FiniteTranslation
 pub mod ScalingRule
 pub mod ScalingExamples
+pub mod PremiseCases
 pub mod MarkedCases
 pub mod Answers

@@ -3,5 +3,6 @@ pub mod Types
 pub mod OneAnswer
 pub mod ScalingRule
 pub mod Plates
+pub mod PremiseCases
 pub mod Cases
 pub mod Answers
