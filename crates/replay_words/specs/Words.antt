@@ -11,5 +11,5 @@ halfAt s at i =
     + (getD s (at + (i + 2)) 0 * 256 + getD s (at + (i + 3)) 0)
 
 -- the word of the eight bytes from `at` on
-abbrev pub wordAt : List ℕ → ℕ → ℕ
+unfoldable pub wordAt : List ℕ → ℕ → ℕ
 wordAt s at = halfAt s at 0 * 0x1_0000_0000 + halfAt s at 4
