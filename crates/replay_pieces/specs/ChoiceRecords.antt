@@ -1,0 +1,27 @@
+-- Records of the choice: the count, four poses, the target and the bearing, then the refusal
+-- number, 0 where nothing is refused, the place from 1 and the score. Whether a record has the
+-- answer of the definition, and how many words it is long.
+use Prim.Native.Nat.{ℕ, _+_, _*_}
+use mathlib.Core.Bool.{Bool, _&&_}
+use mathlib.Core.List.{List, [], _∷_}
+use Rattle.choice.specs.Choose.{choose}
+use Rattle.choice.specs.declared.choose.Choice.the-variants.{Best, Refused}
+use Rattle.replay_words.specs.Words.{wordAt}
+use Rattle.replay_records.specs.Contents.{narrow, vectorAt, poseAt}
+use Rattle.replay_records.specs.Agreement.{numberAgrees, doubleAgrees}
+use Rattle.replay_pieces.specs.Types.{Pose, Choice}
+
+abbrev pub choiceAgrees : Choice → List ℕ → Bool
+choiceAgrees (Best place score) s =
+    numberAgrees 0 s 440 && numberAgrees place s 448 && doubleAgrees score s 456
+choiceAgrees (Refused n) s = numberAgrees n s 440
+
+unfoldable pub choiceHolds : List ℕ → Bool
+choiceHolds s =
+    let poses : List Pose = poseAt s 8 ∷ poseAt s 104 ∷ poseAt s 200 ∷ poseAt s 296 ∷ [] in
+    let count = narrow (wordAt s 0) in
+    choiceAgrees (choose poses count (vectorAt s 392) (vectorAt s 416) .value) s
+
+-- the words that are taken, and those that are given
+abbrev pub choiceWords : ℕ
+choiceWords = (1 + 4 * 12 + 3 + 3) + 3
