@@ -2,19 +2,18 @@
 // stored bits: data/exact has the answers of exact arithmetic to the single operations
 // (tests/ieee754), data/rust the Rust's (reference/). A file holds records of words: the arguments,
 // then the answer.
-mod chosen;
-mod operations;
-mod pieces;
-mod push;
-mod record;
-mod roots;
-mod stages;
-
-ghost use Prim.Native.Nat.{_≤_};
-use operations::Operation;
-use pieces::Piece;
-use roots::Finder;
-use stages::Stage;
+ghost use mathlib.Core.Path.{_≡_};
+ghost use Prim.Native.Nat.{_*_, _≤_};
+ghost use Rattle.replay.specs.SubjectRecords.{subjectHolds, subjectWords};
+use replay_doubles::operations;
+use replay_doubles::operations::Operation;
+use replay_doubles::roots;
+use replay_doubles::roots::Finder;
+use replay_pieces::chosen;
+use replay_pieces::pieces;
+use replay_pieces::pieces::Piece;
+use replay_stages::stages;
+use replay_stages::stages::Stage;
 
 pub enum Subject {
     Single(Operation),
@@ -34,19 +33,21 @@ pub enum Found {
 
 // The bytes of a record.
 fn length(subject: Subject) -> usize
-    ensures { λ r. ⌜ r ≤ 632 ⌝ }
+    ensures { λ r. ⌜ (r ≡ 8 * subjectWords subject) × (r ≤ 632) ⌝ }
 {
     match subject {
         Subject::Single(operation) => operations::length(operation),
         Subject::Root(finder) => roots::length(finder),
         Subject::Shared(piece) => pieces::length(piece),
         Subject::Whole(stage) => stages::length(stage),
-        Subject::Chosen => 464,
+        Subject::Chosen => chosen::length(),
     }
 }
 
 // Whether the function gives the record's answer.
-fn holds(subject: Subject, s: &[u8; 632]) -> bool {
+fn holds(subject: Subject, s: &[u8; 632]) -> bool
+    ensures { λ r. ⌜ r ≡ subjectHolds subject (now (s .entry)) ⌝ }
+{
     match subject {
         Subject::Single(operation) => operations::holds(operation, s),
         Subject::Root(finder) => roots::holds(finder, s),
@@ -120,7 +121,7 @@ fn main() {
     compare(Subject::Shared(Piece::Ray), b"rust/ray_fits.bin");
     compare(Subject::Shared(Piece::Near), b"rust/near.bin");
     compare(Subject::Shared(Piece::Project), b"rust/project.bin");
-    compare(Subject::Shared(Piece::Basis), b"rust/basis.bin");
+    compare(Subject::Shared(Piece::WorldBasis), b"rust/basis.bin");
     compare(Subject::Shared(Piece::Edges), b"rust/edges.bin");
     compare(Subject::Shared(Piece::Push), b"rust/push.bin");
     compare(Subject::Whole(Stage::Eig), b"rust/eig.bin");
