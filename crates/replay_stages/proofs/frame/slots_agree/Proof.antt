@@ -1,8 +1,12 @@
 -- `replay_stages::frame::slots_agree` meets its contract. Assumes nothing.
 use borrow.Author.Needs.{needs}
 use native.Mathlib.Omega.{arith}
-use Rattle.replay_stages.proofs.AnswerSlots.{slot-same}
-use Rattle.replay_stages.specs.FrameRecords.{slotsAgree}
+use Prim.Native.Nat.{ℕ, _+_, _*_}
+use mathlib.Core.Bool.{Bool}
+use lib.ListN.{getD}
+use Rattle.replay_records.proofs.Slots.{slot-same}
+use Rattle.replay_stages.specs.Types.{Pose}
+use Rattle.replay_stages.specs.FrameRecords.{slotAgrees, slotsAgree}
 use Rattle.replay_stages.proofs.frame.slots_agree.Statement.{statement}
 use Rattle.replay_stages.proofs.frame.slots_agree.Tie as tie
 
@@ -13,13 +17,15 @@ returns c =
     let second = third .before .before in
     let first = second .before .before in
     let start = first .before .before in
-    let poses = start .args .t1 in
+    let a = start .args in
+    let slot : ℕ → Pose → Bool = λ i pose.
+    slotAgrees pose (getD (a .t2) i 0) (a .s .now) (216 + 104 * i) in
     let four = start .good .0 .1 .0 .1 in
     rw (
-      slot-same _ 216 _ poses 0 _ (omega (arith, four)) (first .slot-agrees .ensures),
-      slot-same _ 320 _ poses 1 _ (omega (arith, four)) (second .slot-agrees2 .ensures),
-      slot-same _ 424 _ poses 2 _ (omega (arith, four)) (third .slot-agrees3 .ensures),
-      slot-same _ 528 _ poses 3 _ (omega (arith, four)) (c .slot-agrees4 .ensures),
+      slot-same (slot 0) (a .t1) 0 _ (omega (arith, four)) (first .slot-agrees .ensures),
+      slot-same (slot 1) (a .t1) 1 _ (omega (arith, four)) (second .slot-agrees2 .ensures),
+      slot-same (slot 2) (a .t1) 2 _ (omega (arith, four)) (third .slot-agrees3 .ensures),
+      slot-same (slot 3) (a .t1) 3 _ (omega (arith, four)) (c .slot-agrees4 .ensures),
     )
 
 pub slots-agree-spec : {M : Type 1} → statement M
