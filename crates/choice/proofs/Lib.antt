@@ -1,4 +1,3 @@
 -- The laws of this crate.
 pub mod Turns
-pub mod Below
 pub mod OneAnswer

@@ -10,12 +10,12 @@ use lib.Ieee.{Float, lt}
 use lib.Ieee.Scale.{finite}
 use lib.ListN.{length, take, length-append, length-take, length-map}
 use Rattle.ieee754.proofs.Tests.{either-way}
+use Rattle.ieee754_laws.proofs.LtLaws.{lt-asym, lt-le-trans}
 use Rattle.choice.specs.Score.{score}
 use Rattle.choice.specs.Choose.{lower, better, chooseAmong, choose}
 use Rattle.choice.specs.OneAnswer.{scores, Each, NotFinite, Above, NotBelow, Lowest}
 use Rattle.choice.specs.OneAnswer.{OneAnswer, refused-10, chosen}
 use Rattle.choice.specs.Types.{Vector3, Pose, Choice, Best, Refused}
-use Rattle.choice.proofs.Below.{not-both-below, below-third}
 
 -- ---- what holds of each
 each-also : (P Q : Float → Type 0)
@@ -78,11 +78,11 @@ module _ (passed : List Float) (value : Float) where
       let L = w .lowest-finite in
       let before : Each (Above value) (w .before) =
       each-also (Above lowest) (Above value)
-      (λ x above X. below-third value lowest x f L X h (not-both-below lowest x L X (above X)))
+      (λ x above X. lt-le-trans value lowest x f L X h (lt-asym lowest x L X (above X)))
       (w .before) (w .earlier) in
       let after : Each (Above value) (w .after) =
       each-also (NotBelow lowest) (Above value)
-      (λ x not-below X. below-third value lowest x f L X h (not-below X))
+      (λ x not-below X. lt-le-trans value lowest x f L X h (not-below X))
       (w .after) (w .later) in
       subst (Each (Above value)) (sym (w .scores-are))
       (each-append (Above value) (w .before) (lowest ∷ w .after) before (λ _. h, after))

@@ -14,4 +14,5 @@ pub mod RootRegular
 pub mod RootNearest
 pub mod FmaLaws
 pub mod SignLaws
+pub mod LtLaws
 pub mod OrderLaws

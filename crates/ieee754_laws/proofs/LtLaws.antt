@@ -1,5 +1,5 @@
--- The order of finite doubles: of two only one is below the other (`not-both-below`), and what is
--- below a second is below a third that is not below the second (`below-third`). Assumes nothing.
+-- The order of finite doubles: of two only one is below the other (`lt-asym`), and what is below a
+-- second is below a third that is not below the second (`lt-le-trans`). Assumes nothing.
 use mathlib.Core.Bool.{Bool, true, false, not}
 use mathlib.Core.Logic.{by-cases}
 use Prim.Native.Nat.{ℕ, _+_, _*_, _≤_, _<_}
@@ -21,13 +21,13 @@ one-below true a false b h = tt
 one-below true a true b h =
     not-T (ltb a b) (λ k. let l = ltb→lt b a h in let m = ltb→lt a b k in omega arith)
 
-pub not-both-below : (x y : Float) → T (finite x) → T (finite y) → T (lt x y) → T (not (lt y x))
+pub lt-asym : (x y : Float) → T (finite x) → T (finite y) → T (lt x y) → T (not (lt y x))
 unfolding lt
-not-both-below nan y X Y h = absurd X
-not-both-below (inf s) y X Y h = absurd X
-not-both-below (fin s m e) nan X Y h = absurd Y
-not-both-below (fin s m e) (inf t) X Y h = absurd Y
-not-both-below (fin s m e) (fin t n d) X Y h =
+lt-asym nan y X Y h = absurd X
+lt-asym (inf s) y X Y h = absurd X
+lt-asym (fin s m e) nan X Y h = absurd Y
+lt-asym (fin s m e) (inf t) X Y h = absurd Y
+lt-asym (fin s m e) (fin t n d) X Y h =
     one-below s (m * up e * down d) t (n * up d * down e) h
 
 -- ---- of three
@@ -86,7 +86,7 @@ module _ (a b c p q r : ℕ) (P : 0 < p) (Q : 0 < q) (R : 0 < r) where
   third true true true h k =
       lt→ltb (c * p) (a * r) (down-to (ltb→lt (b * p) (a * q) h) (nltb→le (b * r) (c * q) k))
 
-pub below-third : (x y z : Float)
+pub lt-le-trans : (x y z : Float)
     → T (finite x)
     → T (finite y)
     → T (finite z)
@@ -94,12 +94,12 @@ pub below-third : (x y z : Float)
     → T (not (lt z y))
     → T (lt x z)
 unfolding lt
-below-third nan y z X Y Z h k = absurd X
-below-third (inf s) y z X Y Z h k = absurd X
-below-third (fin s m e) nan z X Y Z h k = absurd Y
-below-third (fin s m e) (inf t) z X Y Z h k = absurd Y
-below-third (fin s m e) (fin t n d) nan X Y Z h k = absurd Z
-below-third (fin s m e) (fin t n d) (inf u) X Y Z h k = absurd Z
-below-third (fin s m e) (fin t n d) (fin u l g) X Y Z h k =
+lt-le-trans nan y z X Y Z h k = absurd X
+lt-le-trans (inf s) y z X Y Z h k = absurd X
+lt-le-trans (fin s m e) nan z X Y Z h k = absurd Y
+lt-le-trans (fin s m e) (inf t) z X Y Z h k = absurd Y
+lt-le-trans (fin s m e) (fin t n d) nan X Y Z h k = absurd Z
+lt-le-trans (fin s m e) (fin t n d) (inf u) X Y Z h k = absurd Z
+lt-le-trans (fin s m e) (fin t n d) (fin u l g) X Y Z h k =
     third (m * up e) (n * up d) (l * up g) (down e) (down d) (down g)
     (down-pos e) (down-pos d) (down-pos g) s t u h k
