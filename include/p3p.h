@@ -52,7 +52,7 @@ uint32_t p3p_solve(const double input[18], double poses[48], uint32_t updates[4]
 
 /* The pose under which a fourth target lies nearest to the line of its bearing: the lowest finite
  * |camera x bearing|^2 / (camera . bearing)^2, of equal ones the earliest. The depth is squared, so
- * a target behind the camera scores as the one before it does.
+ * a target behind the camera scores as its mirror image in front of it does.
  *
  * poses    slots as p3p_solve writes them.
  * count    how many of them hold a pose; above 4 it is read as 4.

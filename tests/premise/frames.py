@@ -131,12 +131,12 @@ def at_edges(frame):
 
 def at_sums(frame, r):
     """Differences of coordinates at the edges: subnormal, or as large as a double can be."""
-    for exponent, of in [(-1022, 3), (1023, 3)]:
+    for exponent in (-1022, 1023):
         for _ in range(3):
             xs = list(doubles(frame))
             axis = r.randrange(3)
             for point in range(3):
-                factor = r.randint(-of, of) / 2 + r.choice([0.0, 2.0**-52, -(2.0**-52)])
+                factor = r.randint(-3, 3) / 2 + r.choice([0.0, 2.0**-52, -(2.0**-52)])
                 if abs(factor) < 2:
                     xs[3 * point + axis] = math.ldexp(factor, exponent)
             yield of_doubles(xs)

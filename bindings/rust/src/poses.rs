@@ -61,8 +61,8 @@ pub fn solve(world: &[[f64; 3]; 3], bearings: &[[f64; 3]; 3]) -> Result<Poses, R
 
 /// The index of the pose under which a fourth target lies nearest to the line of its bearing: the
 /// lowest finite |camera × bearing|² / (camera · bearing)², of equal ones the earliest. The depth
-/// is squared, so a target behind the camera scores as the one before it does. Poses after the
-/// fourth are not looked at.
+/// is squared, so a target behind the camera scores as its mirror image in front of it does. Poses
+/// after the fourth are not looked at.
 pub fn choose(poses: &[Pose], target: &[f64; 3], bearing: &[f64; 3]) -> Result<usize, Refusal> {
     let mut words = [0.0; 48];
     for (pose, slot) in poses.iter().zip(words.chunks_exact_mut(12)) {

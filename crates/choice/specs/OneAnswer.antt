@@ -26,7 +26,7 @@ Each P (x ∷ xs) = P x × Each P xs
 abbrev pub NotFinite : Float → Type 0
 NotFinite x = T (not (finite x))
 
--- beside a score: one that it is below, and one that is not below it
+-- what is asked of another score if it is finite: to be above this one; not to be below it
 abbrev pub Above : Float → Float → Type 0
 Above score x = T (finite x) → T (lt score x)
 

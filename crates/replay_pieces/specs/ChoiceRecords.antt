@@ -5,6 +5,7 @@ use Prim.Native.Nat.{ℕ, _+_, _*_}
 use mathlib.Core.Bool.{Bool, _&&_}
 use mathlib.Core.List.{List, [], _∷_}
 use Rattle.choice.specs.Choose.{choose}
+-- not by Types, where `Refused` is the projection's
 use Rattle.choice.specs.declared.choose.Choice.the-variants.{Best, Refused}
 use Rattle.replay_words.specs.Words.{wordAt}
 use Rattle.replay_records.specs.Contents.{narrow, vectorAt, poseAt}

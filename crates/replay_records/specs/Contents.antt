@@ -1,6 +1,7 @@
 -- What stands in a record of stored answers, by its place in bytes: numbers, and doubles by their
 -- bit patterns. A vector stands by x, y, z, a matrix by its columns, a pose by its rotation and
--- translation. Every pattern of a NaN is read as the one NaN.
+-- translation: the layout of specs/Lent of `frames`, by bytes. Every pattern of a NaN is read as
+-- the one NaN.
 use Prim.Native.Nat.{ℕ, _+_, min}
 use mathlib.Core.List.{List}
 use lib.Ieee.{Float, binary64, ofBits}

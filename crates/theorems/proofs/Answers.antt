@@ -1,8 +1,7 @@
 -- Answers that are stated bit by bit (specs/Answers) are those of the definitions: they compute.
 -- Assumes nothing.
 use mathlib.Core.Path.{_≡_, refl}
-use lib.Ieee.{Float}
-use Rattle.ieee754.specs.Literal.{double, plusZero, two}
+use Rattle.ieee754.specs.Literal.{plusZero, two}
 use Rattle.frames.specs.Lent.{vectorAt, poseAt}
 use Rattle.refinement.specs.RefineDepths.{refineDepths}
 use Rattle.lambdatwist.specs.Solve.{solve}

@@ -92,14 +92,14 @@ RegularAnd world world' bearings said =
     T ((solve world bearings .regular && solve world' bearings .regular) && said)
 
 -- the rule of such a pair
-alike : {world world' : World} (bearings : Bearings) (said : Bool)
+rule-applies : {world world' : World} (bearings : Bearings) (said : Bool)
     → DoubleWorld world
     → DoubleWorld world'
     → TimesWorld (pos 12) world world'
     → RegularAnd world world' bearings said
     → Alike (pos 12) (solve world bearings .value) (solve world' bearings .value)
 unfolding ScalingRule
-alike {world} {world'} bearings said d d' times regular =
+rule-applies {world} {world'} bearings said d d' times regular =
     let r = solve world bearings .regular in
     let r' = solve world' bearings .regular in
     let both = and-l (r && r') said regular in
@@ -117,8 +117,8 @@ pub plate-alike :
     (solve plateInMetres plateBearings .value)
     (solve plateInCounts plateBearings .value)
 plate-alike =
-    alike plateBearings (leb 2 (solve plateInMetres plateBearings .value .count)) metres-double
-    counts-double counts-times plate-regular
+    rule-applies plateBearings (leb 2 (solve plateInMetres plateBearings .value .count))
+    metres-double counts-double counts-times plate-regular
 
 pub exchanged-regular :
     RegularAnd plateInMetres plateInCounts exchangedBearings
@@ -131,7 +131,7 @@ pub exchanged-alike :
     (solve plateInMetres exchangedBearings .value)
     (solve plateInCounts exchangedBearings .value)
 exchanged-alike =
-    alike exchangedBearings (eqb (solve plateInMetres exchangedBearings .value .refusal) 3)
+    rule-applies exchangedBearings (eqb (solve plateInMetres exchangedBearings .value .refusal) 3)
     metres-double counts-double counts-times exchanged-regular
 
 pub equilateral-regular :
@@ -145,7 +145,7 @@ pub equilateral-alike :
     (solve equilateralInMetres equalAngles .value)
     (solve equilateralInCounts equalAngles .value)
 equilateral-alike =
-    alike equalAngles (eqb (solve equilateralInMetres equalAngles .value .refusal) 2)
+    rule-applies equalAngles (eqb (solve equilateralInMetres equalAngles .value .refusal) 2)
     equilateral-metres-double equilateral-counts-double equilateral-times equilateral-regular
 
 too-small : (solve plateInMetres plateBearings .value .refusal ≡ 0)

@@ -1,8 +1,6 @@
-//! What a solve raises of the processor's exception flags, for frames of a file; and frames of
-//! every kind for such a file. A frame is eighteen words, big-endian.
+//! What a solve raises of the processor's exception flags, for frames of a file. A frame is
+//! eighteen words, big-endian.
 
-use crate::frames;
-use crate::random::Random;
 use crate::table::word;
 use std::fs;
 use std::io::{self, BufWriter, Write};
@@ -34,17 +32,4 @@ fn line(out: &mut impl Write, input: &[f64; 18]) -> io::Result<()> {
         }
     }
     writeln!(out)
-}
-
-/// So many frames of each kind.
-pub fn frames(count: u64, seed: u64, path: &str) -> Result<(), String> {
-    let mut bytes = Vec::new();
-    let mut seeds = Random::new(seed);
-    for (_, _, make) in frames::KINDS {
-        let mut r = Random::new(seeds.word());
-        for _ in 0..count {
-            bytes.extend(make(&mut r)[..18].iter().flat_map(|x| x.to_bits().to_be_bytes()));
-        }
-    }
-    fs::write(path, bytes).map_err(|e| format!("{path}: {e}"))
 }

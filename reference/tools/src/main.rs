@@ -33,7 +33,7 @@ reference bench [COUNT]          how long a solve takes, the port beside the unc
                                  where P3P_PEERS was set, other solvers (COUNT frames of a sort)
 reference frames COUNT FILE      COUNT random frames of each kind, eighteen words a frame
 reference flags FILE             the exception flags that the processor raises in the solve of each
-                                 frame of a file, and the answers
+                                 frame of a file, and the answers (x86-64 only)
 reference search FUNCTION N SEED COUNT | FILE
                                  inputs that reach what fewer than N stored ones reach";
 
@@ -62,9 +62,8 @@ fn main() {
         ["bench", ..] => {
             Err("built without the port (set P3P_PORT to its static library)".to_string())
         }
-        #[cfg(target_arch = "x86_64")]
         ["frames", count, path] => {
-            number(count).and_then(|count| flags::frames(count, vectors::SEED, path))
+            number(count).and_then(|count| frames::write(count, vectors::SEED, path))
         }
         #[cfg(target_arch = "x86_64")]
         ["flags", path] => flags::run(path),

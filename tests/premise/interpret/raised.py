@@ -4,8 +4,8 @@ say of an operation is handed on as a `Mark` with what the operation raises, so 
 of a whole solve tells which flags its operations raise together, whichever way they were joined.
 
 x86-64 raises underflow where a result is inexact and, rounded as if exponents had no end, below
-2 ^ -1022. So two operations fail the premise and raise nothing: one whose exact result is itself a
-subnormal double, and one whose exact result rounds up to 2 ^ -1022."""
+2 ^ -1022. So two operations fail the premise and raise none of the flags that tell of it: one whose
+exact result is itself a subnormal double, and one whose exact result rounds up to 2 ^ -1022."""
 import math
 from fractions import Fraction
 
