@@ -43,19 +43,19 @@ P3P_PORT=$library reference/run "$1" bench
 
 echo
 echo "## The program poses"
-copies=83334
-python3 - "$copies" >"$out/frames" <<'END'
+# The stored frames that have poses, as records; frames of 79 words, the input and the refusal first.
+python3 - "$frames" "$out/frames" <<'END'
 import sys
-sample = open("samples/frames.bin", "rb").read()
-for _ in range(int(sys.argv[1])):
-    sys.stdout.buffer.write(sample)
+stored = open(sys.argv[1], "rb").read()
+frames = [stored[at : at + 632] for at in range(0, len(stored), 632)]
+records = [b"\x00\xc1\x01" + f[:192] for f in frames if not any(f[192:200])]
+open(sys.argv[2], "wb").write(b"".join(records) * 600)
 END
 /usr/bin/time -o "$out/time" -f "%U %S %M" target/bin/poses <"$out/frames" >/dev/null
-rm "$out/frames"
-# the sample has 12 frames
-awk -v records=$((12 * copies)) '{
+awk -v records=$(($(stat -c %s "$out/frames") / 195)) '{
     printf "%d records in %.2f s of processor time, %.0f a second; peak memory %d KiB\n",
         records, $1 + $2, records / ($1 + $2), $3 }' "$out/time"
+rm "$out/frames"
 
 command -v perf >/dev/null || exit 0
 echo
