@@ -43,7 +43,8 @@ P3P_PORT=$library reference/run "$1" bench
 
 echo
 echo "## The program poses"
-# The stored frames that have poses, as records; frames of 79 words, the input and the refusal first.
+# The stored frames that have poses, as records. A stored frame has 79 words, of which the input is
+# the first 24 and the refusal the next.
 python3 - "$frames" "$out/frames" <<'END'
 import sys
 stored = open(sys.argv[1], "rb").read()
