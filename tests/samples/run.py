@@ -1,5 +1,5 @@
 #!/usr/bin/env python3
-"""Tests of samples/record.py, and whether the sample's files are as made.
+"""Tests of samples/record.py, and whether the sample's files and docs/pose.svg are as made.
 
     python3 -B tests/samples/run.py                            the tool and the files
     python3 -B tests/samples/run.py --program target/bin/poses    and that a program lists them so
@@ -19,9 +19,10 @@ import unittest
 sys.dont_write_bytecode = True
 ROOT = os.path.join(os.path.dirname(os.path.abspath(__file__)), "..", "..")
 SAMPLES = os.path.join(ROOT, "samples")
-sys.path[:0] = [SAMPLES, os.path.join(ROOT, "tests", "poses")]
+sys.path[:0] = [SAMPLES, os.path.join(ROOT, "tests", "poses"), os.path.join(ROOT, "docs")]
 
 import make as stored_runs
+import picture
 from tool import Fault, listings, numbers, poses, records, words
 
 PROGRAM = None
@@ -366,6 +367,21 @@ class Sample(unittest.TestCase):
         with open(path("frames.bin"), "rb") as given:
             listed = subprocess.run([PROGRAM], stdin=given, stdout=subprocess.PIPE).stdout
         self.assertEqual(listed, content(path("listing.txt")))
+
+
+class Picture(unittest.TestCase):
+    """docs/pose.svg, which is drawn of the sample."""
+
+    def test_as_made(self):
+        self.assertEqual(picture.drawing().encode(), content(picture.DRAWING))
+        self.assertIn("camera (−0.05, −0.625, 2.15)", picture.drawing())
+
+    def test_another_hole_is_another_drawing(self):
+        kept, picture.HOLE = picture.HOLE, (0.25, -0.4, 0.0)
+        try:
+            self.assertNotEqual(picture.drawing().encode(), content(picture.DRAWING))
+        finally:
+            picture.HOLE = kept
 
 
 if __name__ == "__main__":
