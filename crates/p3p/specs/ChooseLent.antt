@@ -1,5 +1,5 @@
 -- The choice over lent arrays: the poses that are read, and what is returned and held after it. A
--- refused choice leaves the best as it was: document 01, "Questions, in order".
+-- refused choice leaves the best and its score as they were: document 01, "Questions, in order".
 use Prim.Native.Nat.{ℕ}
 use mathlib.Core.List.{List, [], _∷_}
 use lib.Ieee.{Float}
@@ -16,3 +16,7 @@ chosen poses count target bearing =
 abbrev pub bestAfter : Choice → ℕ → ℕ
 bestAfter (Best place value) held = place
 bestAfter (Refused number) held = held
+
+abbrev pub scoreAfter : Choice → Float → Float
+scoreAfter (Best place value) held = value
+scoreAfter (Refused number) held = held

@@ -4,3 +4,4 @@ pub mod Answer
 pub mod RootsLent
 pub mod SolveLent
 pub mod ChooseLent
+pub mod RecordLent

@@ -1,13 +1,13 @@
 // The choice of a pose by a fourth target, over lent arrays.
 ghost use mathlib.Core.Path.{_≡_};
-ghost use Rattle.p3p.specs.ChooseLent.{chosen, bestAfter};
+ghost use Rattle.p3p.specs.ChooseLent.{chosen, bestAfter, scoreAfter};
 ghost use Rattle.choice.specs.Answer.{number};
 use choice::choose::Choice;
 use frames::lent::pose_at;
 use frames::lent::vector_at;
 
-// The number from 1 of the pose under which the target lies nearest to the line of its bearing.
-// Returns 0, or the refusal number with nothing written.
+// The number from 1 of the pose under which the target lies nearest to the line of its bearing, and
+// its score. Returns 0, or the refusal number with nothing written.
 #[no_mangle]
 pub extern "C" fn p3p_choose(
     poses: &[f64; 48],
@@ -15,6 +15,7 @@ pub extern "C" fn p3p_choose(
     target: &[f64; 3],
     bearing: &[f64; 3],
     best: &mut u32,
+    score: &mut f64,
 ) -> u32
     ensures { λ r.
         ⌜ r
@@ -24,6 +25,10 @@ pub extern "C" fn p3p_choose(
         ⌜ now (best .exit)
         ≡ bestAfter (chosen (now (poses .entry)) count (now (target .entry)) (now (bearing .entry)))
         (now (best .entry)) ⌝ }
+    ensures { λ _.
+        ⌜ now (score .exit)
+        ≡ scoreAfter (chosen (now (poses .entry)) count (now (target .entry)) (now (bearing .entry)))
+        (now (score .entry)) ⌝ }
 {
     let p0 = pose_at(poses, 0);
     let p1 = pose_at(poses, 12);
@@ -33,8 +38,9 @@ pub extern "C" fn p3p_choose(
     let ray = vector_at(bearing, 0);
     let choice = choice::choose::choose([p0, p1, p2, p3], count, seen, ray);
     match choice {
-        Choice::Best(place, _) => {
+        Choice::Best(place, value) => {
             *best = place;
+            *score = value;
             0
         }
         Choice::Refused(refusal) => refusal,

@@ -45,12 +45,12 @@ module _ (c : tie.After-choose) where
 returns : tie.Need-returns
 returns c =
     let told = c .before in
-    rw (← found (told .before .before), told .choice .given .1) (refl, refl)
+    rw (← found (told .before .before), told .choice .given .1) (refl, (refl, refl))
 
 returns-2 : tie.Need-returns-2
 returns-2 c =
     let told = c .before in
-    rw (← found (told .before .before), told .choice2 .given .1) (refl, refl)
+    rw (← found (told .before .before), told .choice2 .given .1) (refl, (refl, refl))
 
 pub p3p-choose-spec : {M : Type 1} → statement M
 p3p-choose-spec =
