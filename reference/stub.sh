@@ -1,6 +1,7 @@
 #!/usr/bin/env bash
 # Tries the comparison itself, the second copy standing in for the port: stub.sh SOURCES
-# A right stand-in must show no difference, one that is wrong in a last bit now and then must.
+# A right stand-in must show no difference, one that is wrong in a last bit of a pose or of a score
+# now and then must.
 set -euo pipefail
 here=$(cd "$(dirname "$0")" && pwd)
 sources=$(realpath "${1:?usage: stub.sh SOURCES}")
@@ -9,9 +10,12 @@ build() {
 }
 build right
 P3P_PORT=$here/target/right/release/libstub.a "$here/run" "$sources" beside 50000 | tail -n 1
-build wrong --features=wrong
-if P3P_PORT=$here/target/wrong/release/libstub.a "$here/run" "$sources" beside 50000 2>"$here/target/wrong/difference"; then
-  echo "the wrong stand-in was not found out" >&2
-  exit 1
-fi
-echo "The wrong stand-in: $(head -n 1 "$here/target/wrong/difference")"
+for wrong in wrong-pose wrong-score; do
+  build "$wrong" "--features=$wrong"
+  difference=$here/target/$wrong/difference
+  if P3P_PORT=$here/target/$wrong/release/libstub.a "$here/run" "$sources" beside 50000 2>"$difference"; then
+    echo "the stand-in $wrong was not found out" >&2
+    exit 1
+  fi
+  echo "The stand-in $wrong: $(head -n 1 "$difference") ($(sed -n '2s/ .*//p' "$difference"))"
+done

@@ -1,5 +1,5 @@
 //! The second copy behind the port's C interface: it stands in for the port to try the
-//! comparison itself. With the feature `wrong` it is wrong now and then, which must be found.
+//! comparison itself. With a feature it is wrong in a last bit now and then, which must be found.
 
 #[path = "../../tools/src/choice.rs"]
 mod choice;
@@ -78,8 +78,8 @@ extern "C" fn p3p_solve(
     *poses = std::array::from_fn(|index| answer.poses[index / 12][index % 12]);
     *updates = answer.updates;
     *count = answer.count as u32;
-    if cfg!(feature = "wrong") && answer.count == 3 && answer.updates[2] == 5 {
-        poses[24] = f64::from_bits(poses[24].to_bits() ^ 1);
+    if cfg!(feature = "wrong-pose") && answer.count == 3 && answer.updates[2] == 5 {
+        change_last_bit(&mut poses[24]);
     }
     0
 }
@@ -91,13 +91,22 @@ extern "C" fn p3p_choose(
     target: &[f64; 3],
     bearing: &[f64; 3],
     best: &mut u32,
+    score: &mut f64,
 ) -> u32 {
     let slots = std::array::from_fn(|slot| std::array::from_fn(|index| poses[12 * slot + index]));
     match choice::best(count as u64, &slots, target, bearing) {
-        Some((index, _)) => {
+        Some((index, value)) => {
             *best = index as u32 + 1;
+            *score = value;
+            if cfg!(feature = "wrong-score") && index == 3 {
+                change_last_bit(score);
+            }
             0
         }
         None => 10,
     }
+}
+
+fn change_last_bit(x: &mut f64) {
+    *x = f64::from_bits(x.to_bits() ^ 1);
 }

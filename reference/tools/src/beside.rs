@@ -122,7 +122,7 @@ fn compare<'a>(
     #[cfg(port)]
     if port::OFFERED.contains(&name) {
         let ported = port::answer(name, input);
-        if ported[..] != second[..ported.len()] {
+        if ported != second {
             return Err(difference(name, input, &second, &ported));
         }
     }

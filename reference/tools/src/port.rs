@@ -20,6 +20,7 @@ unsafe extern "C" {
         target: *const f64,
         bearing: *const f64,
         best: *mut u32,
+        score: *mut f64,
     ) -> u32;
 }
 
@@ -61,13 +62,11 @@ pub fn answer(name: &str, input: &[u64]) -> Vec<u64> {
         }
         "fast_cbrt" => vec![word(unsafe { p3p_fast_cbrt(d(0)) })],
         "choice" => {
-            // The third word, the score, is not offered.
             let poses: [f64; 48] = std::array::from_fn(|index| d(1 + index));
             let target: [f64; 3] = std::array::from_fn(|index| d(49 + index));
             let bearing: [f64; 3] = std::array::from_fn(|index| d(52 + index));
-            let (number, best) =
-                choose(&poses, input[0].min(u32::MAX as u64) as u32, &target, &bearing);
-            vec![number as u64, best]
+            let count = input[0].min(u32::MAX as u64) as u32;
+            choose(&poses, count, &target, &bearing).to_vec()
         }
         "sqrt" => vec![word(unsafe { p3p_sqrt(d(0)) })],
         "cbrt" => vec![word(unsafe { p3p_cbrt(d(0)) })],
@@ -96,14 +95,15 @@ fn result(number: u32, roots: &[f64]) -> Vec<u64> {
     std::iter::once(number as u64).chain(words).collect()
 }
 
-/// The number and the best, from 1.
-fn choose(poses: &[f64; 48], count: u32, target: &[f64; 3], bearing: &[f64; 3]) -> (u32, u64) {
-    let mut best = LENT_WHOLE;
-    let number =
-        unsafe { p3p_choose(poses.as_ptr(), count, target.as_ptr(), bearing.as_ptr(), &mut best) };
+/// The number, the best from 1, and its score.
+fn choose(poses: &[f64; 48], count: u32, target: &[f64; 3], bearing: &[f64; 3]) -> [u64; 3] {
+    let (mut best, mut score) = (LENT_WHOLE, LENT);
+    let [poses, target, bearing] = [poses.as_ptr(), target.as_ptr(), bearing.as_ptr()];
+    let number = unsafe { p3p_choose(poses, count, target, bearing, &mut best, &mut score) };
     match number {
-        0 => (0, best as u64),
-        _ => (number, if best == LENT_WHOLE { 0 } else { WROTE }),
+        0 => [0, best as u64, word(score)],
+        _ if best == LENT_WHOLE && score.to_bits() == LENT.to_bits() => [number as u64, 0, 0],
+        _ => [number as u64, WROTE, WROTE],
     }
 }
 
@@ -121,7 +121,8 @@ fn frame(input: &[f64; 24]) -> Vec<u64> {
     }
     let target: [f64; 3] = std::array::from_fn(|index| input[18 + index]);
     let bearing: [f64; 3] = std::array::from_fn(|index| input[21 + index]);
-    let mut words = vec![0, count as u64, choose(&poses, count, &target, &bearing).1];
+    let [_, best, _] = choose(&poses, count, &target, &bearing);
+    let mut words = vec![0, count as u64, best];
     for slot in 0..4 {
         words.push(updates[slot] as u64);
         words.extend(poses[12 * slot..12 * slot + 12].iter().map(|&x| word(x)));
