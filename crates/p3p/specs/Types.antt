@@ -3,7 +3,6 @@ pub use Rattle.ieee754.specs.declared.total_cmp.Order.{Order}
 pub use Rattle.ieee754.specs.declared.total_cmp.Order.the-variants.{Less, Equal, Greater}
 pub use Rattle.linalg.specs.declared.vector3.Vector3.{Vector3}
 pub use Rattle.frames.specs.declared.bearings.Bearings.{Bearings}
-pub use Rattle.frames.specs.declared.frame.Frame.{Frame}
 pub use Rattle.frames.specs.declared.pose.Pose.{Pose}
 pub use Rattle.frames.specs.declared.world.World.{World}
 pub use Rattle.polynomial.specs.declared.Roots.{Roots}
