@@ -1,9 +1,17 @@
 /* The functions of libp3p.a (`rt staticlib p3p`), for C and C++ on x86-64 Linux.
  *
  * Each function's result, and what it leaves in the memory that is lent to it, is proved equal to a
- * definition for every input, infinities and NaNs too (crates/p3p). None allocates, keeps state, or
- * reads the floating-point environment's flags: each may be called from several threads at once.
- * The rounding mode must be to nearest, as C starts a program.
+ * definition for every input, infinities and NaNs too (crates/p3p). None allocates or keeps state:
+ * each may be called from several threads at once. A solve has been measured to take less than
+ * 4 KiB of stack (docs/BENCHMARKS.md), the others take less.
+ *
+ * The floating-point environment must be as C starts a program:
+ *   - The rounding mode is to nearest.
+ *   - Flush-to-zero and denormals-are-zero are off. With them on some answers differ in bits, or
+ *     become refusals, and nothing tells so. A program that is linked with -ffast-math or -Ofast
+ *     turns both on before main (crtfastmath.o).
+ *   - Traps are masked. The functions raise IEEE 754's exception flags, on inputs too that they
+ *     answer. With traps unmasked (feenableexcept) a solve can stop the program.
  *
  * A pointer is to as many elements as its declaration says. Those that a function writes through
  * must not overlap each other or what it reads. Where a number is returned, 0 means that there is
@@ -12,7 +20,13 @@
 #ifndef P3P_H
 #define P3P_H
 
+#include <stddef.h>
 #include <stdint.h>
+
+#define P3P_VERSION "0.2.0"
+#define P3P_VERSION_MAJOR 0
+#define P3P_VERSION_MINOR 2
+#define P3P_VERSION_PATCH 0
 
 #ifdef __cplusplus
 extern "C" {
@@ -28,10 +42,16 @@ enum p3p_refusal {
     P3P_NO_POSE = 3,
     /* quadratic, cubic: a coefficient is an infinity or a NaN */
     P3P_COEFFICIENT_NOT_FINITE = 4,
-    /* quadratic: the discriminant is below minus the band, or not finite */
+    /* quadratic: the discriminant is negative by more than rounding, or not finite */
     P3P_NO_REAL_ROOTS = 5,
     /* cubic: no root was found */
     P3P_NO_ROOT = 6,
+    /* read_record: the length is not 193 */
+    P3P_RECORD_LENGTH = 7,
+    /* read_record: the version is not 1 */
+    P3P_RECORD_VERSION = 8,
+    /* read_record: bytes of the record are missing */
+    P3P_RECORD_CUT_SHORT = 9,
     /* choose: no pose has a finite score */
     P3P_NO_FINITE_SCORE = 10
 };
@@ -57,9 +77,29 @@ uint32_t p3p_solve(const double input[18], double poses[48], uint32_t updates[4]
  * poses    slots as p3p_solve writes them.
  * count    how many of them hold a pose; above 4 it is read as 4.
  * best     the number of the slot, from 1.
+ * score    its score: the squared tangent of the angle between the target and the line of its
+ *          bearing. The angle is atan(sqrt(score)), in radians. The choice is the best of the poses
+ *          and need not be good: that the angle is within your measuring error is yours to ask.
  * Returns 0, or 10. */
 uint32_t p3p_choose(const double poses[48], uint32_t count, const double target[3],
-                    const double bearing[3], uint32_t *best);
+                    const double bearing[3], uint32_t *best, double *score);
+
+/* ---- a frame's record */
+
+/* The bytes of a record, all big-endian: two of length (193), one of version (1), 24 doubles. */
+#define P3P_RECORD_SIZE 195
+
+/* The frame of the record at the start of some bytes.
+ *
+ * bytes    the input from the record on.
+ * length   how many of its bytes are left; no byte beyond them is read, and none beyond
+ *          P3P_RECORD_SIZE.
+ * frame    three world points and the three bearings to them, as p3p_solve takes them; from 18 on
+ *          the checking target, and from 21 on its bearing, as p3p_choose takes them.
+ * Returns 0, or 7, 8 or 9. The next record begins P3P_RECORD_SIZE bytes on after 0 and after 8;
+ * after 7 and 9 nobody knows where. A length of 0 is 9 too: that the input has ended is yours to
+ * see. */
+uint32_t p3p_read_record(const uint8_t *bytes, size_t length, double frame[24]);
 
 /* ---- root finders */
 

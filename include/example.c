@@ -1,0 +1,108 @@
+/* A plate from the directions to its targets to the place of a hole.
+ *
+ *   cc -O2 -Iinclude include/example.c target/staticlib/libp3p.a -lm -o target/example
+ *   target/example
+ */
+#include "p3p.h"
+#include <math.h>
+#include <stdio.h>
+
+/* The plate's targets in metres, the last for checking, and the hole. */
+static const double plate[4][3] = {
+    {0.0, 0.0, 0.0}, {0.5, 0.0, 0.0}, {0.0, 0.375, 0.0}, {0.5, 0.375, 0.125}};
+static const double hole[3] = {0.25, -0.5, 0.0};
+static const double degrees = 57.29577951308232;
+/* How far off its bearing the checking target may be, in degrees: your measuring error. */
+static const double limit = 0.01;
+
+/* The directions in which the camera sees them (x right, y down, z forward), of any length. */
+static const double directions[4][3] = {
+    {-0.25, -0.125, 2.0}, {0.15, -0.125, 2.3}, {-0.25, 0.25, 2.0}, {0.075, 0.25, 2.4}};
+
+/* What a refusal asks you to do. */
+static const char *advice(uint32_t refusal)
+{
+    switch (refusal) {
+    case P3P_INPUT_NOT_FINITE:
+        return "a number is an infinity or a NaN: see where it was read";
+    case P3P_NO_USABLE_ORDERING:
+        return "the points or bearings do not differ enough, or are too regular: see another side";
+    case P3P_NO_POSE:
+        return "no pose fits: see that bearings are unit vectors and in the order of their targets";
+    case P3P_NO_FINITE_SCORE:
+        return "the checking target cannot be compared: see its coordinates and its bearing";
+    default:
+        return "not a number of solve or choose";
+    }
+}
+
+/* A direction divided by its length, in double: the solver takes unit vectors. Of no length it
+ * becomes NaNs, which solve and choose refuse. */
+static void normalise(const double direction[3], double bearing[3])
+{
+    double x = direction[0], y = direction[1], z = direction[2];
+    double length = sqrt(x * x + y * y + z * z);
+    for (int i = 0; i < 3; i++)
+        bearing[i] = direction[i] / length;
+}
+
+/* Rotation times point plus translation: from the world to the camera. */
+static void apply(const double pose[12], const double point[3], double camera[3])
+{
+    for (int i = 0; i < 3; i++)
+        camera[i] = pose[i] * point[0] + pose[3 + i] * point[1] + pose[6 + i] * point[2]
+                    + pose[9 + i];
+}
+
+static void print_pose(uint32_t number, const double pose[12])
+{
+    printf("pose %u, rotation by rows and translation\n", number);
+    for (int i = 0; i < 3; i++)
+        printf("%10.6f %9.6f %9.6f %12.6f\n", pose[i], pose[3 + i], pose[6 + i], pose[9 + i]);
+}
+
+/* Says what was refused, and what to do. */
+static int refused(const char *what, uint32_t refusal)
+{
+    printf("%s refused %u: %s\n", what, refusal, advice(refusal));
+    return 1;
+}
+
+/* Whether the checking target is seen where a pose puts it. The score tells how far it is off the
+ * line of its bearing, but not on which side of the camera: its depth must be positive too. */
+static int confirmed(const double pose[12], const double bearing[3], double score)
+{
+    double camera[3], angle = atan(sqrt(score)) * degrees;
+    apply(pose, plate[3], camera);
+    double depth = camera[0] * bearing[0] + camera[1] * bearing[1] + camera[2] * bearing[2];
+    printf("checking target %.6f degrees off its bearing, at depth %.6f\n", angle, depth);
+    return angle <= limit && depth > 0.0;
+}
+
+int main(void)
+{
+    double input[18], poses[48], bearing[3], camera[3], score;
+    uint32_t updates[4], count, best, refusal;
+    for (int k = 0; k < 3; k++) {
+        for (int i = 0; i < 3; i++)
+            input[3 * k + i] = plate[k][i];
+        normalise(directions[k], input + 9 + 3 * k);
+    }
+    refusal = p3p_solve(input, poses, updates, &count);
+    if (refusal != 0)
+        return refused("solve", refusal);
+    for (uint32_t k = 0; k < count; k++)
+        print_pose(k + 1, poses + 12 * k);
+
+    normalise(directions[3], bearing);
+    refusal = p3p_choose(poses, count, plate[3], bearing, &best, &score);
+    if (refusal != 0)
+        return refused("choose", refusal);
+    printf("best %u\n", best);
+    const double *pose = poses + 12 * (best - 1);
+    if (!confirmed(pose, bearing, score))
+        return 1;
+    apply(pose, hole, camera);
+    printf("hole at camera %.6f %.6f %.6f\n", camera[0], camera[1], camera[2]);
+    return 0;
+}
