@@ -2,24 +2,28 @@
 //! repository's own.
 
 use std::env;
-use std::path::PathBuf;
+use std::path::{Path, PathBuf};
+use std::process::exit;
 
 fn main() {
     println!("cargo:rerun-if-env-changed=P3P_LIBRARY");
-    let own = PathBuf::from(env::var("CARGO_MANIFEST_DIR").unwrap())
-        .join("../../target/staticlib/libp3p.a");
+    let own = Path::new(env!("CARGO_MANIFEST_DIR")).join("../../target/staticlib/libp3p.a");
     let file = env::var_os("P3P_LIBRARY").map_or(own, PathBuf::from);
-    let file = file.canonicalize().unwrap_or_else(|error| {
-        panic!(
-            "{}: {error}. Run `rt staticlib p3p`, or set P3P_LIBRARY to the library",
-            file.display()
-        )
-    });
+    if let Err(fault) = link(&file) {
+        eprintln!("error: {}: {fault}: run rt staticlib p3p, or set P3P_LIBRARY", file.display());
+        exit(1);
+    }
+}
+
+/// Tells cargo where the library is, or says what is wrong with it.
+fn link(file: &Path) -> Result<(), String> {
+    let file = file.canonicalize().map_err(|error| error.to_string())?;
     println!("cargo:rerun-if-changed={}", file.display());
     let name = file.file_name().and_then(|name| name.to_str());
     let name = name.and_then(|name| name.strip_prefix("lib")?.strip_suffix(".a"));
-    let name =
-        name.unwrap_or_else(|| panic!("{}: not a library's name, libNAME.a", file.display()));
-    println!("cargo:rustc-link-search=native={}", file.parent().unwrap().display());
+    let name = name.ok_or("not a library's name, libNAME.a")?;
+    let folder = file.parent().ok_or("in no folder")?;
+    println!("cargo:rustc-link-search=native={}", folder.display());
     println!("cargo:rustc-link-lib=static={name}");
+    Ok(())
 }

@@ -1,11 +1,15 @@
 //! The solve, its poses and the choice among them.
 
 use crate::refusal::Refusal;
-use crate::sys;
+use crate::sys::{self, Slot};
+use std::array;
+use std::fmt;
+use std::iter::Take;
 use std::ops::Deref;
+use std::slice;
 
 /// A pose that takes world points to camera points: camera = rotation × world + translation.
-#[derive(Clone, Copy, Debug, Default, PartialEq)]
+#[derive(Clone, Copy, Debug, PartialEq)]
 pub struct Pose {
     /// The three columns of the rotation.
     pub rotation: [[f64; 3]; 3],
@@ -16,20 +20,33 @@ pub struct Pose {
 }
 
 impl Pose {
-    fn from_slot(slot: &[f64], updates: u32) -> Self {
-        let vector = |at: usize| [slot[at], slot[at + 1], slot[at + 2]];
-        Self { rotation: [vector(0), vector(3), vector(6)], translation: vector(9), updates }
+    /// Where a world point lies before the camera: rotation × point + translation. The products are
+    /// added from left to right, as in the choice's score.
+    pub fn apply(&self, point: &[f64; 3]) -> [f64; 3] {
+        let rows = self.rows();
+        let turned = rows.map(|row| row[0] * point[0] + row[1] * point[1] + row[2] * point[2]);
+        array::from_fn(|i| turned[i] + self.translation[i])
     }
 
-    fn to_slot(self, slot: &mut [f64]) {
-        slot[..9].copy_from_slice(self.rotation.as_flattened());
-        slot[9..].copy_from_slice(&self.translation);
+    /// The three rows of the rotation.
+    pub fn rows(&self) -> [[f64; 3]; 3] {
+        array::from_fn(|i| self.rotation.map(|column| column[i]))
+    }
+
+    fn from_slot([first, second, third, translation]: Slot, updates: u32) -> Self {
+        Self { rotation: [first, second, third], translation, updates }
+    }
+
+    fn to_slot(self) -> Slot {
+        let [first, second, third] = self.rotation;
+        [first, second, third, self.translation]
     }
 }
 
 /// The one to four poses of a solve, in its order: a slice of poses.
-#[derive(Clone, Copy, Debug)]
+#[derive(Clone, Copy)]
 pub struct Poses {
+    // those from `count` on are plus zeros, and never shown
     slots: [Pose; 4],
     count: usize,
 }
@@ -42,37 +59,76 @@ impl Deref for Poses {
     }
 }
 
+impl fmt::Debug for Poses {
+    fn fmt(&self, f: &mut fmt::Formatter<'_>) -> fmt::Result {
+        f.debug_list().entries(self).finish()
+    }
+}
+
+impl PartialEq for Poses {
+    fn eq(&self, other: &Self) -> bool {
+        **self == **other
+    }
+}
+
+impl IntoIterator for Poses {
+    type Item = Pose;
+    type IntoIter = Take<array::IntoIter<Pose, 4>>;
+
+    fn into_iter(self) -> Self::IntoIter {
+        self.slots.into_iter().take(self.count)
+    }
+}
+
+impl<'a> IntoIterator for &'a Poses {
+    type Item = &'a Pose;
+    type IntoIter = slice::Iter<'a, Pose>;
+
+    fn into_iter(self) -> Self::IntoIter {
+        self.iter()
+    }
+}
+
 /// The poses from which three world points are seen at three bearings, each point and bearing as x,
-/// y, z. The bearings are to be unit vectors: those of other lengths are usually refused, and an
-/// answer to them is seldom of use.
+/// y, z. The bearings are to be unit vectors ([`normalise`](crate::normalise)): those of other
+/// lengths are usually refused, and an answer to them is seldom of use.
 pub fn solve(world: &[[f64; 3]; 3], bearings: &[[f64; 3]; 3]) -> Result<Poses, Refusal> {
-    let mut input = [0.0; 18];
-    input[..9].copy_from_slice(world.as_flattened());
-    input[9..].copy_from_slice(bearings.as_flattened());
-    let (mut words, mut updates, mut count) = ([0.0; 48], [0; 4], 0);
+    let [p0, p1, p2] = *world;
+    let [f0, f1, f2] = *bearings;
+    let input = [p0, p1, p2, f0, f1, f2];
+    let (mut found, mut updates, mut count) = ([Slot::default(); 4], [0; 4], 0);
     // SAFETY: the references are to arrays of this function's own, of the lengths that the C
     // function reads and writes.
-    let number = unsafe { sys::p3p_solve(&input, &mut words, &mut updates, &mut count) };
-    let slots = std::array::from_fn(|slot| {
-        Pose::from_slot(&words[12 * slot..12 * slot + 12], updates[slot])
-    });
+    let number = unsafe { sys::p3p_solve(&input, &mut found, &mut updates, &mut count) };
+    let slots = array::from_fn(|slot| Pose::from_slot(found[slot], updates[slot]));
     Refusal::unless_zero(number, Poses { slots, count: count as usize })
 }
 
-/// The index of the pose under which a fourth target lies nearest to the line of its bearing: the
-/// lowest finite |camera × bearing|² / (camera · bearing)², of equal ones the earliest. The depth
-/// is squared, so a target behind the camera scores as its mirror image in front of it does. Poses
-/// after the fourth are not looked at.
-pub fn choose(poses: &[Pose], target: &[f64; 3], bearing: &[f64; 3]) -> Result<usize, Refusal> {
-    let mut words = [0.0; 48];
-    for (pose, slot) in poses.iter().zip(words.chunks_exact_mut(12)) {
-        pose.to_slot(slot);
+/// The pose that a fourth target confirms.
+#[derive(Clone, Copy, Debug, PartialEq)]
+pub struct Choice {
+    /// Its place among the poses, from 0.
+    pub index: usize,
+    /// Its score, the squared tangent of the angle between the target and the line of its bearing:
+    /// the angle is `score.sqrt().atan()`. The choice is the best of the poses and need not be
+    /// good: that the angle is within your measuring error is yours to ask.
+    pub score: f64,
+}
+
+/// The pose under which a fourth target lies nearest to the line of its bearing: the lowest finite
+/// |camera × bearing|² / (camera · bearing)², of equal ones the earliest. The depth is squared, so
+/// a target behind the camera scores as its mirror image in front of it does. Poses after the
+/// fourth are not looked at.
+pub fn choose(poses: &[Pose], target: &[f64; 3], bearing: &[f64; 3]) -> Result<Choice, Refusal> {
+    let mut slots = [Slot::default(); 4];
+    for (pose, slot) in poses.iter().zip(&mut slots) {
+        *slot = pose.to_slot();
     }
-    let count = poses.len().min(4) as u32;
-    let mut best = 0;
-    // SAFETY: the references are to arrays of the lengths that the C function reads, and `best` is
-    // this function's own.
-    let number = unsafe { sys::p3p_choose(&words, count, target, bearing, &mut best) };
+    let count = poses.len().min(slots.len()) as u32;
+    let (mut best, mut score) = (0, 0.0);
+    // SAFETY: the references are to arrays of the lengths that the C function reads, and `best` and
+    // `score` are this function's own.
+    let number = unsafe { sys::p3p_choose(&slots, count, target, bearing, &mut best, &mut score) };
     // The C function counts from 1; a refusal leaves 0.
-    Refusal::unless_zero(number, (best as usize).saturating_sub(1))
+    Refusal::unless_zero(number, Choice { index: (best as usize).saturating_sub(1), score })
 }

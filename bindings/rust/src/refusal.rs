@@ -18,6 +18,12 @@ pub enum Refusal {
     NoRealRoots = 5,
     /// No root of the cubic was found.
     NoRoot = 6,
+    /// The record's length is not 193.
+    RecordLength = 7,
+    /// The record's version is not 1.
+    RecordVersion = 8,
+    /// Bytes of the record are missing.
+    RecordCutShort = 9,
     /// No pose has a finite score.
     NoFiniteScore = 10,
 }
@@ -38,6 +44,9 @@ impl Refusal {
             4 => Self::CoefficientNotFinite,
             5 => Self::NoRealRoots,
             6 => Self::NoRoot,
+            7 => Self::RecordLength,
+            8 => Self::RecordVersion,
+            9 => Self::RecordCutShort,
             10 => Self::NoFiniteScore,
             _ => unreachable!("no refusal has the number {number}"),
         })
@@ -53,6 +62,9 @@ impl fmt::Display for Refusal {
             Self::CoefficientNotFinite => "a coefficient is not finite",
             Self::NoRealRoots => "the quadratic has no real roots",
             Self::NoRoot => "no root of the cubic was found",
+            Self::RecordLength => "the record's length is not 193",
+            Self::RecordVersion => "the record's version is not 1",
+            Self::RecordCutShort => "bytes of the record are missing",
             Self::NoFiniteScore => "no pose has a finite score",
         })
     }

@@ -1,5 +1,9 @@
 //! The functions of include/p3p.h. References and arrays stand for C's pointers to as many
-//! elements; a `&mut` is never the same memory as another argument, as the header asks.
+//! elements; a `&mut` is never the same memory as another argument, as the header asks. A vector is
+//! `[f64; 3]`, so that points, bearings and poses are arrays of vectors in the header's order.
+
+/// A pose as the C functions hold it: the three columns of the rotation, and the translation.
+pub type Slot = [[f64; 3]; 4];
 
 extern "C" {
     // Numbers in and numbers out: there is nothing that a caller could break.
@@ -14,16 +18,19 @@ extern "C" {
     pub fn p3p_quadratic(b: f64, c: f64, first: &mut f64, second: &mut f64) -> u32;
     pub fn p3p_cubic(b: f64, c: f64, d: f64, root: &mut f64) -> u32;
     pub fn p3p_solve(
-        input: &[f64; 18],
-        poses: &mut [f64; 48],
+        input: &[[f64; 3]; 6],
+        poses: &mut [Slot; 4],
         updates: &mut [u32; 4],
         count: &mut u32,
     ) -> u32;
     pub fn p3p_choose(
-        poses: &[f64; 48],
+        poses: &[Slot; 4],
         count: u32,
         target: &[f64; 3],
         bearing: &[f64; 3],
         best: &mut u32,
+        score: &mut f64,
     ) -> u32;
+    // `bytes` must be readable for `length` bytes.
+    pub fn p3p_read_record(bytes: *const u8, length: usize, frame: &mut [[f64; 3]; 8]) -> u32;
 }

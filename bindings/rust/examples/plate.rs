@@ -1,0 +1,55 @@
+//! A plate from the directions to its targets to the place of a hole, as include/example.c.
+//!
+//!     cargo run --example plate
+
+use std::error::Error;
+use std::io::{stdout, Write};
+
+// The plate's targets in metres, the last for checking, and the hole.
+const PLATE: [[f64; 3]; 4] =
+    [[0.0, 0.0, 0.0], [0.5, 0.0, 0.0], [0.0, 0.375, 0.0], [0.5, 0.375, 0.125]];
+const HOLE: [f64; 3] = [0.25, -0.5, 0.0];
+
+// The directions in which the camera sees them (x right, y down, z forward), of any length.
+const DIRECTIONS: [[f64; 3]; 4] =
+    [[-0.25, -0.125, 2.0], [0.15, -0.125, 2.3], [-0.25, 0.25, 2.0], [0.075, 0.25, 2.4]];
+
+// How far off its bearing the checking target may be, in degrees: your measuring error.
+const LIMIT: f64 = 0.01;
+
+fn write_pose(out: &mut impl Write, number: usize, pose: &p3p::Pose) -> Result<(), Box<dyn Error>> {
+    writeln!(out, "pose {number}, rotation by rows and translation")?;
+    for ([a, b, c], t) in pose.rows().iter().zip(&pose.translation) {
+        writeln!(out, "{a:10.6} {b:9.6} {c:9.6} {t:12.6}")?;
+    }
+    Ok(())
+}
+
+/// Writes the poses, what the checking target says of the best, and where that puts the hole.
+pub fn report(out: &mut impl Write) -> Result<(), Box<dyn Error>> {
+    let [p0, p1, p2, target] = PLATE;
+    let [f0, f1, f2, bearing] = DIRECTIONS.map(|d| p3p::normalise(&d).expect("a direction"));
+    let poses = p3p::solve(&[p0, p1, p2], &[f0, f1, f2])?; // one to four, or the refusal
+    for (k, pose) in poses.iter().enumerate() {
+        write_pose(out, k + 1, pose)?;
+    }
+    let choice = p3p::choose(&poses, &target, &bearing)?; // by the fourth target
+    writeln!(out, "best {}", choice.index + 1)?;
+    let pose = &poses[choice.index];
+
+    // The score tells how far the target is off the line of its bearing, but not on which side of
+    // the camera: its depth must be positive too.
+    let angle = choice.score.sqrt().atan().to_degrees();
+    let depth: f64 = pose.apply(&target).iter().zip(&bearing).map(|(c, b)| c * b).sum();
+    writeln!(out, "checking target {angle:.6} degrees off its bearing, at depth {depth:.6}")?;
+    if angle > LIMIT || depth <= 0.0 {
+        return Err("the checking target is not where the best pose puts it".into());
+    }
+    let [x, y, z] = pose.apply(&HOLE);
+    writeln!(out, "hole at camera {x:.6} {y:.6} {z:.6}")?;
+    Ok(())
+}
+
+fn main() -> Result<(), Box<dyn Error>> {
+    report(&mut stdout())
+}
