@@ -27,4 +27,5 @@ ask(p3p.p3p_choose, poses, count, target, bearing, byref(best), byref(score))
 pose = poses[12 * best.value - 12 : 12 * best.value]
 x, y, z = 0.25, -0.5, 0.0
 hole = [pose[i] * x + pose[3 + i] * y + pose[6 + i] * z + pose[9 + i] for i in range(3)]
-print(f"best {best.value} of {count.value}, hole at camera", *(f"{c:.6f}" for c in hole))
+print("best", best.value)
+print("hole at camera", *(f"{c:.6f}" for c in hole))

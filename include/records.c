@@ -1,10 +1,13 @@
-/* Lists the records of standard input: of each the poses, or why there are none.
+/* Lists the records of standard input: of each how many poses it has and the best, or the refusal.
  *
- *   cc -O2 -Iinclude include/records.c target/staticlib/libp3p.a -o target/records
+ *   cc -O2 -Iinclude include/records.c target/staticlib/libp3p.a -lm -o target/records
  *   target/records < samples/frames.bin
  */
 #include "p3p.h"
+#include <math.h>
 #include <stdio.h>
+
+static const double degrees = 57.29577951308232;
 
 static void list_frame(unsigned long number, const double frame[24])
 {
@@ -19,7 +22,8 @@ static void list_frame(unsigned long number, const double frame[24])
     if (refusal != 0)
         printf("%lu poses %u, choice refused %u\n", number, count, refusal);
     else
-        printf("%lu poses %u, best %u with score %.2e\n", number, count, best, score);
+        printf("%lu poses %u, best %u, checking target %.6f degrees off its bearing\n", number,
+               count, best, atan(sqrt(score)) * degrees);
 }
 
 int main(void)
@@ -31,15 +35,14 @@ int main(void)
     while ((length = fread(record, 1, sizeof record, stdin)) != 0) {
         uint32_t refusal = p3p_read_record(record, length, frame);
         number++;
-        if (refusal == 0) {
+        if (refusal == 0)
             list_frame(number, frame);
-        } else if (refusal == P3P_RECORD_VERSION) {
-            printf("%lu refused 8: of another version, and the next record follows\n", number);
-        } else {
-            /* 7 or 9 */
-            printf("%lu refused %u: stopped, nobody knows where the next begins\n", number, refusal);
+        else
+            printf("%lu refused %u\n", number, refusal);
+        /* After 8, a record of another version, the next one follows; after 7 and 9 nobody knows
+         * where it begins. */
+        if (refusal == P3P_RECORD_LENGTH || refusal == P3P_RECORD_CUT_SHORT)
             return 1;
-        }
     }
     return ferror(stdin) ? 1 : 0;
 }

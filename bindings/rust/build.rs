@@ -7,7 +7,9 @@ use std::process::exit;
 
 fn main() {
     println!("cargo:rerun-if-env-changed=P3P_LIBRARY");
-    let own = Path::new(env!("CARGO_MANIFEST_DIR")).join("../../target/staticlib/libp3p.a");
+    // asked at each run, since cargo runs one script for the crate and for its packaged copy
+    let folder = PathBuf::from(env::var_os("CARGO_MANIFEST_DIR").unwrap_or_default());
+    let own = folder.join("../../target/staticlib/libp3p.a");
     let file = env::var_os("P3P_LIBRARY").map_or(own, PathBuf::from);
     if let Err(fault) = link(&file) {
         eprintln!("error: {}: {fault}: run rt staticlib p3p, or set P3P_LIBRARY", file.display());

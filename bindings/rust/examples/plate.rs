@@ -2,8 +2,7 @@
 //!
 //!     cargo run --example plate
 
-use std::error::Error;
-use std::io::{stdout, Write};
+use p3p::{Pose, Refusal};
 
 // The plate's targets in metres, the last for checking, and the hole.
 const PLATE: [[f64; 3]; 4] =
@@ -17,39 +16,35 @@ const DIRECTIONS: [[f64; 3]; 4] =
 // How far off its bearing the checking target may be, in degrees: your measuring error.
 const LIMIT: f64 = 0.01;
 
-fn write_pose(out: &mut impl Write, number: usize, pose: &p3p::Pose) -> Result<(), Box<dyn Error>> {
-    writeln!(out, "pose {number}, rotation by rows and translation")?;
+fn print_pose(number: usize, pose: &Pose) {
+    println!("pose {number}, rotation by rows and translation");
     for ([a, b, c], t) in pose.rows().iter().zip(&pose.translation) {
-        writeln!(out, "{a:10.6} {b:9.6} {c:9.6} {t:12.6}")?;
+        println!("{a:10.6} {b:9.6} {c:9.6} {t:12.6}");
     }
-    Ok(())
 }
 
-/// Writes the poses, what the checking target says of the best, and where that puts the hole.
-pub fn report(out: &mut impl Write) -> Result<(), Box<dyn Error>> {
+/// Whether the checking target is seen where a pose puts it. The score tells how far it is off the
+/// line of its bearing, but not on which side of the camera: its depth must be positive too.
+fn confirmed(pose: &Pose, target: &[f64; 3], bearing: &[f64; 3], score: f64) -> bool {
+    let angle = score.sqrt().atan().to_degrees();
+    let depth: f64 = pose.apply(target).iter().zip(bearing).map(|(c, b)| c * b).sum();
+    println!("checking target {angle:.6} degrees off its bearing, at depth {depth:.6}");
+    angle <= LIMIT && depth > 0.0
+}
+
+fn main() -> Result<(), Refusal> {
     let [p0, p1, p2, target] = PLATE;
     let [f0, f1, f2, bearing] = DIRECTIONS.map(|d| p3p::normalise(&d).expect("a direction"));
     let poses = p3p::solve(&[p0, p1, p2], &[f0, f1, f2])?; // one to four, or the refusal
     for (k, pose) in poses.iter().enumerate() {
-        write_pose(out, k + 1, pose)?;
+        print_pose(k + 1, pose);
     }
     let choice = p3p::choose(&poses, &target, &bearing)?; // by the fourth target
-    writeln!(out, "best {}", choice.index + 1)?;
+    println!("best {}", choice.index + 1);
     let pose = &poses[choice.index];
-
-    // The score tells how far the target is off the line of its bearing, but not on which side of
-    // the camera: its depth must be positive too.
-    let angle = choice.score.sqrt().atan().to_degrees();
-    let depth: f64 = pose.apply(&target).iter().zip(&bearing).map(|(c, b)| c * b).sum();
-    writeln!(out, "checking target {angle:.6} degrees off its bearing, at depth {depth:.6}")?;
-    if angle > LIMIT || depth <= 0.0 {
-        return Err("the checking target is not where the best pose puts it".into());
+    if confirmed(pose, &target, &bearing, choice.score) {
+        let [x, y, z] = pose.apply(&HOLE); // rotation × point + translation
+        println!("hole at camera {x:.6} {y:.6} {z:.6}");
     }
-    let [x, y, z] = pose.apply(&HOLE);
-    writeln!(out, "hole at camera {x:.6} {y:.6} {z:.6}")?;
     Ok(())
-}
-
-fn main() -> Result<(), Box<dyn Error>> {
-    report(&mut stdout())
 }

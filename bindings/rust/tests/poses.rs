@@ -1,4 +1,4 @@
-//! The poses of a plate whose pose is given, the choice among them, and what a pose does to a point.
+//! The poses of a plate whose pose is given, the choice among them, and a pose applied to a point.
 
 use p3p::{Choice, Pose};
 

@@ -1,0 +1,131 @@
+/* Every refusal by a call, and that a refused call has written nothing. Memory is filled with a
+ * pattern before each call; an answered call must have changed it, so that the comparison is known
+ * to see a write. With any argument each call is expected to return one more, which must be found
+ * wrong. Prints how many of the calls went wrong. */
+#include "p3p.h"
+#include <math.h>
+#include <stdio.h>
+#include <string.h>
+
+enum { PATTERN = 0xa5 };
+
+/* All memory that is lent to be written. */
+static struct {
+    double poses[48], first, second, root, score, frame[24];
+    uint32_t updates[4], count, best;
+} lent;
+
+static uint32_t calls, wrong, added;
+
+static int untouched(void)
+{
+    const unsigned char *bytes = (const unsigned char *)&lent;
+    for (size_t i = 0; i < sizeof lent; i++)
+        if (bytes[i] != PATTERN)
+            return 0;
+    return 1;
+}
+
+static void expect(const char *call, uint32_t expected, uint32_t number)
+{
+    calls++;
+    if (number != expected + added || untouched() != (number != 0)) {
+        wrong++;
+        if (added == 0)
+            printf("%s: %u in place of %u, memory %s\n", call, number, expected,
+                   untouched() ? "as it was" : "written");
+    }
+    memset(&lent, PATTERN, sizeof lent);
+}
+
+static uint32_t solve(const double input[18])
+{
+    return p3p_solve(input, lent.poses, lent.updates, &lent.count);
+}
+
+static void solves(void)
+{
+    const double axes[9] = {1, 0, 0, 0, 1, 0, 0, 0, 1}, line[9] = {0, 0, 0, 1, 0, 0, 2, 0, 0};
+    const double plate[9] = {0, 0, 0, 0.4, 0, 0, 0, 0.3, 0.05};
+    double input[18];
+    memcpy(input, axes, sizeof axes);
+    memcpy(input + 9, axes, sizeof axes);
+    expect("solve, the axes", P3P_NO_USABLE_ORDERING, solve(input));
+    input[17] = INFINITY;
+    expect("solve, an infinity", P3P_INPUT_NOT_FINITE, solve(input));
+    input[17] = NAN;
+    expect("solve, a NaN", P3P_INPUT_NOT_FINITE, solve(input));
+    input[17] = 1;
+    memcpy(input, line, sizeof line);
+    expect("solve, points on a line", P3P_NO_POSE, solve(input));
+    memcpy(input, plate, sizeof plate);
+    for (int k = 0; k < 3; k++) {
+        double x = plate[3 * k], y = plate[3 * k + 1], z = plate[3 * k + 2] + 2;
+        double length = p3p_sqrt(x * x + y * y + z * z);
+        input[9 + 3 * k] = x / length;
+        input[10 + 3 * k] = y / length;
+        input[11 + 3 * k] = z / length;
+    }
+    expect("solve, a plate", 0, solve(input));
+}
+
+static uint32_t choose(uint32_t count, const double bearing[3])
+{
+    /* four times the pose that moves nothing */
+    const double pose[12] = {1, 0, 0, 0, 1, 0, 0, 0, 1, 0, 0, 0}, target[3] = {0, 0, 2};
+    double poses[48];
+    for (int k = 0; k < 4; k++)
+        memcpy(poses + 12 * k, pose, sizeof pose);
+    return p3p_choose(poses, count, target, bearing, &lent.best, &lent.score);
+}
+
+static void choices(void)
+{
+    const double ahead[3] = {0, 0, 1}, aside[3] = {1, 0, 0}, nowhere[3] = {NAN, 0, 0};
+    expect("choose, no pose", P3P_NO_FINITE_SCORE, choose(0, ahead));
+    expect("choose, depth zero", P3P_NO_FINITE_SCORE, choose(4, aside));
+    expect("choose, a NaN", P3P_NO_FINITE_SCORE, choose(4, nowhere));
+    expect("choose, a pose", 0, choose(1, ahead));
+    expect("choose, more than four", 0, choose(4000000000u, ahead));
+}
+
+static void roots(void)
+{
+    expect("quadratic, a NaN", P3P_COEFFICIENT_NOT_FINITE,
+           p3p_quadratic(NAN, 1, &lent.first, &lent.second));
+    expect("quadratic, x^2 + 1", P3P_NO_REAL_ROOTS,
+           p3p_quadratic(0, 1, &lent.first, &lent.second));
+    expect("quadratic, x^2 - 3x + 2", 0, p3p_quadratic(-3, 2, &lent.first, &lent.second));
+    expect("cubic, an infinity", P3P_COEFFICIENT_NOT_FINITE,
+           p3p_cubic(0, INFINITY, 0, &lent.root));
+    expect("cubic, (x + 1)^3", P3P_NO_ROOT, p3p_cubic(3, 3, 1, &lent.root));
+    expect("cubic, x^3 + x - 10", 0, p3p_cubic(0, 1, -10, &lent.root));
+}
+
+static void records(void)
+{
+    uint8_t bytes[P3P_RECORD_SIZE] = {0, 193, 1};
+    for (size_t length = 0; length < sizeof bytes; length++)
+        expect("record, cut short", P3P_RECORD_CUT_SHORT,
+               p3p_read_record(bytes, length, lent.frame));
+    expect("record, whole", 0, p3p_read_record(bytes, sizeof bytes, lent.frame));
+    bytes[2] = 2;
+    expect("record, version 2", P3P_RECORD_VERSION,
+           p3p_read_record(bytes, sizeof bytes, lent.frame));
+    bytes[1] = 194;
+    expect("record, length 194", P3P_RECORD_LENGTH,
+           p3p_read_record(bytes, sizeof bytes, lent.frame));
+}
+
+int main(int argc, char **argv)
+{
+    (void)argv;
+    added = argc > 1 ? 1 : 0;
+    memset(&lent, PATTERN, sizeof lent);
+    solves();
+    choices();
+    roots();
+    records();
+    printf("%u of %u calls wrong\n", wrong, calls);
+    return wrong == 0 ? 0 : 1;
+}

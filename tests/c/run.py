@@ -1,0 +1,166 @@
+#!/usr/bin/env python3
+"""The library from C, C++ and Python: the examples of include/ and every refusal.
+
+    tests/c/run.py LIBRARY             LIBRARY: the path of libp3p.a
+    tests/c/run.py LIBRARY --store     rewrite include/example.txt and include/records.txt
+
+The examples are compiled as C99 and as C++ with all warnings as errors, and must print what is
+stored in include/; of the sample they must list what samples/listing.txt does. The commands of
+include/README.md are run as they stand there. tests/c/refusals.c calls for every refusal number. A
+stored text with another number, and refusals.c with other expectations, must be found wrong.
+
+Needs cc and c++."""
+import os
+import re
+import subprocess
+import sys
+import tempfile
+
+ROOT = os.path.join(os.path.dirname(os.path.abspath(__file__)), "..", "..")
+WARNINGS = ["-Wall", "-Wextra", "-pedantic", "-Werror"]
+LANGUAGES = {"c": ["cc", "-std=c99"], "c++": ["c++", "-std=c++11"]}
+STORED = {"example": "include/example.txt", "records": "include/records.txt"}
+SAMPLE, LISTING = "samples/frames.bin", "samples/listing.txt"
+RECORD = 195
+
+
+def read(path):
+    with open(os.path.join(ROOT, path), encoding="utf-8") as f:
+        return f.read()
+
+
+def sample():
+    with open(os.path.join(ROOT, SAMPLE), "rb") as f:
+        return f.read()
+
+
+def output(command, given=b"", status=0):
+    """What a command prints; it must end with the status."""
+    run = subprocess.run(
+        command, cwd=ROOT, input=given, stdout=subprocess.PIPE, stderr=subprocess.STDOUT
+    )
+    text = run.stdout.decode(errors="replace")
+    if run.returncode != status:
+        sys.exit(f"{command}: status {run.returncode} in place of {status}\n{text}")
+    return text
+
+
+def build(source, language, folder, library):
+    """The path of the program that is compiled of a source."""
+    name = os.path.join(folder, os.path.basename(source) + "." + language)
+    compiler = LANGUAGES[language] + WARNINGS + ["-O2", "-Iinclude", "-x", language]
+    output(compiler + [source, "-x", "none", library, "-lm", "-o", name])
+    return name
+
+
+class Comparison:
+    """Counts what was compared and what differed."""
+
+    def __init__(self):
+        self.count, self.faults = 0, []
+
+    def equal(self, name, found, expected):
+        self.count += 1
+        if found != expected:
+            self.faults.append(f"{name}:\n{found}in place of\n{expected}")
+
+    def different(self, name, found, expected):
+        """A control: the two must not be equal."""
+        self.count += 1
+        if found == expected:
+            self.faults.append(f"{name}: not noticed")
+
+
+def run_examples(folder, language, library):
+    """What the two examples print, by name; the second lists the sample."""
+    programs = {name: build(f"include/{name}.c", language, folder, library) for name in STORED}
+    return {name: output([program], sample()) for name, program in programs.items()}, programs
+
+
+def broken_inputs():
+    """Inputs with records of another version, of another length and cut short, and what is listed
+    after the first record."""
+    good, rest = sample()[:RECORD], sample()[3:RECORD]
+    version, length = b"\x00\xc1\x02" + rest, b"\x00\xc0\x01" + rest
+    return [
+        (good + version, "2 refused 8\n", 0),
+        (good + version + length + good, "2 refused 8\n3 refused 7\n", 1),
+        (good + good[:-1], "2 refused 9\n", 1),
+        (good + good[:1], "2 refused 9\n", 1),
+    ]
+
+
+def compare_examples(compared, folder, language, library):
+    printed, programs = run_examples(folder, language, library)
+    for name, path in STORED.items():
+        compared.equal(f"{name} ({language})", printed[name], read(path))
+    first = read(STORED["records"]).splitlines(True)[0]
+    for given, listed, status in broken_inputs():
+        compared.equal(
+            f"records ({language})", output([programs["records"]], given, status), first + listed
+        )
+    other = read(STORED["example"]).replace("2.150000", "2.150001")
+    compared.different(f"example ({language}), another number", printed["example"], other)
+
+
+def compare_refusals(compared, folder, language, library):
+    program = build("tests/c/refusals.c", language, folder, library)
+    found = output([program])
+    calls = re.fullmatch(r"0 of (\d+) calls wrong\n", found)
+    compared.equal(f"refusals ({language})", bool(calls) and int(calls[1]) > 0, True)
+    expected = f"{calls[1]} of {calls[1]} calls wrong\n" if calls else ""
+    compared.equal(f"wrong refusals ({language})", output([program, "wrong"], b"", 1), expected)
+
+
+def compare_listing(compared):
+    """The counts and choices of the sample, as the program poses lists them."""
+    words = re.findall(r"^(\d+) (?:poses (\d+) best (\d+)|refused (\d+))$", read(LISTING), re.M)
+    lines = re.findall(
+        r"^(\d+) (?:poses (\d+), (?:best|choice refused) (\d+).*|refused (\d+))$",
+        read(STORED["records"]).replace("choice refused 10", "best 0"),
+        re.M,
+    )
+    compared.equal("the sample's listing", lines, words)
+
+
+def page_commands(folder, library):
+    """The commands of include/README.md as one script, with this library and folder."""
+    blocks = re.findall(r"^<!-- shell -->\n((?:    .*\n)+)", read("include/README.md"), re.M)
+    lines = [line for line in "".join(blocks).splitlines(True) if not line.startswith("    rt ")]
+    script = "".join(lines).replace("target/staticlib/libp3p.a", library)
+    return script.replace("target/", folder + "/")
+
+
+def compare_page(compared, folder, library):
+    example = read(STORED["example"])
+    # example.py solves the same plate, and prints less
+    python = re.findall(r"^(?:best|hole) .*\n", example, re.M)
+    expected = example + read(STORED["records"]) + "".join(python)
+    found = output(["sh", "-e", "-c", page_commands(folder, library)])
+    compared.equal("include/README.md's commands", found, expected)
+
+
+def store(folder, library):
+    printed, _ = run_examples(folder, "c", library)
+    for name, path in STORED.items():
+        with open(os.path.join(ROOT, path), "w", encoding="utf-8") as f:
+            f.write(printed[name])
+
+
+def main():
+    if len(sys.argv) < 2 or sys.argv[2:] not in ([], ["--store"]):
+        sys.exit(__doc__)
+    library, compared = os.path.abspath(sys.argv[1]), Comparison()
+    with tempfile.TemporaryDirectory() as folder:
+        if sys.argv[2:]:
+            return store(folder, library)
+        for language in LANGUAGES:
+            compare_examples(compared, folder, language, library)
+            compare_refusals(compared, folder, language, library)
+        compare_listing(compared)
+        compare_page(compared, folder, library)
+    print(*compared.faults, f"{compared.count} compared, {len(compared.faults)} wrong", sep="\n")
+    return 1 if compared.faults else 0
+
+
+sys.exit(main())
