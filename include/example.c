@@ -24,13 +24,13 @@ static const char *advice(uint32_t refusal)
 {
     switch (refusal) {
     case P3P_INPUT_NOT_FINITE:
-        return "a number is an infinity or a NaN: see where it was read";
+        return "a number is an infinity or a NaN: look for the target that was lost";
     case P3P_NO_USABLE_ORDERING:
-        return "the points or bearings do not differ enough, or are too regular: see another side";
+        return "an equilateral plate seen squarely, or all at one place: move the camera aside";
     case P3P_NO_POSE:
-        return "no pose fits: see that bearings are unit vectors and in the order of their targets";
+        return "no pose fits: look whether bearings have unit length, or points lie in a line";
     case P3P_NO_FINITE_SCORE:
-        return "the checking target cannot be compared: see its coordinates and its bearing";
+        return "no pose has a finite score: look at the checking target and its bearing";
     default:
         return "not a number of solve or choose";
     }
@@ -100,8 +100,10 @@ int main(void)
         return refused("choose", refusal);
     printf("best %u\n", best);
     const double *pose = poses + 12 * (best - 1);
-    if (!confirmed(pose, bearing, score))
+    if (!confirmed(pose, bearing, score)) {
+        printf("not confirmed\n");
         return 1;
+    }
     apply(pose, hole, camera);
     printf("hole at camera %.6f %.6f %.6f\n", camera[0], camera[1], camera[2]);
     return 0;

@@ -2,16 +2,16 @@
  *
  * Each function's result, and what it leaves in the memory that is lent to it, is proved equal to a
  * definition for every input, infinities and NaNs too (crates/p3p). None allocates or keeps state:
- * each may be called from several threads at once. A solve has been measured to take less than
- * 4 KiB of stack (docs/BENCHMARKS.md), the others take less.
+ * each may be called from several threads at once. A solve was measured to take less than 4 KiB of
+ * stack (docs/BENCHMARKS.md); the others take less.
  *
  * The floating-point environment must be as C starts a program:
  *   - The rounding mode is to nearest.
- *   - Flush-to-zero and denormals-are-zero are off. With them on some answers differ in bits, or
- *     become refusals, and nothing tells so. A program that is linked with -ffast-math or -Ofast
- *     turns both on before main (crtfastmath.o).
- *   - Traps are masked. The functions raise IEEE 754's exception flags, on inputs too that they
- *     answer. With traps unmasked (feenableexcept) a solve can stop the program.
+ *   - Flush-to-zero and denormals-are-zero are off. With them some inputs get another answer or
+ *     refusal, and nothing tells so. A program that is linked with -ffast-math or -Ofast turns both
+ *     on before main (crtfastmath.o); so does, of GCC before 13, a shared library that is loaded.
+ *   - Traps are masked. The functions raise IEEE 754's exception flags, where they answer too: with
+ *     traps unmasked (feenableexcept) a solve can stop the program.
  *
  * A pointer is to as many elements as its declaration says. Those that a function writes through
  * must not overlap each other or what it reads. Where a number is returned, 0 means that there is

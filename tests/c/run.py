@@ -103,6 +103,29 @@ def compare_examples(compared, folder, language, library):
     compared.different(f"example ({language}), another number", printed["example"], other)
 
 
+THREE = "{-0.25, -0.125, 2.0}, {0.15, -0.125, 2.3}, {-0.25, 0.25, 2.0}"
+# Changes of example.c's numbers, and the beginning of the last line that it prints then.
+CHANGES = [
+    ("{-0.25, -0.125, 2.0}", "{0.0, 0.0, 0.0}", "solve refused 1: a number is an infinity"),
+    (THREE, "{0.0, 0.0, 1.0}, {0.0, 0.0, 1.0}, {0.0, 0.0, 1.0}", "solve refused 2: an equilateral"),
+    ("{0.0, 0.375, 0.0}", "{1.0, 0.0, 0.0}", "solve refused 3: no pose fits"),
+    ("{0.075, 0.25, 2.4}", "{0.0, 0.0, 0.0}", "choose refused 10: no pose has a finite"),
+    ("{0.075, 0.25, 2.4}", "{0.1, 0.25, 2.4}", "not confirmed"),
+    # the mirror image behind the camera
+    ("{0.075, 0.25, 2.4}", "{-0.075, -0.25, -2.4}", "not confirmed"),
+]
+
+
+def compare_changes(compared, folder, language, library):
+    """What example.c says where there is no answer, or none that is confirmed."""
+    for old, new, begin in CHANGES:
+        source = os.path.join(folder, "changed.c")
+        with open(source, "w", encoding="utf-8") as f:
+            f.write(read("include/example.c").replace(old, new))
+        last = output([build(source, language, folder, library)], b"", 1).splitlines()[-1]
+        compared.equal(f"example with {new}", last[: len(begin)] + "\n", begin + "\n")
+
+
 def compare_refusals(compared, folder, language, library):
     program = build("tests/c/refusals.c", language, folder, library)
     found = output([program])
@@ -116,7 +139,7 @@ def compare_listing(compared):
     """The counts and choices of the sample, as the program poses lists them."""
     words = re.findall(r"^(\d+) (?:poses (\d+) best (\d+)|refused (\d+))$", read(LISTING), re.M)
     lines = re.findall(
-        r"^(\d+) (?:poses (\d+), (?:best|choice refused) (\d+).*|refused (\d+))$",
+        r"^(\d+) (?:poses (\d+), best (\d+).*|refused (\d+))$",
         read(STORED["records"]).replace("choice refused 10", "best 0"),
         re.M,
     )
@@ -156,6 +179,7 @@ def main():
             return store(folder, library)
         for language in LANGUAGES:
             compare_examples(compared, folder, language, library)
+            compare_changes(compared, folder, language, library)
             compare_refusals(compared, folder, language, library)
         compare_listing(compared)
         compare_page(compared, folder, library)

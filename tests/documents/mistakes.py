@@ -70,7 +70,7 @@ def harmless():
     yield replaced(C, "<!-- from include/example.txt -->", "<!-- output of include/example.txt -->")
     yield replaced(C, "    target/example\n", "    target/example again\n")
     yield replaced(RUST, "\nIn another project", "\n- an item\n\n    of two paragraphs\n\nIn")
-    yield replaced(C, "[p3p.h](p3p.h)", "[p3p.h](p3p.h#L3), `[a](b)`, [c](https://d.example/)")
+    yield replaced(C, "[p3p.h](p3p.h)", "[p](p3p.h#L3) `[a](b)` [c](https://d.example/)\n")
 
 
 def unnoticed():

@@ -45,6 +45,8 @@ fn main() -> Result<(), Refusal> {
     if confirmed(pose, &target, &bearing, choice.score) {
         let [x, y, z] = pose.apply(&HOLE); // rotation × point + translation
         println!("hole at camera {x:.6} {y:.6} {z:.6}");
+    } else {
+        println!("not confirmed");
     }
     Ok(())
 }
