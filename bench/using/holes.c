@@ -1,0 +1,135 @@
+// Three ways from a pose to the hole before the camera, and how far from the true camera point each
+// ends: R * x + t as it stands, by way of the camera centre, and by way of a unit quaternion as the
+// Rust goes. The pose is the one that puts the hole nearest; in the error are the rounding of the
+// coordinates and bearings that go in, the solve's own, and the way's.
+#include "measure.h"
+
+typedef void way(const double pose[12], const double x[3], double out[3]);
+
+// c = -R^T t, then R * (x - c)
+static void by_centre(const double pose[12], const double x[3], double out[3]) {
+    double turned[12] = {0}, from_centre[3];
+    memcpy(turned, pose, 9 * sizeof *pose);
+    for (int i = 0; i < 3; i++) {
+        const double *column = pose + 3 * i, *t = pose + 9;
+        double centre = -(column[0] * t[0] + column[1] * t[1] + column[2] * t[2]);
+        from_centre[i] = x[i] - centre;
+    }
+    apply(turned, from_centre, out);
+}
+
+// The quaternion w, x, y, z of a rotation by columns, by the same formulas as nalgebra's
+// UnitQuaternion::from_rotation_matrix.
+static void quaternion(const double r[9], double q[4]) {
+    double trace = r[0] + r[4] + r[8];
+    int a = r[0] > r[4] && r[0] > r[8] ? 0 : r[4] > r[8] ? 1 : 2;
+    int b = (a + 1) % 3, c = (a + 2) % 3;
+    double skew[3] = {r[5] - r[7], r[6] - r[2], r[1] - r[3]};
+    if (trace > 0) {
+        double twice = 2 * sqrt(trace + 1);
+        q[0] = 0.25 * twice;
+        for (int i = 0; i < 3; i++)
+            q[1 + i] = skew[i] / twice;
+    } else {
+        double twice = 2 * sqrt(1 + r[4 * a] - r[4 * b] - r[4 * c]);
+        q[0] = skew[a] / twice;
+        q[1 + a] = 0.25 * twice;
+        q[1 + b] = (r[a + 3 * b] + r[b + 3 * a]) / twice;
+        q[1 + c] = (r[a + 3 * c] + r[c + 3 * a]) / twice;
+    }
+}
+
+static double cross_entry(const double a[3], const double b[3], int i) {
+    return a[(i + 1) % 3] * b[(i + 2) % 3] - a[(i + 2) % 3] * b[(i + 1) % 3];
+}
+
+// q * x * q^-1 + t with q of unit length
+static void by_quaternion(const double pose[12], const double x[3], double out[3]) {
+    double q[4], twice[3];
+    quaternion(pose, q);
+    double length = sqrt(q[0] * q[0] + q[1] * q[1] + q[2] * q[2] + q[3] * q[3]);
+    for (int i = 0; i < 4; i++)
+        q[i] /= length;
+    for (int i = 0; i < 3; i++)
+        twice[i] = 2 * cross_entry(q + 1, x, i);
+    for (int i = 0; i < 3; i++)
+        out[i] = twice[i] * q[0] + cross_entry(q + 1, twice, i) + x[i] + pose[9 + i];
+}
+
+enum { WAYS = 3 };
+static const struct {
+    const char *name;
+    way *go;
+} ways[WAYS] = {{"R * x + t", apply}, {"quaternion", by_quaternion}, {"camera centre", by_centre}};
+
+// By each way, of all plates and of those whose targets' triangle is not thin.
+static struct figures all[WAYS], sound[WAYS];
+
+// What a caller can do before the solve: the first target becomes the zero of the coordinates.
+static void subtract_first(struct plate *plate) {
+    double first[3];
+    memcpy(first, plate->input, sizeof first);
+    for (int i = 0; i < 9; i++)
+        plate->input[i] -= first[i % 3];
+    for (int i = 0; i < 3; i++)
+        plate->hole[i] -= first[i];
+}
+
+static void try_plate(const struct plate *plate) {
+    double poses[48], camera[3];
+    uint32_t updates[4], count;
+    if (p3p_solve(plate->input, poses, updates, &count))
+        return;
+    const double *pose = poses + 12 * nearest(plate, poses, count);
+    for (int w = 0; w < WAYS; w++) {
+        ways[w].go(pose, plate->hole, camera);
+        note(&all[w], error_mm(plate, camera));
+        if (!is_thin(plate))
+            note(&sound[w], error_mm(plate, camera));
+    }
+}
+
+static void print_way(const char *plates, int w) {
+    printf("| %s | %s |", plates, ways[w].name);
+    sort(&sound[w]);
+    print_quantile(&sound[w], 0.5);
+    print_quantile(&sound[w], 0.99);
+    print_quantile(&sound[w], 1);
+    sort(&all[w]);
+    print_quantile(&all[w], 0.99);
+    print_quantile(&all[w], 0.999);
+    print_quantile(&all[w], 1);
+    printf("\n");
+}
+
+static void print_plates(int kind, int subtracted) {
+    uint64_t state = SEED;
+    char name[100];
+    for (int w = 0; w < WAYS; w++) {
+        clear(&all[w]);
+        clear(&sound[w]);
+    }
+    for (long n = 0; n < PLATES; n++) {
+        struct plate plate;
+        make_plate(&state, kind, &plate);
+        if (subtracted)
+            subtract_first(&plate);
+        try_plate(&plate);
+    }
+    snprintf(name, sizeof name, "%s%s", kind_names[kind],
+             subtracted ? ", first target subtracted" : "");
+    for (int w = 0; w < WAYS; w++)
+        print_way(name, w);
+}
+
+int main(void) {
+    printf("| plates | way | median, mm | 99%%, mm | most, mm "
+           "| thin ones too: 99%%, mm | 99.9%%, mm | most, mm |\n"
+           "|---|---|---:|---:|---:|---:|---:|---:|\n");
+    for (int kind = 0; kind < KINDS; kind++)
+        print_plates(kind, 0);
+    for (int kind = 2; kind < KINDS; kind++)
+        print_plates(kind, 1);
+    printf("\n%d plates of each kind.\n", PLATES);
+    return 0;
+}
