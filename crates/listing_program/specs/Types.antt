@@ -9,3 +9,6 @@ pub use Rattle.listing_program.specs.declared.run.Turn.the-variants.{Mor
 pub use Rattle.listing_program.specs.declared.stream.Filling.{Filling}
 pub use Rattle.listing_program.specs.declared.stream.Filling.the-variants.{Filled, End}
 pub use Rattle.listing_program.specs.declared.stream.Filling.the-variants.{Failed}
+pub use Rattle.listing_program.specs.declared.command.Request.{Request}
+pub use Rattle.listing_program.specs.declared.command.Request.the-variants.{Listing, Help}
+pub use Rattle.listing_program.specs.declared.command.Request.the-variants.{Version, Usage}

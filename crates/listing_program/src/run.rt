@@ -7,6 +7,7 @@ ghost use Rattle.listing_program.specs.Goes.{Writes, Reads, Steps};
 use crate::stream::Filling;
 use crate::stream::fill;
 use crate::stream::flush;
+use libc::STDERR_FILENO;
 use listing::line::put_header;
 use listing_records::record::Course;
 use listing_records::record::put_record;
@@ -80,7 +81,10 @@ fn read_on(fd: i32, input: &mut [u8], filled: usize, next: usize, listed: u64) -
             listed,
             ended: true,
         }),
-        Filling::Failed => Turn::Over,
+        Filling::Failed => {
+            os::fail(b"poses: cannot read the input");
+            Turn::Over
+        }
     }
 }
 
@@ -128,6 +132,10 @@ fn step(fd: i32, input: &mut [u8], out: &mut [u8], state: State) -> Turn
     }
 }
 
+fn used_up() {
+    io::write_all(STDERR_FILENO, b"poses: the run has used up its turns\n");
+}
+
 // A proved loop has to end, and nothing says that the input does: turns are counted down from a
 // number that no run uses up. A record never lies across the end of the input's buffer, and a
 // frame's lines always fit the listing's.
@@ -150,4 +158,5 @@ pub(crate) fn run(fd: i32, input: &mut [u8], out: &mut [u8])
         };
         state = s;
     }
+    used_up();
 }

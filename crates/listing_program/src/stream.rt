@@ -38,12 +38,19 @@ pub(crate) fn fill(fd: i32, input: &mut [u8], filled: usize) -> Filling
     Filling::Filled(filled + io::count(got, part))
 }
 
-// Writes the first `n` bytes of `out`, and answers whether all were written.
+// Writes the first `n` bytes of `out`, and answers whether all were written. Where they were not,
+// standard error says why. A write that a signal interrupts counts as one that failed, since how
+// much of the bytes is written is not known then; the program handles no signal.
 pub(crate) fn flush(out: &[u8], n: usize) -> bool
     ensures { λ r. ⌜ (length (now (out .entry)) < n → r ≡ false) ⌝ }
 {
-    if out.len() < n {
-        return false;
+    let written = if n <= out.len() {
+        io::write_all(STDOUT_FILENO, &out[..n])
+    } else {
+        false
+    };
+    if !written {
+        os::fail(b"poses: cannot write the listing");
     }
-    io::write_all(STDOUT_FILENO, &out[..n])
+    written
 }

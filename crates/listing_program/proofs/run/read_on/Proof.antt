@@ -57,5 +57,6 @@ returns-3 c =
 pub read-on-spec : {M : Type 1} → statement M
 read-on-spec =
     tie.close (tie.spec (λ c. search needs) (λ c _. search needs) (λ c. search needs)
-    (λ c. search needs) (λ c. search needs) (λ c. search needs) returns-2 (λ c. search needs)
-    returns-3 (λ c. search needs) (λ c. search needs))
+    (λ c. search needs) (λ c. search needs) (λ c. search needs) (λ c _. search needs)
+    (λ c. search needs) returns-2 (λ c. search needs) returns-3 (λ c. search needs)
+    (λ c. search needs))

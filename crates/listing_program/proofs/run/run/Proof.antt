@@ -21,4 +21,4 @@ run-spec =
     tie.close (tie.spec Inv-loop μ-loop (λ c _. search needs) (λ c. search needs)
     (λ c. search needs) (λ c _. search needs) (λ c. search needs) (λ c. search needs)
     (λ c. search needs) (λ c. search needs) (λ c. search needs) loop-less (λ c. search needs)
-    (λ c. search needs) (λ c. search needs) (λ c. search needs))
+    (λ c _. search needs) (λ c. search needs) (λ c. search needs) (λ c. search needs))

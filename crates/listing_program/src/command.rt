@@ -1,0 +1,71 @@
+// How the program is called: what its arguments ask for, and the answer to it.
+use crate::list;
+use libc::STDERR_FILENO;
+use libc::STDIN_FILENO;
+use libc::STDOUT_FILENO;
+ghost use mathlib.Core.Path.{_≡_};
+ghost use Rattle.listing_program.specs.Requests.{requestOf};
+
+// What the arguments ask for.
+pub enum Request {
+    // The listing of standard input.
+    Listing,
+    Help,
+    Version,
+    // No call that the program knows: it says how it is called.
+    Usage,
+}
+
+// By the number of words that the program is started with, its own name among them, and the first
+// of the others.
+pub fn requested(words: usize, argument: &[u8]) -> Request
+    ensures { λ r. ⌜ r ≡ requestOf words (now (argument .entry)) ⌝ }
+{
+    if words < 2 {
+        return Request::Listing;
+    }
+    if 2 < words {
+        return Request::Usage;
+    }
+    if check::same(argument, b"--help") {
+        return Request::Help;
+    }
+    if check::same(argument, b"--version") {
+        return Request::Version;
+    }
+    Request::Usage
+}
+
+fn put(text: &[u8]) {
+    if !io::write_all(STDOUT_FILENO, text) {
+        os::fail(b"poses: cannot write the reply");
+    }
+}
+
+fn put_help() {
+    put(
+        b"usage: poses < FILE > LISTING\n\
+        Reads frame records of 195 bytes each and lists the poses of every record, or the\n\
+        number of the question by which it is refused. README has the formats and the numbers.\n\
+        A listing is whole only with its last line, `end ..` or `stop ..`. Where that is\n\
+        missing, standard error says why.\n",
+    );
+}
+
+pub fn answer(request: Request) {
+    match request {
+        Request::Listing => list(STDIN_FILENO),
+        Request::Help => put_help(),
+        Request::Version => put(b"poses 0.2.0\n"),
+        Request::Usage => {
+            io::write_all(STDERR_FILENO, b"usage: poses < FILE > LISTING\n");
+        }
+    }
+}
+
+// An argument that does not fit is none that the program knows, and is taken as an empty one.
+pub fn start() {
+    let mut argument = [0u8; 16];
+    let length = os::arg(1, &mut argument);
+    answer(requested(os::arg_count(), &argument[..length]));
+}
