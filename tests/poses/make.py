@@ -1,6 +1,6 @@
 #!/usr/bin/env python3
-"""Writes the stored runs of the listing: crates/poses_runs/data, a file for each run, and
-crates/poses_runs/stdout, what is expected.
+"""Writes the stored runs of the listing: crates/poses_runs/data, a file for each run,
+crates/poses_runs/args, the argument, and crates/poses_runs/stdout, what is expected.
 
     python3 tests/poses/make.py                 write the files
     python3 tests/poses/make.py --check         say whether the files are as this script makes them
@@ -11,11 +11,14 @@ The frames and their answers are the Rust's, of crates/replay/data/rust/frame.bi
 says, "Frame records and their listing". PROGRAM is target/bin/poses. With --all it is given the
 frames by a file, and then by pipes that hand it a few bytes at a time."""
 
+import errno
 import os
 import subprocess
 import sys
 import tempfile
 from typing import NamedTuple
+
+import replies
 
 ROOT = os.path.join(os.path.dirname(os.path.abspath(__file__)), "..", "..")
 FRAMES = os.path.join(ROOT, "crates", "replay", "data", "rust", "frame.bin")
@@ -115,10 +118,19 @@ def runs(frames):
     ]
 
 
+# the replies in the order in which crates/poses_runs asks for them, and what is then on standard
+# error: two usages, and why the folder's run ended
+ARGUMENT = "--version\n"
+REPLIES = replies.VERSION + listing([]) + replies.HELP + replies.VERSION
+SAID = replies.USAGE * 2 + replies.cannot_read(errno.EISDIR)
+
+
 def files(frames):
     """What is stored: a path in crates/poses_runs, and its content."""
     made = runs(frames)
-    yield "stdout", "".join(f"{name}\n{text}" for name, _, text in made).encode()
+    listings = "".join(f"{name}\n{text}" for name, _, text in made)
+    yield "args", ARGUMENT.encode()
+    yield "stdout", (REPLIES + listings + SAID).encode()
     for name, content, _ in made:
         if content is not None:
             yield os.path.join("data", name), content

@@ -1,7 +1,13 @@
-// Lists the files of data/ as the program `poses` lists its input, the name of each before its
-// listing. tests/poses/make.py made the files, and the listings that are expected from the Rust's
-// answers.
+// Goes through the replies of the program `poses`, the first as the argument in args asks for, and
+// lists the files of data/ as it lists its input, the name of each before its listing. A stored run
+// is held to standard output alone, so what is said on standard error goes into a file of the run's
+// folder, and is written out last. tests/poses/make.py made the files, and what is expected: the
+// listings from the Rust's answers.
+use libc::STDERR_FILENO;
 use libc::STDOUT_FILENO;
+use listing_program::command::answer;
+use listing_program::command::requested;
+use listing_program::command::start;
 
 fn list(name: &[u8]) {
     let fd = os::open_read(name);
@@ -15,7 +21,30 @@ fn list(name: &[u8]) {
     libc::close(fd);
 }
 
+fn reply() {
+    start();
+    // Standard input, which is empty.
+    answer(requested(1, b""));
+    answer(requested(2, b"--help"));
+    answer(requested(2, b"--version"));
+    answer(requested(2, b"--versions"));
+    answer(requested(3, b"--help"));
+}
+
+// Writes out what a file holds.
+fn show(name: &[u8]) {
+    let fd = os::open_read(name);
+    let mut text = io::buffer();
+    let n = io::read_full(fd, &mut text);
+    io::write_all(STDOUT_FILENO, &text[..n]);
+    libc::close(fd);
+}
+
 fn main() {
+    // The file gets the number that is free.
+    libc::close(STDERR_FILENO);
+    os::create(b"said");
+    reply();
     list(b"empty");
     list(b"lone_byte");
     list(b"two_bytes");
@@ -31,4 +60,5 @@ fn main() {
     list(b"thousand");
     // a folder, from which a read fails
     list(b".");
+    show(b"said");
 }
