@@ -16,8 +16,8 @@ pub enum Request {
     Usage,
 }
 
-// By the number of words that the program is started with, its own name among them, and the first
-// of the others.
+// What is asked for, by the number of words that the program is started with, its own name among
+// them, and the first of the others.
 pub fn requested(words: usize, argument: &[u8]) -> Request
     ensures { λ r. ⌜ r ≡ requestOf words (now (argument .entry)) ⌝ }
 {
@@ -52,6 +52,7 @@ fn put_help() {
     );
 }
 
+// Lists standard input, or says what is asked for in its place.
 pub fn answer(request: Request) {
     match request {
         Request::Listing => list(STDIN_FILENO),
@@ -63,7 +64,8 @@ pub fn answer(request: Request) {
     }
 }
 
-// An argument that does not fit is none that the program knows, and is taken as an empty one.
+// The program. An argument that does not fit the array is none that it knows, and is taken as an
+// empty one.
 pub fn start() {
     let mut argument = [0u8; 16];
     let length = os::arg(1, &mut argument);
