@@ -54,11 +54,14 @@ static void apply(const double pose[12], const double point[3], double camera[3]
                     + pose[9 + i];
 }
 
-static void print_pose(uint32_t number, const double pose[12])
+static void print_poses(const double poses[48], uint32_t count)
 {
-    printf("pose %u, rotation by rows and translation\n", number);
-    for (int i = 0; i < 3; i++)
-        printf("%10.6f %9.6f %9.6f %12.6f\n", pose[i], pose[3 + i], pose[6 + i], pose[9 + i]);
+    for (uint32_t k = 0; k < count; k++) {
+        const double *pose = poses + 12 * k;
+        printf("pose %u, rotation by rows and translation\n", k + 1);
+        for (int i = 0; i < 3; i++)
+            printf("%10.6f %9.6f %9.6f %12.6f\n", pose[i], pose[3 + i], pose[6 + i], pose[9 + i]);
+    }
 }
 
 /* Says what was refused, and what to do. */
@@ -91,9 +94,7 @@ int main(void)
     refusal = p3p_solve(input, poses, updates, &count);
     if (refusal != 0)
         return refused("solve", refusal);
-    for (uint32_t k = 0; k < count; k++)
-        print_pose(k + 1, poses + 12 * k);
-
+    print_poses(poses, count);
     normalise(directions[3], bearing);
     refusal = p3p_choose(poses, count, plate[3], bearing, &best, &score);
     if (refusal != 0)

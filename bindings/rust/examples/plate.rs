@@ -16,10 +16,12 @@ const DIRECTIONS: [[f64; 3]; 4] =
 // How far off its bearing the checking target may be, in degrees: your measuring error.
 const LIMIT: f64 = 0.01;
 
-fn print_pose(number: usize, pose: &Pose) {
-    println!("pose {number}, rotation by rows and translation");
-    for ([a, b, c], t) in pose.rows().iter().zip(&pose.translation) {
-        println!("{a:10.6} {b:9.6} {c:9.6} {t:12.6}");
+fn print_poses(poses: &[Pose]) {
+    for (k, pose) in poses.iter().enumerate() {
+        println!("pose {}, rotation by rows and translation", k + 1);
+        for ([a, b, c], t) in pose.rows().iter().zip(&pose.translation) {
+            println!("{a:10.6} {b:9.6} {c:9.6} {t:12.6}");
+        }
     }
 }
 
@@ -36,9 +38,7 @@ fn main() -> Result<(), Refusal> {
     let [p0, p1, p2, target] = PLATE;
     let [f0, f1, f2, bearing] = DIRECTIONS.map(|d| p3p::normalise(&d).expect("a direction"));
     let poses = p3p::solve(&[p0, p1, p2], &[f0, f1, f2])?; // one to four, or the refusal
-    for (k, pose) in poses.iter().enumerate() {
-        print_pose(k + 1, pose);
-    }
+    print_poses(&poses);
     let choice = p3p::choose(&poses, &target, &bearing)?; // by the fourth target
     println!("best {}", choice.index + 1);
     let pose = &poses[choice.index];
