@@ -150,8 +150,8 @@ def page_commands(folder, library):
     """The commands of include/README.md as one script, with this library and folder."""
     blocks = re.findall(r"^<!-- shell -->\n((?:    .*\n)+)", read("include/README.md"), re.M)
     lines = [line for line in "".join(blocks).splitlines(True) if not line.startswith("    rt ")]
-    script = "".join(lines).replace("target/staticlib/libp3p.a", library)
-    return script.replace("target/", folder + "/")
+    built = r"target/(staticlib/libp3p\.a)?"
+    return re.sub(built, lambda m: library if m[1] else folder + "/", "".join(lines))
 
 
 def compare_page(compared, folder, library):
