@@ -8,8 +8,8 @@
 Checked are:
 - code blocks of the documents for users (checks.py lists them). The line before a block says what
   it is: `<!-- from PATH -->` or, of a stored output, `<!-- output of PATH -->`, a run of lines of
-  that file, whatever the indentation; `<!-- shell -->`, commands, which are not compared. A block
-  without a mark is a fault.
+  that file, whatever the indentation; `<!-- shell -->`, commands, which shell.py beside this runs.
+  A block without a mark is a fault.
 - the version in p3p.h, in Cargo.toml and in what `poses --version` prints.
 - width: lines of *.md outside tables, and comments in code, have at most 100 columns.
 - links of *.md to files of the tree.
