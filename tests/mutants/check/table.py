@@ -128,8 +128,8 @@ def summary(tally):
             f"Of the {number} survivors {same} compute the same, {tested} change an inner function's "
             "answer within its contract, which leaves it open and whose caller tests it, "
             f"{outside} change what is read or written, of which no contract can speak, and are "
-            "found by the stored runs (crates/poses_runs, crates/replay), and "
-            f"{number - same - tested - outside} "
+            "found by the stored runs (crates/poses_runs, crates/replay) or by tests/poses/run.py, "
+            f"and {number - same - tested - outside} "
             "have no reason given. The reasons (reasons.txt) are given by hand."
         )
         + [""]
