@@ -46,7 +46,8 @@ fn put_help() {
     put(
         b"usage: poses < FILE > LISTING\n\
         Reads frame records of 195 bytes each and lists the poses of every record, or the\n\
-        number of the question by which it is refused. README has the formats and the numbers.\n\
+        number of the question by which it is refused. docs/QUESTIONS.md has the formats and\n\
+        the questions, docs/USING.md what a refusal asks of you.\n\
         A listing is whole only with its last line, `end ..` or `stop ..`. Where that is\n\
         missing, standard error says why.\n",
     );

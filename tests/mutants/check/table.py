@@ -109,6 +109,14 @@ def wrapped(text, indent=""):
     )
 
 
+def shown(old, new):
+    """Both lines of a change; of long ones the part in which they differ."""
+    if max(len(old), len(new)) <= 98:
+        return old, new
+    at = max(0, len(os.path.commonprefix([old, new])) - 40)
+    return tuple(f".. {line[at : at + 90]} .." for line in (old, new))
+
+
 def cells(counts, keys):
     return " | ".join(str(counts.get(k, 0)) for k in keys) + " |"
 
@@ -150,14 +158,9 @@ def listed(tally):
         text += wrapped(head, "  ")
     text += ["", "## Survivors", ""]
     for name, where, old, new, reason in tally.survivors:
-        text += wrapped(f"`{name}`, {where}: {reason}") + [
-            "",
-            "```diff",
-            f"- {old}",
-            f"+ {new}",
-            "```",
-            "",
-        ]
+        old, new = shown(old, new)
+        text += wrapped(f"`{name}`, {where}: {reason}")
+        text += ["", "```diff", f"- {old}", f"+ {new}", "```", ""]
     if tally.odd:
         text += ["## No verdict", ""]
         for name, where, old, new, _ in tally.odd:

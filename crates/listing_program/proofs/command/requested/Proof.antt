@@ -35,7 +35,9 @@ not-true true h = absurd (h refl)
 not-true false h = refl
 
 -- what is true just where two lists are equal is whether they are
-compared : (xs ys : List ℕ) (r : Bool) → (r ≡ true → xs ≡ ys) × (xs ≡ ys → r ≡ true) → same xs ys ≡ r
+compared : (xs ys : List ℕ) (r : Bool)
+    → (r ≡ true → xs ≡ ys) × (xs ≡ ys → r ≡ true)
+    → same xs ys ≡ r
 compared xs ys true h = subst (λ (zs : List ℕ). same xs zs ≡ true) (h .0 refl) (same-refl xs)
 compared xs ys false h = not-true (same xs ys) (λ e. false≢true (h .1 (equal xs ys e)))
 
