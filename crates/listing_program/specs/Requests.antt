@@ -13,14 +13,14 @@ same [] (y ∷ ys) = false
 same (x ∷ xs) [] = false
 same (x ∷ xs) (y ∷ ys) = cond (eqb x y) (same xs ys) false
 
--- what one argument asks for: it knows two
+-- what one argument asks for; two are known
 abbrev pub requestOfOne : List ℕ → Request
 requestOfOne argument =
     cond (same argument (ascii "--help")) Help
     (cond (same argument (ascii "--version")) Version Usage)
 
--- by the number of words that it is started with, its own name among them, and the first of the
--- others
+-- by the number of words that the program is started with, its own name among them, and the first
+-- of the others
 abbrev pub requestOf : ℕ → List ℕ → Request
 requestOf words argument =
     cond (ltb words 2) Listing (cond (ltb 2 words) Usage (requestOfOne argument))

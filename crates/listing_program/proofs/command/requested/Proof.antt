@@ -63,19 +63,21 @@ is-help c = compared _ _ _ (c .same .ensures)
 
 returns-3 : tie.Need-returns-3
 returns-3 c =
-    let alone = c .before .before .before in
-    rw (one alone, is-help (c .before), c .if3 .taken) refl
+    let told = c .before in
+    rw (one (told .before .before), is-help told, c .if3 .taken) refl
 
 -- where it is not `--help`, it is asked whether it is `--version`
 other : (c : tie.After-same2) → let no-help = c .before .before in
-    let alone = no-help .before .before .before in
+    let told = no-help .before in
+    let alone = told .before .before in
     requestOf (start alone .args .words) (argument alone) ≡ cond (c .same2 .result) Version Usage
 other c =
     let no-help = c .before .before in
-    let alone = no-help .before .before .before in
+    let told = no-help .before in
+    let alone = told .before .before in
     rw (
       one alone,
-      is-help (no-help .before),
+      is-help told,
       no-help .if3 .left,
       compared (argument alone) (ascii "--version") _ (c .same2 .ensures),
     )
