@@ -47,6 +47,22 @@ static void reversed_bearing(struct plate *plate) {
         plate->input[i] = -plate->input[i];
 }
 
+static void scale(struct plate *plate, double factor) {
+    for (int i = 0; i < 9; i++)
+        plate->input[i] *= factor;
+    for (int i = 0; i < 3; i++)
+        plate->target[i] *= factor;
+    plate->mm /= factor;
+}
+
+static void very_large(struct plate *plate) { scale(plate, 1e30); }
+
+static void very_small(struct plate *plate) { scale(plate, 1e-30); }
+
+static void too_large(struct plate *plate) { scale(plate, 1e45); }
+
+static void too_small(struct plate *plate) { scale(plate, 1e-45); }
+
 static void not_a_number(struct plate *plate) { plate->input[9] = NAN; }
 
 static const struct row {
@@ -63,6 +79,10 @@ static const struct row {
     {"targets in a line", in_a_line},
     {"one bearing reversed", reversed_bearing},
     {"x of every bearing reversed", mirrored},
+    {"none, the plate 1e30 times as large", very_large},
+    {"none, the plate 1e-30 times as large", very_small},
+    {"the plate 1e45 times as large", too_large},
+    {"the plate 1e-45 times as large", too_small},
     {"a NaN", not_a_number},
 };
 

@@ -16,7 +16,7 @@ WORDS = {
     3: "No pose fits. Look first whether each bearing has unit length: normalise it in double, "
     "since a length that is off by 1e-6 is mostly refused. Then whether the three targets lie in a "
     "line or two at one place, whether targets were misread or exchanged, and whether the plate's "
-    "size is below 1e-40 or above 1e40. (Most exchanges are not refused: the angle of the checking "
+    "size is below 1e-30 or above 1e30. (Most exchanges are not refused: the angle of the checking "
     "target shows them.)",
     7: "The length of this record is not 193. The run stopped, since nobody knows where the next "
     "begins: look at the program that wrote the records, or for bytes that were lost before here.",

@@ -11,7 +11,7 @@ Reads frame records of 195 bytes each and lists the poses of every record, or th
 number of the question by which it is refused. docs/QUESTIONS.md has the formats and
 the questions, docs/USING.md what a refusal asks of you.
 A listing is whole only with its last line, `end ..` or `stop ..`. Where that is
-missing, standard error says why.
+missing, standard error says why, unless a signal ended the run.
 """
 )
 

@@ -1,4 +1,4 @@
-// The program that README shows: the poses of a plate, the one that its fourth target confirms, and
+// The program that README names: the poses of a plate, the one that its fourth target confirms, and
 // where the camera sees a hole that is to be drilled.
 use choice::choose::Choice;
 use choice::choose::choose;
@@ -32,6 +32,13 @@ fn at_place(poses: [Pose; 4], place: u32) -> Pose {
     }
 }
 
+// Whether a pose puts the fourth target before the camera and on its bearing: the score is the
+// squared tangent of the angle between the two, here at most that of 0.01 degrees.
+fn confirmed(pose: Pose, target: Vector3, bearing: Vector3, score: f64) -> bool {
+    let depth = pose.camera_point(target).dot(bearing);
+    (0.0 < depth) & (score <= 3e-8)
+}
+
 // A length to the nearest millimetre. Beside 2^52 a double has no fraction: it is rounded, and its
 // last 52 bits are the whole number.
 fn print_millimetres(metres: f64) {
@@ -59,13 +66,17 @@ fn main() {
     let bearing = seen(0.075, 0.25, 2.4);
     let poses = answer.poses;
     let choice = choose(poses, answer.count, target, bearing);
-    let Choice::Best(place, _) = choice else {
+    let Choice::Best(place, score) = choice else {
         io::write_all(STDOUT_FILENO, b"no pose\n");
         return;
     };
+    let best = at_place(poses, place);
+    if !confirmed(best, target, bearing, score) {
+        io::write_all(STDOUT_FILENO, b"not confirmed\n");
+        return;
+    }
 
     // Where a hole of the plate lies before the camera.
-    let best = at_place(poses, place);
     let hole = best.camera_point(point(0.25, -0.5, 0.0));
 
     io::write_all(STDOUT_FILENO, b"poses ");

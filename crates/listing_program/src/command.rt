@@ -49,7 +49,7 @@ fn put_help() {
         number of the question by which it is refused. docs/QUESTIONS.md has the formats and\n\
         the questions, docs/USING.md what a refusal asks of you.\n\
         A listing is whole only with its last line, `end ..` or `stop ..`. Where that is\n\
-        missing, standard error says why.\n",
+        missing, standard error says why, unless a signal ended the run.\n",
     );
 }
 

@@ -82,7 +82,7 @@ fn read_on(fd: i32, input: &mut [u8], filled: usize, next: usize, listed: u64) -
             ended: true,
         }),
         Filling::Failed => {
-            // errno is still that of the read.
+            // errno is still that of the read: that the buffer was full already does not occur.
             os::fail(b"poses: cannot read the input");
             Turn::Over
         }

@@ -39,8 +39,9 @@ pub(crate) fn fill(fd: i32, input: &mut [u8], filled: usize) -> Filling
 }
 
 // Writes the first `n` bytes of `out`, and answers whether all were written. Where they were not,
-// standard error says why. A write that a signal interrupts counts as one that failed, since
-// `write_all` does not say how much it wrote before. The program handles no signal, so none does.
+// standard error says why; an `n` beyond the end, of which errno knows nothing, does not occur. A
+// write that a signal interrupts counts as one that failed, since `write_all` does not say how much
+// it wrote before. The program handles no signal, so none does.
 pub(crate) fn flush(out: &[u8], n: usize) -> bool
     ensures { λ r. ⌜ (length (now (out .entry)) < n → r ≡ false) ⌝ }
 {

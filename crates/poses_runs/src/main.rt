@@ -41,9 +41,12 @@ fn show(name: &[u8]) {
 }
 
 fn main() {
-    // The file gets the number that is free.
+    // A new file gets the number that is free.
     libc::close(STDERR_FILENO);
-    os::create(b"said");
+    if os::create(b"said") != STDERR_FILENO {
+        io::write_all(STDOUT_FILENO, b"no new file for standard error\n");
+        return;
+    }
     reply();
     list(b"empty");
     list(b"lone_byte");

@@ -21,7 +21,12 @@ not-there : (c : tie.Joined1) → let a = c .before .before .args in
     → c .if1 .written ≡ false
 not-there c l = ⊎-elim (λ w. absurd (not-le-of-lt l (w .0 .taken))) (λ w. w .1) (c .if1 .came)
 
+returns : tie.Need-returns
+returns c =
+    let failed = c .before in
+    not-there (failed .before .before)
+
 pub flush-spec : {M : Type 1} → statement M
 flush-spec =
     tie.close (tie.spec slice-aggregate-write-all (λ c _. search needs) (λ c. search needs)
-    (λ c _. search needs) (λ c. not-there (c .before .before .before)) (λ c. not-there (c .before)))
+    (λ c _. search needs) returns (λ c. not-there (c .before)))
