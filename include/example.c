@@ -54,7 +54,8 @@ static void apply(const double pose[12], const double point[3], double camera[3]
                     + pose[9 + i];
 }
 
-static void print_poses(const double poses[48], uint32_t count)
+/* The poses, and which is the best. */
+static void print_poses(const double poses[48], uint32_t count, uint32_t best)
 {
     for (uint32_t k = 0; k < count; k++) {
         const double *pose = poses + 12 * k;
@@ -62,24 +63,30 @@ static void print_poses(const double poses[48], uint32_t count)
         for (int i = 0; i < 3; i++)
             printf("%10.6f %9.6f %9.6f %12.6f\n", pose[i], pose[3 + i], pose[6 + i], pose[9 + i]);
     }
+    printf("best %u\n", best);
 }
 
-/* Says what was refused, and what to do. */
+/* Says what was refused, and what to do; the program's exit status. */
 static int refused(const char *what, uint32_t refusal)
 {
-    printf("%s refused %u: %s\n", what, refusal, advice(refusal));
+    fprintf(stderr, "%s refused %u: %s\n", what, refusal, advice(refusal));
     return 1;
 }
 
 /* Whether the checking target is seen where a pose puts it. The score tells how far it is off the
- * line of its bearing, but not on which side of the camera: its depth must be positive too. */
+ * line of its bearing, but not on which side of the camera: where its depth is negative, it lies
+ * behind the camera, and the angle to its bearing is beyond 90 degrees. */
 static int confirmed(const double pose[12], const double bearing[3], double score)
 {
     double camera[3], angle = atan(sqrt(score)) * degrees;
     apply(pose, plate[3], camera);
     double depth = camera[0] * bearing[0] + camera[1] * bearing[1] + camera[2] * bearing[2];
+    if (depth < 0.0)
+        angle = 180.0 - angle;
     printf("checking target %.6f degrees off its bearing, at depth %.6f\n", angle, depth);
-    return angle <= limit && depth > 0.0;
+    if (angle > limit)
+        fprintf(stderr, "not confirmed\n");
+    return angle <= limit;
 }
 
 int main(void)
@@ -91,21 +98,19 @@ int main(void)
             input[3 * k + i] = plate[k][i];
         normalise(directions[k], input + 9 + 3 * k);
     }
-    refusal = p3p_solve(input, poses, updates, &count);
+    normalise(directions[3], bearing);
+
+    refusal = p3p_solve(input, poses, updates, &count); /* one to four poses, or a refusal */
     if (refusal != 0)
         return refused("solve", refusal);
-    print_poses(poses, count);
-    normalise(directions[3], bearing);
     refusal = p3p_choose(poses, count, plate[3], bearing, &best, &score);
     if (refusal != 0)
         return refused("choose", refusal);
-    printf("best %u\n", best);
+    print_poses(poses, count, best);
     const double *pose = poses + 12 * (best - 1);
-    if (!confirmed(pose, bearing, score)) {
-        printf("not confirmed\n");
+    if (!confirmed(pose, bearing, score))
         return 1;
-    }
-    apply(pose, hole, camera);
+    apply(pose, hole, camera); /* rotation times point plus translation */
     printf("hole at camera %.6f %.6f %.6f\n", camera[0], camera[1], camera[2]);
     return 0;
 }

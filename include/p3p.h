@@ -3,7 +3,8 @@
  * Each function's result, and what it leaves in the memory that is lent to it, is proved equal to a
  * definition for every input, infinities and NaNs too (crates/p3p). None allocates or keeps state:
  * each may be called from several threads at once. A solve was measured to take less than 4 KiB of
- * stack (docs/BENCHMARKS.md); the others take less.
+ * stack (docs/BENCHMARKS.md); the others take less. Under lazy binding the first call takes the
+ * loader's 1 to 3 KiB more: link with -Wl,-z,now.
  *
  * The floating-point environment must be as C starts a program:
  *   - The rounding mode is to nearest.
@@ -61,8 +62,8 @@ enum p3p_refusal {
 /* The poses from which three world points are seen at three bearings.
  *
  * input    three world points and then the three bearings to them, each x, y, z. The bearings are
- *          to be unit vectors: those of other lengths are usually refused, and an answer to them is
- *          seldom of use.
+ *          to be unit vectors, normalised in double: the further their lengths are off, the more
+ *          are refused and the worse are the answers (docs/USING.md).
  * poses    four slots of twelve: the rotation by columns (m00 m10 m20 m01 m11 m21 m02 m12 m22) and
  *          the translation x, y, z, from world to camera. Slots from *count on hold plus zeros.
  * updates  of each slot, how many times its depths were refined: 0 to 5.
@@ -111,7 +112,7 @@ uint32_t p3p_quadratic(double b, double c, double *first, double *second);
 uint32_t p3p_cubic(double b, double c, double d, double *root);
 
 /* The approximate cube root from which the cubic starts: two steps of Halley's method, or the cube
- * root where these would leave the normal range. */
+ * root where these would leave the normal range. Of minus zero it is plus zero. */
 double p3p_fast_cbrt(double x);
 
 /* ---- single operations. A NaN that comes out has no promised sign or payload. */

@@ -5,41 +5,36 @@
     tests/c/run.py LIBRARY --store     rewrite include/example.txt and include/records.txt
 
 The examples are compiled as C99 and as C++ with all warnings as errors, and must print what is
-stored in include/; of the sample they must list what samples/listing.txt does. The commands of
-include/README.md are run as they stand there. tests/c/refusals.c calls for every refusal number. A
-stored text with another number, and refusals.c with other expectations, must be found wrong.
+stored in include/; of the sample they must list what samples/listing.txt does. inputs.py beside
+this has more runs of records.c. The commands of include/README.md are run as they stand there.
+tests/c/refusals.c calls for every refusal number. An example with another number, and refusals.c
+with other expectations, must be found wrong.
 
 Needs cc and c++."""
+import ast
 import os
 import re
 import subprocess
 import sys
 import tempfile
 
-ROOT = os.path.join(os.path.dirname(os.path.abspath(__file__)), "..", "..")
+sys.dont_write_bytecode = True
+import inputs
+
 WARNINGS = ["-Wall", "-Wextra", "-pedantic", "-Werror"]
 LANGUAGES = {"c": ["cc", "-std=c99"], "c++": ["c++", "-std=c++11"]}
 STORED = {"example": "include/example.txt", "records": "include/records.txt"}
-SAMPLE, LISTING = "samples/frames.bin", "samples/listing.txt"
-RECORD = 195
+SAMPLE, LISTING = inputs.read("samples/frames.bin"), "samples/listing.txt"
 
 
 def read(path):
-    with open(os.path.join(ROOT, path), encoding="utf-8") as f:
-        return f.read()
-
-
-def sample():
-    with open(os.path.join(ROOT, SAMPLE), "rb") as f:
-        return f.read()
+    return inputs.read(path).decode()
 
 
 def output(command, given=b"", status=0):
-    """What a command prints; it must end with the status."""
-    run = subprocess.run(
-        command, cwd=ROOT, input=given, stdout=subprocess.PIPE, stderr=subprocess.STDOUT
-    )
-    text = run.stdout.decode(errors="replace")
+    """What a command prints, on standard error last; it must end with the status."""
+    run = subprocess.run(command, cwd=inputs.ROOT, input=given, capture_output=True)
+    text = (run.stdout + run.stderr).decode(errors="replace")
     if run.returncode != status:
         sys.exit(f"{command}: status {run.returncode} in place of {status}\n{text}")
     return text
@@ -74,33 +69,16 @@ class Comparison:
 def run_examples(folder, language, library):
     """What the two examples print, by name; the second lists the sample."""
     programs = {name: build(f"include/{name}.c", language, folder, library) for name in STORED}
-    return {name: output([program], sample()) for name, program in programs.items()}, programs
-
-
-def broken_inputs():
-    """Inputs with records of another version, of another length and cut short, and what is listed
-    after the first record."""
-    good, rest = sample()[:RECORD], sample()[3:RECORD]
-    version, length = b"\x00\xc1\x02" + rest, b"\x00\xc0\x01" + rest
-    return [
-        (good + version, "2 refused 8\n", 0),
-        (good + version + length + good, "2 refused 8\n3 refused 7\n", 1),
-        (good + good[:-1], "2 refused 9\n", 1),
-        (good + good[:1], "2 refused 9\n", 1),
-    ]
+    return {name: output([program], SAMPLE) for name, program in programs.items()}, programs
 
 
 def compare_examples(compared, folder, language, library):
     printed, programs = run_examples(folder, language, library)
-    for name, path in STORED.items():
-        compared.equal(f"{name} ({language})", printed[name], read(path))
-    first = read(STORED["records"]).splitlines(True)[0]
-    for given, listed, status in broken_inputs():
-        compared.equal(
-            f"records ({language})", output([programs["records"]], given, status), first + listed
-        )
-    other = read(STORED["example"]).replace("2.150000", "2.150001")
-    compared.different(f"example ({language}), another number", printed["example"], other)
+    compared.equal(f"example ({language})", printed["example"], read(STORED["example"]))
+    for run in inputs.runs():
+        command = ["sh", "-c", f'exec "$0" {run.redirected}', programs["records"]]
+        found = output(command, run.given, run.status)
+        compared.equal(f"records ({language}), {run.name}", found, run.printed)
 
 
 THREE = "{-0.25, -0.125, 2.0}, {0.15, -0.125, 2.3}, {-0.25, 0.25, 2.0}"
@@ -114,16 +92,25 @@ CHANGES = [
     # the mirror image behind the camera
     ("{0.075, 0.25, 2.4}", "{-0.075, -0.25, -2.4}", "not confirmed"),
 ]
+# A change of the hole by a thousandth of a millimetre.
+OTHER_HOLE = "{0.25, -0.5, 0.0}", "{0.25, -0.5, 0.000001}"
+
+
+def build_changed(old, new, language, folder, library):
+    source = os.path.join(folder, "changed.c")
+    with open(source, "w", encoding="utf-8") as f:
+        f.write(read("include/example.c").replace(old, new))
+    return build(source, language, folder, library)
 
 
 def compare_changes(compared, folder, language, library):
     """What example.c says where there is no answer, or none that is confirmed."""
     for old, new, begin in CHANGES:
-        source = os.path.join(folder, "changed.c")
-        with open(source, "w", encoding="utf-8") as f:
-            f.write(read("include/example.c").replace(old, new))
-        last = output([build(source, language, folder, library)], b"", 1).splitlines()[-1]
+        program = build_changed(old, new, language, folder, library)
+        last = output([program], b"", 1).splitlines()[-1]
         compared.equal(f"example with {new}", last[: len(begin)] + "\n", begin + "\n")
+    other = output([build_changed(*OTHER_HOLE, language, folder, library)])
+    compared.different(f"example ({language}), another hole", other, read(STORED["example"]))
 
 
 def compare_refusals(compared, folder, language, library):
@@ -157,16 +144,34 @@ def page_commands(folder, library):
 def compare_page(compared, folder, library):
     example = read(STORED["example"])
     # example.py solves the same plate, and prints less
-    python = re.findall(r"^(?:best|hole) .*\n", example, re.M)
-    expected = example + read(STORED["records"]) + "".join(python)
+    python = example[example.index("best") :]
+    expected = example + read(STORED["records"]) + python
     found = output(["sh", "-e", "-c", page_commands(folder, library)])
     compared.equal("include/README.md's commands", found, expected)
+
+
+def compare_python(compared, folder):
+    """What example.py says where there is no answer, or none that is confirmed. The shared library
+    is the page's."""
+    first, last = SAMPLE[: inputs.RECORD_SIZE], SAMPLE[-inputs.RECORD_SIZE :]
+    library = os.path.join(folder, "libp3p.so")
+    usage = ast.get_docstring(ast.parse(read("include/example.py")), clean=False) + "\n"
+    checked = "checking target {} degrees off its bearing, at depth {}\nnot confirmed\n"
+    for words, given, expected in (
+        ([library], first[:-1], "p3p_read_record refused 9\n"),
+        ([library], last, "best 1\n" + checked.format("3.761142", "2.203373")),
+        ([library], inputs.behind(first), "best 2\n" + checked.format("180.000000", "-2.414151")),
+        (["--help"], first, usage),
+        ([], first, usage),
+    ):
+        found = output([sys.executable, "include/example.py", *words], given, 1)
+        compared.equal("example.py", found, expected)
 
 
 def store(folder, library):
     printed, _ = run_examples(folder, "c", library)
     for name, path in STORED.items():
-        with open(os.path.join(ROOT, path), "w", encoding="utf-8") as f:
+        with open(os.path.join(inputs.ROOT, path), "w", encoding="utf-8") as f:
             f.write(printed[name])
 
 
@@ -183,6 +188,7 @@ def main():
             compare_refusals(compared, folder, language, library)
         compare_listing(compared)
         compare_page(compared, folder, library)
+        compare_python(compared, folder)
     print(*compared.faults, f"{compared.count} compared, {len(compared.faults)} wrong", sep="\n")
     return 1 if compared.faults else 0
 

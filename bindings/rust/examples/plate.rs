@@ -2,7 +2,9 @@
 //!
 //!     cargo run --example plate
 
-use p3p::{Pose, Refusal};
+use p3p::Pose;
+use std::error::Error;
+use std::process::ExitCode;
 
 // The plate's targets in metres, the last for checking, and the hole.
 const PLATE: [[f64; 3]; 4] =
@@ -16,37 +18,46 @@ const DIRECTIONS: [[f64; 3]; 4] =
 // How far off its bearing the checking target may be, in degrees: your measuring error.
 const LIMIT: f64 = 0.01;
 
-fn print_poses(poses: &[Pose]) {
+fn print_poses(poses: &[Pose], best: usize) {
     for (k, pose) in poses.iter().enumerate() {
         println!("pose {}, rotation by rows and translation", k + 1);
         for ([a, b, c], t) in pose.rows().iter().zip(&pose.translation) {
             println!("{a:10.6} {b:9.6} {c:9.6} {t:12.6}");
         }
     }
+    println!("best {}", best + 1);
 }
 
 /// Whether the checking target is seen where a pose puts it. The score tells how far it is off the
-/// line of its bearing, but not on which side of the camera: its depth must be positive too.
+/// line of its bearing, but not on which side of the camera: where its depth is negative, it lies
+/// behind the camera, and the angle to its bearing is beyond 90 degrees.
 fn confirmed(pose: &Pose, target: &[f64; 3], bearing: &[f64; 3], score: f64) -> bool {
-    let angle = score.sqrt().atan().to_degrees();
+    let to_line = score.sqrt().atan().to_degrees();
     let depth: f64 = pose.apply(target).iter().zip(bearing).map(|(c, b)| c * b).sum();
+    let angle = if depth < 0.0 { 180.0 - to_line } else { to_line };
     println!("checking target {angle:.6} degrees off its bearing, at depth {depth:.6}");
-    angle <= LIMIT && depth > 0.0
+    angle <= LIMIT
 }
 
-fn main() -> Result<(), Refusal> {
+fn find_hole() -> Result<(), Box<dyn Error>> {
     let [p0, p1, p2, target] = PLATE;
     let [f0, f1, f2, bearing] = DIRECTIONS.map(|d| p3p::normalise(&d).expect("a direction"));
     let poses = p3p::solve(&[p0, p1, p2], &[f0, f1, f2])?; // one to four, or the refusal
-    print_poses(&poses);
     let choice = p3p::choose(&poses, &target, &bearing)?; // by the fourth target
-    println!("best {}", choice.index + 1);
+    print_poses(&poses, choice.index);
     let pose = &poses[choice.index];
-    if confirmed(pose, &target, &bearing, choice.score) {
-        let [x, y, z] = pose.apply(&HOLE); // rotation × point + translation
-        println!("hole at camera {x:.6} {y:.6} {z:.6}");
-    } else {
-        println!("not confirmed");
+    if !confirmed(pose, &target, &bearing, choice.score) {
+        return Err("not confirmed".into());
     }
+    let [x, y, z] = pose.apply(&HOLE); // rotation × point + translation
+    println!("hole at camera {x:.6} {y:.6} {z:.6}");
     Ok(())
+}
+
+fn main() -> ExitCode {
+    if let Err(error) = find_hole() {
+        eprintln!("{error}");
+        return ExitCode::FAILURE;
+    }
+    ExitCode::SUCCESS
 }

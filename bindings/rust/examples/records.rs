@@ -3,33 +3,64 @@
 //!
 //!     cargo run --example records < ../../samples/frames.bin
 
-use std::io::{self, Read};
+use p3p::{Choice, Frame, Pose, Refusal};
+use std::io::{self, Read, Write};
+use std::process::ExitCode;
 
-fn list_frame(number: usize, frame: &p3p::Frame) {
-    let poses = match p3p::solve(&frame.world, &frame.bearings) {
-        Ok(poses) => poses,
-        Err(refusal) => return println!("{number} refused {}", refusal.number()),
-    };
-    print!("{number} poses {}, ", poses.len());
-    match p3p::choose(&poses, &frame.target, &frame.bearing) {
-        Ok(choice) => {
-            let angle = choice.score.sqrt().atan().to_degrees();
-            let best = choice.index + 1;
-            println!("best {best}, checking target {angle:.6} degrees off its bearing");
-        }
-        Err(refusal) => println!("choice refused {}", refusal.number()),
+/// The angle between a frame's checking target and its bearing, in degrees. The score has the angle
+/// to the line of the bearing; where the depth is negative, the target lies behind the camera.
+fn angle_off(pose: &Pose, frame: &Frame, score: f64) -> f64 {
+    let angle = score.sqrt().atan().to_degrees();
+    let camera = pose.apply(&frame.target);
+    let depth: f64 = camera.iter().zip(&frame.bearing).map(|(c, b)| c * b).sum();
+    if depth < 0.0 {
+        180.0 - angle
+    } else {
+        angle
     }
 }
 
-fn main() -> io::Result<()> {
-    let mut input = Vec::new();
-    io::stdin().read_to_end(&mut input)?;
+/// What is listed of a frame.
+fn listed(frame: &Frame) -> Result<String, Refusal> {
+    let poses = p3p::solve(&frame.world, &frame.bearings)?;
+    let choice = match p3p::choose(&poses, &frame.target, &frame.bearing) {
+        Ok(Choice { index, score }) => {
+            let angle = angle_off(&poses[index], frame, score);
+            format!("best {}, checking target {angle:.6} degrees off its bearing", index + 1)
+        }
+        Err(refusal) => format!("choice refused {}", refusal.number()),
+    };
+    Ok(format!("poses {}, {choice}", poses.len()))
+}
+
+/// Lists one record after another, and tells whether it came to the end of the input.
+fn list_records(input: &[u8], out: &mut impl Write) -> io::Result<bool> {
+    let mut whole = true;
     // It goes on after 8, a record of another version, and ends after 7 and 9.
-    for (k, record) in p3p::records(&input).enumerate() {
-        match record {
-            Ok(frame) => list_frame(k + 1, &frame),
-            Err(refusal) => println!("{} refused {}", k + 1, refusal.number()),
+    for (k, record) in p3p::records(input).enumerate() {
+        whole = !matches!(record, Err(Refusal::RecordLength | Refusal::RecordCutShort));
+        match record.and_then(|frame| listed(&frame)) {
+            Ok(text) => writeln!(out, "{} {text}", k + 1)?,
+            Err(refusal) => writeln!(out, "{} refused {}", k + 1, refusal.number())?,
         }
     }
-    Ok(())
+    Ok(whole)
+}
+
+/// Says what could not be done, and why.
+fn failed(what: &str, error: &io::Error) -> ExitCode {
+    eprintln!("records: {what}: {error}");
+    ExitCode::FAILURE
+}
+
+fn main() -> ExitCode {
+    let mut input = Vec::new();
+    if let Err(error) = io::stdin().read_to_end(&mut input) {
+        return failed("cannot read the input", &error);
+    }
+    match list_records(&input, &mut io::stdout().lock()) {
+        Ok(true) => ExitCode::SUCCESS,
+        Ok(false) => ExitCode::FAILURE,
+        Err(error) => failed("cannot write the listing", &error),
+    }
 }

@@ -12,8 +12,9 @@ pub fn normalise(direction: &[f64; 3]) -> Option<[f64; 3]> {
     (length > 0.0).then_some([x / length, y / length, z / length])
 }
 
-/// The factor with which the square of the largest entry stays in the normal range: a power of two,
-/// which changes no bit of the bearing.
+/// The factor with which the square of the largest entry stays in the normal range: a power of two.
+/// It changes no bit of the bearing, unless the entries lie 277 or more powers of ten apart: then
+/// the smallest can become zero.
 fn scale(direction: &[f64; 3]) -> f64 {
     let largest = direction.iter().fold(0.0, |largest: f64, entry| largest.max(entry.abs()));
     if largest > 1e150 {

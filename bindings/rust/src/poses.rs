@@ -90,8 +90,9 @@ impl<'a> IntoIterator for &'a Poses {
 }
 
 /// The poses from which three world points are seen at three bearings, each point and bearing as x,
-/// y, z. The bearings are to be unit vectors ([`normalise`](crate::normalise)): those of other
-/// lengths are usually refused, and an answer to them is seldom of use.
+/// y, z. The bearings are to be unit vectors, normalised in double
+/// ([`normalise`](crate::normalise)): the further their lengths are off, the more are refused and
+/// the worse are the answers (docs/USING.md).
 pub fn solve(world: &[[f64; 3]; 3], bearings: &[[f64; 3]; 3]) -> Result<Poses, Refusal> {
     let [p0, p1, p2] = *world;
     let [f0, f1, f2] = *bearings;

@@ -20,7 +20,8 @@ pub fn cubic(b: f64, c: f64, d: f64) -> Result<f64, Refusal> {
     Refusal::unless_zero(number, root)
 }
 
-/// The approximate cube root from which the cubic starts: two steps of Halley's method.
+/// The approximate cube root from which the cubic starts: two steps of Halley's method, or the
+/// cube root where these would leave the normal range. Of minus zero it is plus zero.
 pub fn fast_cbrt(x: f64) -> f64 {
     // SAFETY: only numbers are passed.
     unsafe { sys::p3p_fast_cbrt(x) }

@@ -22,7 +22,14 @@ fn cubic_gives_a_root_or_a_refusal() {
     assert_eq!(p3p::cubic(0.0, f64::INFINITY, 0.0), Err(Refusal::CoefficientNotFinite));
     let root = p3p::cubic(0.0, 1.0, -10.0).unwrap();
     assert!((root - 2.0).abs() < 1e-12);
+}
+
+#[test]
+fn cube_roots_of_minus_zero_and_of_the_least_number() {
     assert!((p3p::fast_cbrt(-27.0) + 3.0).abs() < 1e-12);
+    assert_eq!(p3p::fast_cbrt(-0.0).to_bits(), 0);
+    assert_eq!(p3p::cbrt(-0.0).to_bits(), 1 << 63);
+    assert_eq!(p3p::fast_cbrt(-5e-324), p3p::cbrt(-5e-324));
 }
 
 #[test]

@@ -31,3 +31,10 @@ fn what_has_no_direction_has_no_bearing() {
         assert_eq!(normalise(&direction), None);
     }
 }
+
+/// The power of two changes no bit where the entries lie less than 277 powers of ten apart.
+#[test]
+fn a_small_entry_beside_a_huge_one_vanishes_late() {
+    assert_eq!(normalise(&[2e150, 2e-126, 0.0]), Some([1.0, 2e-126 / 2e150, 0.0]));
+    assert_eq!(normalise(&[2e150, 1e-150, 0.0]), Some([1.0, 0.0, 0.0]));
+}
