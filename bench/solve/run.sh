@@ -1,7 +1,8 @@
 #!/usr/bin/env bash
-# All figures of a solve in one run: the library's size, the deepest stack, the times beside the
-# Rust's and, where target/peers is (bench/peers/fetch.sh), other solvers'; the records a second of
-# the program poses; and, where perf is installed, what the time goes into.
+# All figures of a solve in one run: the library's size, the stack that a solve and the other
+# functions take, the times beside the Rust's and, where target/peers is (bench/peers/fetch.sh),
+# other solvers'; the records a second of the program poses; and, where perf is installed, what the
+# time goes into.
 #   bench/solve/run.sh SOURCES     SOURCES: the Rust's original sources (reference/README.md), its
 #                                  path from the repository's root or from /
 # Needs gcc, python3, GNU time and what reference/README.md names; for other solvers g++.
@@ -43,14 +44,12 @@ P3P_PORT=$library reference/run "$1" bench
 
 echo
 echo "## The program poses"
-# The stored frames that have poses, as records. A stored frame has 79 words, of which the input is
-# the first 24 and the refusal the next.
-python3 - "$frames" "$out/frames" <<'END'
+# The stored frames that have poses, as records.
+PYTHONPATH=tests/poses python3 -B - >"$out/frames" <<'END'
 import sys
-stored = open(sys.argv[1], "rb").read()
-frames = [stored[at : at + 632] for at in range(0, len(stored), 632)]
-records = [b"\x00\xc1\x01" + f[:192] for f in frames if not any(f[192:200])]
-open(sys.argv[2], "wb").write(b"".join(records) * 600)
+from make import stored_frames
+records = [frame.record() for frame in stored_frames() if frame.refusal == 0]
+sys.stdout.buffer.write(b"".join(records) * 600)
 END
 /usr/bin/time -o "$out/time" -f "%U %S %M" target/bin/poses <"$out/frames" >/dev/null
 awk -v records=$(($(stat -c %s "$out/frames") / 195)) '{

@@ -1,6 +1,7 @@
-// The deepest stack of one solve: each stored frame is solved on a thread whose stack was filled
-// with a known byte, and the lowest byte that changed is found. Prints the deepest of all frames,
-// in bytes below the frame of the function that calls p3p_solve.
+// The deepest stack of one solve, and the stack of one call of each other function: each call is
+// made on a thread whose stack was filled with a known byte, and the lowest byte that changed is
+// found. Prints, in bytes below the frame of the function that makes the call, the deepest solve of
+// the stored frames, and then the other functions.
 //   stack FRAMES
 #include "../../include/p3p.h"
 #include "frames.h"
@@ -9,22 +10,45 @@
 
 enum { AREA = 1 << 18, FILL = 0xa5 };
 
-static double input[18], poses[48];
-static uint32_t updates[4], count;
+static double input[18], poses[48], frame[24], first, second, score;
+static const double target[3] = {0.5, 0.375, 0.125}, bearing[3] = {0.0, 0.6, 0.8};
+static const uint8_t record[P3P_RECORD_SIZE] = {0, 193, 1};
+static uint32_t updates[4], count, best;
 static volatile uintptr_t above;
+static volatile double number = 0.3; // unknown to the compiler
 
-static void *solve(void *unused) {
-    unsigned char here;
-    above = (uintptr_t)&here;
-    p3p_solve(input, poses, updates, &count);
-    return unused;
-}
+// The functions beside solve, each with a call.
+#define OTHERS(EACH)                                                    \
+    EACH(choose, p3p_choose(poses, 4, target, bearing, &best, &score))  \
+    EACH(read_record, p3p_read_record(record, sizeof record, frame))    \
+    EACH(quadratic, p3p_quadratic(-3.0, number, &first, &second))       \
+    EACH(cubic, p3p_cubic(-3.0, 2.0, number, &first))                   \
+    EACH(fast_cbrt, first = p3p_fast_cbrt(number))                      \
+    EACH(cbrt, first = p3p_cbrt(number))                                \
+    EACH(sqrt, first = p3p_sqrt(number))                                \
+    EACH(fma, first = p3p_fma(number, number, 1.0))                     \
+    EACH(copysign, first = p3p_copysign(number, -1.0))                  \
+    EACH(max, first = p3p_max(number, 1.0))                             \
+    EACH(total_cmp, best = (uint32_t)p3p_total_cmp(number, 1.0))
 
-static void *nothing(void *unused) {
-    unsigned char here;
-    above = (uintptr_t)&here;
-    return unused;
-}
+// A thread's function that makes a call, and its line in a table.
+#define CALLER(name, call)                   \
+    static void *call_##name(void *unused) { \
+        unsigned char here;                  \
+        above = (uintptr_t)&here;            \
+        call;                                \
+        return unused;                       \
+    }
+#define ENTRY(name, call) {#name, call_##name},
+
+CALLER(nothing, )
+CALLER(solve, p3p_solve(input, poses, updates, &count))
+OTHERS(CALLER)
+
+static const struct {
+    const char *name;
+    void *(*call)(void *);
+} others[] = {OTHERS(ENTRY)};
 
 // How far below the frame of `run` a thread wrote.
 static size_t depth(unsigned char *area, void *(*run)(void *)) {
@@ -50,10 +74,10 @@ int main(int argc, char **argv) {
         return 1;
     }
     // what a thread that does nothing writes as it ends is no part of a solve
-    size_t deepest = 0, idle = depth(area, nothing);
+    size_t deepest = 0, idle = depth(area, call_nothing);
     long frames = 0, at = 0;
     while (next_input(file, input)) {
-        size_t used = depth(area, solve);
+        size_t used = depth(area, call_solve);
         frames++;
         if (used > deepest) {
             deepest = used;
@@ -63,5 +87,7 @@ int main(int argc, char **argv) {
     printf("%ld frames; deepest stack of a solve: %zu bytes (frame %ld); of a thread that does "
            "nothing: %zu\n",
            frames, deepest, at, idle);
+    for (size_t i = 0; i < sizeof others / sizeof others[0]; i++)
+        printf("%s: %zu\n", others[i].name, depth(area, others[i].call));
     return frames == 0;
 }
