@@ -9,6 +9,7 @@ from blocks import blocks
 DOCUMENTS = [
     "README.md",
     "docs/USING.md",
+    "docs/GUIDE.md",
     "include/README.md",
     "bindings/rust/README.md",
     "samples/README.md",
@@ -33,18 +34,20 @@ def is_run_of(block, lines):
     )
 
 
+def run_fault(tree, lines, path):
+    """What is wrong with lines that are to stand in a file, or None."""
+    if not tree.exists(path):
+        return f"{path} is not there"
+    found = is_run_of(lines, tree.read(path).splitlines())
+    return None if found else f"the block is no run of lines of {path}"
+
+
 def block_fault(tree, block):
     """What is wrong with a block, or None."""
-    if block.mark == "shell":
-        return None
-    named = re.fullmatch(r"(?:from|output of) (\S+)", block.mark or "")
-    if not named:
+    mark = re.fullmatch(r"shell|(?:from|output of) (\S+)", block.mark or "")
+    if not mark:
         return f"a code block without a mark: {block.mark or 'none'}"
-    if not tree.exists(named[1]):
-        return f"{named[1]} is not there"
-    if not is_run_of(block.lines, tree.read(named[1]).splitlines()):
-        return f"the block is no run of lines of {named[1]}"
-    return None
+    return run_fault(tree, block.lines, mark[1]) if mark[1] else None
 
 
 def block_faults(tree):
@@ -121,17 +124,22 @@ def width_faults(tree):
                 yield f"{path}:{number}: {len(line)} columns"
 
 
-# ---- links
+# ---- links and placeholders
+
+
+def prose(text):
+    """The lines of a Markdown text outside code, with their numbers."""
+    code = {number for block in blocks(text) for number in block.numbers}
+    for number, line in enumerate(text.splitlines(), 1):
+        if number not in code:
+            yield number, re.sub(r"`[^`]*`", "", line)
 
 
 def links(text):
     """The targets of a Markdown text's links and pictures, with the numbers of their lines."""
-    code = {number for block in blocks(text) for number in block.numbers}
-    for number, line in enumerate(text.splitlines(), 1):
-        if number not in code:
-            prose = re.sub(r"`[^`]*`", "", line)
-            for target in re.findall(r"\]\(([^()\s]+)\)|(?:src|href)=\"([^\"]+)\"", prose):
-                yield number, target[0] or target[1]
+    for number, line in prose(text):
+        for target in re.findall(r"\]\(([^()\s]+)\)|(?:src|href)=\"([^\"]+)\"", line):
+            yield number, target[0] or target[1]
 
 
 def link_faults(tree):
@@ -143,6 +151,13 @@ def link_faults(tree):
                 yield f"{path}:{number}: {target} is not there"
 
 
+def placeholder_faults(tree):
+    for path in tree.with_suffix(".md"):
+        for number, line in prose(tree.read(path)):
+            for word in re.findall(r"@\w+@", line):
+                yield f"{path}:{number}: the placeholder {word}"
+
+
 # ---- the notice
 
 
@@ -151,7 +166,14 @@ def notice_faults(tree):
         yield f"{NOTICE} is not the repository's NOTICE"
 
 
-CHECKS = [block_faults, version_faults, width_faults, link_faults, notice_faults]
+CHECKS = [
+    block_faults,
+    version_faults,
+    width_faults,
+    link_faults,
+    placeholder_faults,
+    notice_faults,
+]
 
 
 def faults(tree):

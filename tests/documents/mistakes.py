@@ -42,6 +42,7 @@ def mistakes():
     yield replaced(program_version(), 'b"poses 0', 'b"poses 1'), "version: poses --version: 1"
     yield replaced(C, "[p3p.h](p3p.h)", "[p3p.h](p3p.c)"), f"{C}:3: p3p.c is not there"
     yield replaced(C, "[p3p.h](p3p.h)", "![p](p3p.svg#x)"), f"{C}:3: p3p.svg#x is not there"
+    yield replaced(C, "[p3p.h](p3p.h)", "[p3p.h](p3p.h) @SIZE@"), f"{C}:3: the placeholder @SIZE@"
     yield Tree().changed(NOTICE, Tree().read(NOTICE) + "x"), f"{NOTICE} is not"
     for path, begin, end in long_comments():
         yield longer(path, begin, end), f"{path}:"
@@ -71,6 +72,8 @@ def harmless():
     yield replaced(C, "    target/example\n", "    target/example again\n")
     yield replaced(RUST, "\nIn another project", "\n- an item\n\n    of two paragraphs\n\nIn")
     yield replaced(C, "[p3p.h](p3p.h)", "[p](p3p.h#L3) `[a](b)` [c](https://d.example/)\n")
+    yield replaced(C, "[p3p.h](p3p.h)", "`@SIZE@` a@b.example, c@d.example\n")
+    yield replaced(C, "    target/example\n", "    target/example @SIZE@\n")
 
 
 def unnoticed():

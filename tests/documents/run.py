@@ -13,9 +13,11 @@ Checked are:
 - the version in p3p.h, in Cargo.toml and in what `poses --version` prints.
 - width: lines of *.md outside tables, and comments in code, have at most 100 columns.
 - links of *.md to files of the tree.
+- *.md outside code: no word between two `@`, which stands for a text to come.
 - the copy of NOTICE in bindings/rust."""
 import sys
 
+sys.dont_write_bytecode = True
 from checks import faults
 from mistakes import unnoticed
 from tree import Tree

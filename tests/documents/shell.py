@@ -16,6 +16,7 @@ import subprocess
 import sys
 import tempfile
 
+sys.dont_write_bytecode = True
 from blocks import blocks
 from checks import DOCUMENTS
 from tree import Tree

@@ -18,6 +18,7 @@ import sys
 import tempfile
 from typing import NamedTuple
 
+sys.dont_write_bytecode = True
 import replies
 
 ROOT = os.path.join(os.path.dirname(os.path.abspath(__file__)), "..", "..")

@@ -15,6 +15,7 @@ import sys
 import tempfile
 from typing import NamedTuple
 
+sys.dont_write_bytecode = True
 import replies
 from make import stored_frames, whole
 
