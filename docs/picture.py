@@ -23,8 +23,8 @@ WIDTH, HEIGHT = 820, 500
 # toward the viewer, who stands to the right of the camera, above and behind it
 VIEWER = (0.78, -0.3, -0.6)
 SCALE, ORIGIN = 280, (90, 334)
-HOLE = (0.25, -0.5, 0.0)
-# the outline of the plate; the corner before the checking target is left out
+HOLE_POINT = (0.25, -0.5, 0.0)
+# the outline of the plate; the camera sees the checking target, which lies behind, by its notch
 OUTLINE = ((-0.16, -0.64), (0.64, -0.64), (0.64, 0.14), (0.36, 0.14), (0.36, 0.5), (-0.16, 0.5))
 RED, GREEN, BLUE = "#c02020", "#187818", "#1f4fc0"
 INK, GREY, RAY, CHECK = "#202020", "#707070", "#b06000", "#7030a0"
@@ -100,21 +100,26 @@ def heads():
 
 
 def camera():
-    """A pyramid from the camera's centre, and its axes."""
-    centre, length = (0, 0, 0), 0.3
+    """A pyramid from the camera's centre."""
+    centre = (0, 0, 0)
     corners = [(x, y, 0.2) for x, y in ((-0.14, -0.1), (0.14, -0.1), (0.14, 0.1), (-0.14, 0.1))]
     yield polygon(corners, f'fill="#e4e4e4" fill-opacity="0.6" stroke="{GREY}"')
     for corner in corners:
         yield line(centre, corner, GREY, 1)
+    yield label(centre, -66, -16, "camera", INK, 'font-weight="bold"')
+
+
+def camera_axes():
+    """Drawn over the rays, z longer than these, so that its head and label stand free."""
+    centre = (0, 0, 0)
     for axis, colour, text, dx, dy in (
-        ((length, 0, 0), RED, "x right", -2, 22),
-        ((0, length, 0), GREEN, "y down", -26, 20),
-        ((0, 0, 1.5 * length), BLUE, "z forward", -2, 40),
+        ((0.3, 0, 0), RED, "x right", -2, 22),
+        ((0, 0.3, 0), GREEN, "y down", -26, 20),
+        ((0, 0, 1.25), BLUE, "z forward", 6, 10),
     ):
         yield arrow(centre, axis, colour)
         yield label(axis, dx, dy, text, colour)
     yield disc(centre, INK, 4)
-    yield label(centre, -66, -16, "camera", INK, 'font-weight="bold"')
 
 
 def plate(pose):
@@ -150,7 +155,8 @@ def targets(vectors, pose):
         yield disc(put(vectors[i]), INK)
         yield label(put(vectors[i]), dx, dy, f"P{i}", INK, 'font-weight="bold"')
     yield disc(put(vectors[6]), CHECK)
-    yield label(put(vectors[6]), 12, 6, "checking target", CHECK)
+    for i, text in enumerate(("checking target,", "behind the plate,", "seen in its notch")):
+        yield label(put(vectors[6]), 12, 6 + 18 * i, text, CHECK)
 
 
 def number(x):
@@ -162,7 +168,7 @@ def triple(vector):
 
 
 def hole(pose):
-    there = pose.camera_point(HOLE)
+    there = pose.camera_point(HOLE_POINT)
     x, y = screen(there)
     yield f'<circle cx="{x:.1f}" cy="{y:.1f}" r="7" fill="white" stroke="{INK}" stroke-width="2"/>'
     yield words(x + 16, y - 4, "hole", INK, 'font-weight="bold"')
@@ -179,8 +185,8 @@ def direction(pose):
     yield words(20, 60, "camera = R · world + t", INK, 'font-weight="bold" font-size="18"')
     rows = ", ".join(map(triple, pose.rows))
     yield words(20, HEIGHT - 36, f"R = rows {rows};  t = {triple(pose.translation)}")
-    there = triple(pose.camera_point(HOLE))
-    yield words(20, HEIGHT - 12, f"hole: world {triple(HOLE)}  →  camera {there}")
+    there = triple(pose.camera_point(HOLE_POINT))
+    yield words(20, HEIGHT - 12, f"hole: world {triple(HOLE_POINT)}  →  camera {there}")
 
 
 def drawing():
@@ -196,6 +202,7 @@ def drawing():
         *plate(pose),
         *camera(),
         *rays(vectors, pose),
+        *camera_axes(),
         *targets(vectors, pose),
         *hole(pose),
         *direction(pose),

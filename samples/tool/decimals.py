@@ -1,9 +1,21 @@
 """A listing in decimals, each double in the shortest form that reads back to it."""
 
+import math
+from typing import NamedTuple
+
 from tool import Fault
 from tool.numbers import doubles
 from tool.poses import best
-from tool.words import CENTRE, WORDS, paragraph, seen
+from tool.words import CENTRE_WARNING, WORDS, paragraph, seen
+
+
+class Wanted(NamedTuple):
+    """What is asked for besides the poses: camera centres, holes, and the angle in degrees of the
+    checking target above which there is no hole."""
+
+    centre: bool
+    holes: list
+    limit: float
 
 
 def row(label, vector):
@@ -15,6 +27,20 @@ def checking(record):
     return [doubles(vector) for _, vector in record.vectors()[6:]]
 
 
+def off_bearing(pose, record):
+    """The checking target's score, and its angle in degrees: nan where the score is not finite."""
+    target, bearing = checking(record)
+    score = pose.score(target, bearing)
+    return score, pose.angle(target, bearing) if math.isfinite(score) else math.nan
+
+
+def checking_lines(pose, record):
+    score, angle = off_bearing(pose, record)
+    angle_words = "no angle" if math.isnan(angle) else f"angle {angle:.6f} degrees"
+    target, _ = checking(record)
+    return [row("target", pose.camera_point(target)), f"    score {score!r}, {angle_words}"]
+
+
 def pose_lines(frame, place, record, centre):
     pose = frame.poses[place - 1]
     lines = [f"  pose {place}, {pose.updates} updates" + (", best" * (place == frame.best))]
@@ -22,38 +48,54 @@ def pose_lines(frame, place, record, centre):
     lines.append(row("t", pose.translation))
     if centre:
         lines.append(row("centre", pose.centre()) + "  (not for holes)")
-    if record:
-        target, bearing = checking(record)
-        lines.append(row("target", pose.camera_point(target)))
-        score, angle = pose.score(target, bearing), pose.angle(target, bearing)
-        lines.append(f"    score {score!r}, angle {angle:.6f} degrees")
-    return lines
+    return lines + (checking_lines(pose, record) if record else [])
 
 
-def hole_lines(frame, holes):
+def no_hole(frame, record, limit):
+    """Why no hole may be taken from a frame, or None."""
+    if not frame.best:
+        return "no pose was chosen"
+    if not record:
+        return None
+    _, angle = off_bearing(frame.poses[frame.best - 1], record)
+    if angle > 90:
+        return "the checking target is behind the camera"
+    if angle > limit:
+        off = f"the checking target is {angle:.6f} degrees off its bearing"
+        return f"{off}, above the limit of {limit!r}"
+    return None
+
+
+def hole_lines(frame, record, wanted):
     """Where the best pose puts plate points: R*x + t."""
-    if holes and not frame.best:
-        return ["  no holes: no pose was chosen"]
-    lines = []
-    for hole in holes:
+    if not wanted.holes:
+        return []
+    if reason := no_hole(frame, record, wanted.limit):
+        return [f"  no hole: {reason}"]
+    lines = [] if record else ["  holes not checked: without the records there is no angle"]
+    for hole in wanted.holes:
         lines.append("  hole " + " ".join(map(repr, hole)))
         lines.append(row("camera", frame.poses[frame.best - 1].camera_point(hole)))
     return lines
 
 
-def frame_lines(frame, record, centre, holes):
+def counted(count, what):
+    return f"{count} {what}{'s' * (count != 1)}"
+
+
+def frame_lines(frame, record, wanted):
     if frame.refusal:
         found = seen(frame.refusal, record) if record and frame.refusal != 8 else []
         return [f"frame {frame.number}: refused {frame.refusal}"] + (
             paragraph(WORDS[frame.refusal]) + found
         )
     count = len(frame.poses)
-    lines = [f"frame {frame.number}: {count} pose{'s' * (count > 1)}, best {frame.best}"]
+    lines = [f"frame {frame.number}: {counted(count, 'pose')}, best {frame.best}"]
     if not frame.best:
         lines += paragraph(WORDS[10])
     for place in range(1, count + 1):
-        lines += pose_lines(frame, place, record, centre)
-    return lines + hole_lines(frame, holes)
+        lines += pose_lines(frame, place, record, wanted.centre)
+    return lines + hole_lines(frame, record, wanted)
 
 
 def head(with_records, centre):
@@ -62,15 +104,31 @@ def head(with_records, centre):
         lines.append(
             "target: the checking target's camera point; score, angle: how far off its bearing."
         )
-    return lines + (paragraph(CENTRE, "") if centre else [])
+    return lines + (paragraph(CENTRE_WARNING, "") if centre else [])
 
 
 def last_lines(listing):
     if not listing.stop:
-        return [f"end: {len(listing.frames)} frames, all of the input"]
+        return [f"end: {counted(len(listing.frames), 'frame')}, all of the input"]
     return [f"stop {listing.stop} at record {len(listing.frames) + 1}"] + paragraph(
         WORDS[listing.stop]
     )
+
+
+def difference(frame, record):
+    """What shows that a frame was listed of another record, or None."""
+    if (frame.refusal == 8) != (not record.patterns):
+        return "its version"
+    if frame.refusal == 8:
+        return None
+    if (frame.refusal == 1) != bool(record.not_finite()):
+        return "its numbers that are not finite"
+    vectors = [doubles(vector) for _, vector in record.vectors()]
+    if not all(pose.fits(vectors[:3], vectors[3:6]) for pose in frame.poses):
+        return "a pose that does not put the plate's points on their bearings"
+    if frame.poses and frame.best != best(frame.poses, *vectors[6:]):
+        return "its best pose"
+    return None
 
 
 def agree(listing, records, stop):
@@ -82,7 +140,5 @@ def agree(listing, records, stop):
             f"these are {len(records)} with stop {stop} (0 is the end)"
         )
     for frame, record in zip(listing.frames, records):
-        if (frame.refusal == 8) != (not record.patterns):
-            raise Fault(f"frame {frame.number}: the listing is of another record, by its version")
-        if frame.poses and frame.best != best(frame.poses, *checking(record)):
-            raise Fault(f"frame {frame.number}: the listing is of another record, by its best pose")
+        if sign := difference(frame, record):
+            raise Fault(f"frame {frame.number}: the listing is of another record, by {sign}")

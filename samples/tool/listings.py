@@ -7,7 +7,7 @@ from tool import Fault
 from tool.numbers import double
 from tool.poses import Pose
 
-POSE = r"updates (\d+)((?: [\da-f]{16}){12})"
+POSE_LINE = r"updates (\d+)((?: [\da-f]{16}){12})"
 
 
 class Frame(NamedTuple):
@@ -27,7 +27,7 @@ class Listing(NamedTuple):
     cut: Optional[str]
 
 
-class Cut(Exception):
+class EndsEarly(Exception):
     """A listing ends before its last line; the place."""
 
 
@@ -36,7 +36,7 @@ class Lines:
 
     def __init__(self, name, text):
         self.name, self.at = name, 0
-        self.lines = [line.removesuffix("\r") for line in text.split("\n")]
+        self.lines = text.split("\n")
         self.open_ended = self.lines[-1] != ""  # the last line may be a part of one
         if not self.open_ended:
             self.lines.pop()
@@ -47,24 +47,24 @@ class Lines:
     def take(self, *forms):
         """The place of the form that the next line has, and the match."""
         if self.at == len(self.lines):
-            raise Cut(f"it ends after line {self.at}")
+            raise EndsEarly(f"it ends after line {self.at}")
         self.at += 1
         for place, form in enumerate(forms):
             if found := re.fullmatch(form, self.lines[self.at - 1], re.A):
                 return place, found
         if self.open_ended and self.at == len(self.lines):
-            raise Cut(f"it ends within line {self.at}")
+            raise EndsEarly(f"it ends within line {self.at}")
         raise self.fault("this is no line of a listing, or not the next one")
 
 
-def pose(lines, number, place):
-    _, found = lines.take(rf"{number}\.{place} {POSE}")
+def read_pose(lines, number, place):
+    _, found = lines.take(rf"{number}\.{place} {POSE_LINE}")
     words = [double(int(word, 16)) for word in found[2].split()]
     rows = [words[i:9:3] for i in range(3)]  # they are listed by columns
     return Pose(int(found[1]), rows, words[9:])
 
 
-def frame(lines, number):
+def read_frame(lines, number):
     """The frame that is listed next, or the refusal number of the stop or 0 of the end."""
     form, found = lines.take(
         f"end {number - 1}",
@@ -79,17 +79,17 @@ def frame(lines, number):
     count, best = int(found[1]), int(found[2])
     if best > count:
         raise lines.fault("the best pose is none of those listed")
-    return Frame(number, 0, best, [pose(lines, number, i) for i in range(1, count + 1)])
+    return Frame(number, 0, best, [read_pose(lines, number, i) for i in range(1, count + 1)])
 
 
 def read(name, text):
     lines, frames = Lines(name, text), []
     try:
         lines.take("poses v1")
-        while isinstance(found := frame(lines, len(frames) + 1), Frame):
+        while isinstance(found := read_frame(lines, len(frames) + 1), Frame):
             frames.append(found)
-    except Cut as cut:
-        return Listing(frames, 0, str(cut))
+    except EndsEarly as place:
+        return Listing(frames, 0, str(place))
     if lines.at < len(lines.lines):
         lines.at += 1
         raise lines.fault("a line after the last")

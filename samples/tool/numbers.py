@@ -8,12 +8,9 @@ import struct
 
 from tool import Fault
 
-NAMED = {
-    "inf": 0x7FF0000000000000,
-    "+inf": 0x7FF0000000000000,
-    "-inf": 0xFFF0000000000000,
-    "nan": 0x7FF8000000000000,
-}
+INFINITY, NAN, MINUS = 0x7FF0000000000000, 0x7FF8000000000000, 1 << 63
+# in any case, as the printing of C, Rust and others has them
+NAMED = re.compile(r"([+-]?)(inf|infinity|nan)", re.A | re.I)
 # the digits before the exponent are the first group
 DECIMAL = re.compile(r"[+-]?(\d+\.?\d*|\.\d+)(?:[eE][+-]?\d+)?", re.A)
 HEXADECIMAL = re.compile(r"hex:[+-]?0x([\da-f]+\.?[\da-f]*|\.[\da-f]+)(?:p[+-]?\d+)?", re.A | re.I)
@@ -45,8 +42,8 @@ def rounded(word, digits, value):
 
 
 def pattern(word):
-    if word in NAMED:
-        return NAMED[word]
+    if found := NAMED.fullmatch(word):
+        return MINUS * (found[1] == "-") | (NAN if found[2].lower() == "nan" else INFINITY)
     if found := BITS.fullmatch(word):
         return int(found[1], 16)
     for form, read in ((DECIMAL, float), (HEXADECIMAL, from_hexadecimal)):
@@ -55,12 +52,31 @@ def pattern(word):
     raise Fault(f"{word[:40]!r} is no number")
 
 
+def is_negative(word):
+    """Whether a word is a number with a minus, of whatever size."""
+    return word[:1] == "-" and bool(DECIMAL.fullmatch(word) or NAMED.fullmatch(word))
+
+
 def shown(pattern):
     """The shortest text that is read back to the same bits."""
     value = double(pattern)
     if math.isnan(value):
-        return "nan" if pattern == NAMED["nan"] else f"bits:{pattern:016x}"
+        return "nan" if pattern == NAN else f"bits:{pattern:016x}"
     return repr(value)
+
+
+def misplaced(lines, size, what):
+    """Where to look for a number that is missing or too many, by the line of each number: mostly
+    before the first group that does not begin with a line."""
+    for at in range(size, len(lines), size):
+        if lines[at] == lines[at - 1]:
+            return (
+                f"{what} {at // size + 1} begins in the middle of line {lines[at]}: look in lines "
+                f"{lines[at - size]} to {lines[at]} for a number that is missing or too many"
+            )
+    over = len(lines) % size
+    last = f"the last {what} begins in line {lines[-over]} and has {over}"
+    return f"{last}; look before it too for numbers that are missing or too many"
 
 
 def groups(name, text, size, what):
@@ -74,9 +90,7 @@ def groups(name, text, size, what):
             except Fault as fault:
                 raise Fault(f"{name}, line {line}: {fault}") from None
             lines.append(line)
-    if over := len(patterns) % size:
-        raise Fault(
-            f"{name}: {len(patterns)} numbers, and a {what} has {size}: the last {what} begins in "
-            f"line {lines[-over]} and has {over}"
-        )
+    if len(patterns) % size:
+        where = misplaced(lines, size, what)
+        raise Fault(f"{name}: {len(patterns)} numbers, and a {what} has {size}: {where}")
     return [patterns[i : i + size] for i in range(0, len(patterns), size)]

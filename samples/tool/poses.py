@@ -35,6 +35,13 @@ class Pose(NamedTuple):
         """The camera's place in the world, -R^T t."""
         return [-dot(column, self.translation) for column in zip(*self.rows)]
 
+    def fits(self, points, bearings):
+        """Whether each point is put on the line of its bearing: within 1e-4 of the distance of the
+        farthest, since a camera may stand in a target, and what rounding leaves of t."""
+        cameras = [self.camera_point(point) for point in points]
+        slack = 1e-4 * max(map(norm, cameras)) + 1e-14 * norm(self.translation)
+        return not any(norm(cross(c, f)) > slack * norm(f) for c, f in zip(cameras, bearings))
+
     def score(self, target, bearing):
         """The squared tangent of the angle between the camera point and the bearing."""
         camera = self.camera_point(target)

@@ -1,9 +1,10 @@
 """Frame records: two bytes of length (193), one of version (1), 24 doubles, all big-endian."""
 
+import math
 from typing import NamedTuple
 
 from tool import Fault
-from tool.numbers import shown
+from tool.numbers import doubles, shown
 
 LENGTH, VERSION, NUMBERS = 193, 1, 24
 SIZE = 2 + LENGTH
@@ -29,6 +30,11 @@ class Record(NamedTuple):
     def vectors(self):
         """Each of the eight vectors with its label."""
         return [(label, self.patterns[3 * i : 3 * i + 3]) for i, label in enumerate(LABELS)]
+
+    def not_finite(self):
+        """The labels of those that the solve reads and that hold an infinity or a NaN."""
+        solved = [(label, doubles(vector)) for label, vector in self.vectors()[:6]]
+        return [label for label, vector in solved if not all(map(math.isfinite, vector))]
 
 
 class Stop(Fault):

@@ -8,9 +8,11 @@ Scores are compared bit for bit with those of crates/replay/data/rust, which are
 whole runs with those of crates/poses_runs. A comparison has something that it must find wrong."""
 
 import argparse
+import itertools
 import math
 import os
 import random
+import re
 import subprocess
 import sys
 import tempfile
@@ -23,7 +25,7 @@ sys.path[:0] = [SAMPLES, os.path.join(ROOT, "tests", "poses"), os.path.join(ROOT
 
 import make as stored_runs
 import picture
-from tool import Fault, listings, numbers, poses, records, words
+from tool import Fault, decimals, listings, numbers, poses, records, words
 
 PROGRAM = None
 
@@ -62,6 +64,14 @@ def slot(patterns):
     return poses.Pose(0, [values[i:9:3] for i in range(3)], values[9:])
 
 
+def stored_frames():
+    """The stored frames, each as a record and as it is listed."""
+    for number, given in enumerate(rust("frame.bin", 632), 1):
+        refusal, count, best = given[24:27]
+        held = [slot(given[28 + 13 * i : 40 + 13 * i]) for i in range(count)]
+        yield records.Record(number, 1, given[:24]), listings.Frame(number, refusal, best, held)
+
+
 class Make(unittest.TestCase):
     """From text to records and back."""
 
@@ -92,6 +102,10 @@ class Make(unittest.TestCase):
             ("hex:0x1.8p-3", 0x3FC8000000000000),
             ("-inf", 0xFFF0000000000000),
             ("nan", 0x7FF8000000000000),
+            ("NaN", 0x7FF8000000000000),
+            ("-nan", 0xFFF8000000000000),
+            ("+Infinity", 0x7FF0000000000000),
+            ("-INF", 0xFFF0000000000000),
             ("-0", 1 << 63),
             ("5e-324", 1),
             ("1e-310", numbers.pattern("bits:000012688b70e62b")),
@@ -102,7 +116,7 @@ class Make(unittest.TestCase):
 
     def test_a_bad_number_names_its_line(self):
         bad = ["1e999", "-1e999", "1e-999", "hex:0x1p1024", "hex:0x1p-1100", "hex:inf", "bits:12"]
-        for word in bad + ["x", "1_0", "infinity", "-nan", "0x10", "1,5", "١"]:
+        for word in bad + ["x", "1_0", "infinit", "nans", "0x10", "1,5", "١"]:
             status, out, error = tool("make", given=f"1 2 # 3\n\n4 {word}\n5".encode())
             self.assertEqual((status, out), (1, b""), word)
             self.assertIn(f"standard input, line 3: {word!r}", error)
@@ -116,6 +130,25 @@ class Make(unittest.TestCase):
         status, out, error = tool("make", given=text)
         self.assertEqual((status, out), (1, b""))
         self.assertIn("the last frame begins in line 25 and has 6", error)
+
+    def test_where_a_missing_number_is_looked_for(self):
+        lines = content(path("frames.txt")).decode().splitlines()
+        first = next(at for at, line in enumerate(lines) if line.startswith("# 2:")) + 1
+        for at in range(first, first + 8):
+            for changed in (lines[at].split(maxsplit=1)[1], f"0 {lines[at]}"):
+                text = "\n".join(lines[:at] + [changed] + lines[at + 1 :])
+                with self.assertRaises(Fault) as raised:
+                    numbers.groups("text", text, records.NUMBERS, "frame")
+                named = r"frame 3 begins in the middle of line (\d+): look in lines (\d+) to \1 "
+                last, start = map(int, re.search(named, str(raised.exception)).groups())
+                self.assertEqual(start, first + 1)
+                self.assertIn(last, (first + 8, first + 11))  # of frame 2 the last, of 3 the first
+
+    def test_marks_and_ends_of_lines(self):
+        text = content(path("frames.txt"))
+        for end in (b"\r\n", b"\r"):
+            given = b"\xef\xbb\xbf" + text.replace(b"\n", end)
+            self.assertEqual(tool("make", given=given), (0, sample()[0], ""))
 
 
 class Show(unittest.TestCase):
@@ -148,6 +181,29 @@ class Show(unittest.TestCase):
         shown = f"{sys.executable} -B {path('record.py')} show {path('frames.bin')}"
         done = subprocess.run(f"{shown} | head -1", shell=True, capture_output=True)
         self.assertEqual((done.stdout, done.stderr), (b"# record 1\n", b""))
+
+
+class Closed(unittest.TestCase):
+    """What cannot be read or written is one line on standard error, and exit status 1."""
+
+    def said(self, words, redirection):
+        command = f"{sys.executable} -B {path('record.py')} {words} {redirection}"
+        done = subprocess.run(command, shell=True, stdin=subprocess.DEVNULL, capture_output=True)
+        self.assertEqual(done.returncode, 1, command)
+        self.assertRegex(done.stderr.decode(), r"\Arecord\.py: [^\n]+\n\Z", command)
+        return done.stderr.decode()
+
+    def test_closed(self):
+        for words in ("make", "show", "listing -"):
+            self.assertIn("standard input is closed", self.said(words, "<&-"))
+        for words in (f"show {path('frames.bin')}", "make", "--help", "listing --help"):
+            self.assertIn("standard output is closed", self.said(words, ">&-"))
+
+    def test_full(self):
+        if not os.path.exists("/dev/full"):
+            self.skipTest("no /dev/full")
+        for words in (f"show {path('frames.bin')}", "--help", "make --help"):
+            self.assertIn("No space left", self.said(words, "> /dev/full"))
 
 
 def stored_listings():
@@ -192,6 +248,9 @@ class Listing(unittest.TestCase):
         self.assertEqual((status, out.count(b"\nframe ")), (1, 2))
         self.assertIn("standard input is not whole: it ends after line 7", error)
         self.assertNotIn(b"end:", out)
+        status, out, error = tool("listing", "--frame", "5", "-", given=text[:at].encode())
+        self.assertEqual((status, out), (1, b""))
+        self.assertIn("no frame 5; standard input is not whole: it ends after line 7", error)
 
     def test_a_bad_line_is_named(self):
         lines = sample()[1].splitlines()
@@ -226,11 +285,44 @@ class Listing(unittest.TestCase):
             lines = "\n".join(words.paragraph(words.WORDS[number]))
             self.assertIn(f"\n{lines}\n", tool("listing", "-", given=text.encode())[1].decode())
 
+    def test_byte_order_is_named(self):
+        for number in (2, 3, 7):
+            self.assertIn("big-endian", words.WORDS[number])
+
+    def test_marks_and_ends_of_lines(self):
+        data, text = sample()
+        given = b"\xef\xbb\xbf" + text.replace("\n", "\r\n").encode()
+        made = tool("listing", path("frames.bin"), "-", given=given)
+        self.assertEqual(made, (0, content(path("decimals.txt")), ""))
+
+    def test_one_frame(self):
+        out = tool("listing", "-", given=b"poses v1\n1 refused 3\nend 1\n")[1]
+        self.assertIn(b"\nend: 1 frame, all of the input\n", out)
+
+    def test_records_exchanged(self):
+        """Any two records exchanged are noticed. Not so 1 and 9, the same but for the bearings'
+        lengths, and 8 and 9, which are both refused for reasons that only the solve finds."""
+        data, text = sample()
+        listed, found = listings.read("listing", text), records.decode("records", data)
+        unnoticed = []
+        for i, j in itertools.combinations(range(10), 2):
+            changed = list(found)
+            changed[i], changed[j] = changed[j], changed[i]
+            try:
+                decimals.agree(listed, changed, 0)
+                unnoticed.append((i + 1, j + 1))
+            except Fault as fault:
+                self.assertRegex(str(fault), rf"^frame ({i + 1}|{j + 1}): the listing is of ")
+        self.assertEqual(unnoticed, [(1, 9), (8, 9)])
+
     def test_a_listing_of_other_records(self):
         data, text = sample()
         for changed, word in [
             (text.replace("1 poses 2 best 2", "1 poses 2 best 1"), "frame 1"),
             (text.replace("7 refused 1", "7 refused 8"), "frame 7"),
+            (text.replace("7 refused 1", "7 refused 2"), "frame 7"),
+            (text.replace("8 refused 2", "8 refused 1"), "frame 8"),
+            (text.replace("bfcfffffffffffe8", "bfcff00000000000", 1), "frame 1"),
             (text[: text.index("10 poses")] + "end 9\n", "9 frames"),
             (text.replace("end 10", "stop 9 at 11"), "stop 9"),
         ]:
@@ -256,6 +348,57 @@ class Listing(unittest.TestCase):
         self.assertIn("'1e999'", tool(*one[:3], "--hole", "1", "1e999", "0", *one[3:])[2])
         refused = tool("listing", "--frame", "7", *hole, path("listing.txt"))[1]
         self.assertNotIn(b"camera ", refused.split(b"frame 7")[1])
+
+    def test_bad_holes(self):
+        for hole, reason in [
+            (["-inf", "0", "0"], "a hole has three finite numbers, not -inf 0.0 0.0"),
+            (["0", "NaN", "0"], "a hole has three finite numbers, not 0.0 nan 0.0"),
+            (["1", "2"], f"a hole has three numbers: {path('listing.txt')[:40]!r} is no number"),
+        ]:
+            status, out, error = tool("listing", "--hole", *hole, path("listing.txt"))
+            self.assertEqual((status > 0, out), (True, b""))
+            self.assertIn(reason, error)
+
+    def first_with(self, bearing, best, *options):
+        """What is said of the first frame with another checking bearing."""
+        data, text = sample()
+        with tempfile.NamedTemporaryFile() as file:
+            file.write(data[:171] + bearing + data[195:])
+            file.flush()
+            changed = text.replace("1 poses 2 best 2", f"1 poses 2 best {best}").encode()
+            words = ["--frame", "1", "--hole", "0", "0", "0", *options, file.name, "-"]
+            status, out, _ = tool("listing", *words, given=changed)
+        self.assertEqual(status, 0)
+        return out.decode()
+
+    def test_no_hole_where_the_checking_target_is_off(self):
+        given = [path("frames.bin"), path("listing.txt")]
+        ask = ["listing", "--frame", "10", "--hole", "0", "0", "0"]
+        off = "  no hole: the checking target is 3.761142 degrees off its bearing, above the limit"
+        for limit, reason in [([], "of 0.01\n"), (["--limit", "3.7611"], "of 3.7611\n")]:
+            out = tool(*ask, *limit, *given)[1].decode()
+            self.assertIn(f"{off} {reason}", out)
+            self.assertNotIn("    camera ", out)
+        out = tool(*ask, "--limit", "3.7612", *given)[1].decode()
+        self.assertNotIn("no hole", out)
+        self.assertIn("    camera ", out)
+        self.assertIn("holes not checked", tool(*ask, given[1])[1].decode())
+        for limit in ("-1", "91", "nan", "x"):
+            self.assertIn("--limit", tool(*ask, "--limit", limit, *given)[2])
+
+    def test_no_hole_behind_the_camera(self):
+        seen = sample()[0][171:195]
+        behind = b"".join(bytes([seen[i] ^ 0x80]) + seen[i + 1 : i + 8] for i in (0, 8, 16))
+        out = self.first_with(behind, 2, "--limit", "90")
+        self.assertIn("  no hole: the checking target is behind the camera\n", out)
+        self.assertNotIn("    camera ", out)
+        self.assertIn("    camera ", self.first_with(seen, 2))
+
+    def test_no_choice_has_no_angle(self):
+        out = self.first_with(bytes(24), 0)
+        self.assertEqual(out.count("    score nan, no angle\n"), 2)
+        self.assertIn("  no hole: no pose was chosen\n", out)
+        self.assertNotIn("    camera ", out)
 
     def test_the_centre_has_its_warning(self):
         plain = tool("listing", path("listing.txt"))[1].decode()
@@ -297,13 +440,29 @@ class Scores(unittest.TestCase):
     def test_frames(self):
         """The best pose of every stored frame."""
         seen = set()
-        for given in rust("frame.bin", 632):
-            refusal, count, best = given[24:27]
-            held = [slot(given[28 + 13 * i : 40 + 13 * i]) for i in range(count)]
-            target, bearing = numbers.doubles(given[18:21]), numbers.doubles(given[21:24])
-            self.assertEqual(poses.best(held, target, bearing), best)
-            seen.add((refusal, count, best))
+        for record, listed in stored_frames():
+            found = poses.best(listed.poses, *decimals.checking(record))
+            self.assertEqual(found, listed.best)
+            seen.add((listed.refusal, len(listed.poses), listed.best))
         self.assertGreater(len(seen), 10)
+
+    def test_fits(self):
+        """No stored frame is taken for another record's. With the next one's record only ten are
+        not: their targets are seen within 1e-6 of each other, or lie at 1.8e308."""
+        given, listed = zip(*stored_frames())
+        signs = [decimals.difference(*pair) for pair in zip(listed, given)]
+        self.assertEqual([sign for sign in signs if sign], [])
+        signs = [decimals.difference(*pair) for pair in zip(listed, given[1:]) if pair[0].poses]
+        self.assertEqual(signs.count(None), 10)
+
+    def test_fits_far_away(self):
+        """Where coordinates are large, rounding alone takes points off their bearings."""
+        shift = [2.0**44] * 3
+        far = [t - poses.dot(row, shift) for row, t in zip(ROWS, TRUE.translation)]
+        points = [[x + y for x, y in zip(point, shift)] for point in PLATE[:3]]
+        bearings = [unit(TRUE.camera_point(point)) for point in PLATE[:3]]
+        self.assertTrue(poses.Pose(0, ROWS, far).fits(points, bearings))
+        self.assertFalse(poses.Pose(0, ROWS, [2 * t for t in far]).fits(points, bearings))
 
     def test_angle(self):
         pose = poses.Pose(0, [[1, 0, 0], [0, 1, 0], [0, 0, 1]], [0, 0, 0])
@@ -324,7 +483,7 @@ def unit(vector):
     return [x / length for x in vector]
 
 
-class Sample(unittest.TestCase):
+class SampleFiles(unittest.TestCase):
     """The files of samples/."""
 
     def frames(self):
@@ -361,15 +520,24 @@ class Sample(unittest.TestCase):
         made = tool("listing", path("frames.bin"), "-", given=changed.encode())[1]
         self.assertNotEqual(made, content(path("decimals.txt")))
 
-    def test_the_program(self):
+    def listed(self, data):
+        """What the program lists of an input."""
         if not PROGRAM:
             self.skipTest("no program given")
-        with open(path("frames.bin"), "rb") as given:
-            listed = subprocess.run([PROGRAM], stdin=given, stdout=subprocess.PIPE).stdout
-        self.assertEqual(listed, content(path("listing.txt")))
+        return subprocess.run([PROGRAM], input=data, capture_output=True).stdout
+
+    def test_the_program(self):
+        self.assertEqual(self.listed(sample()[0]), content(path("listing.txt")))
+
+    def test_little_endian(self):
+        """The refusals whose words name the byte order are those that it brings about."""
+        data, worked = sample()[0], sample()[0][: records.SIZE]
+        turned = b"".join(worked[i : i + 8][::-1] for i in range(3, records.SIZE, 8))
+        listed = self.listed(worked[:3] + turned + b"\xc1\0" + data[2:])
+        self.assertEqual(listed, b"poses v1\n1 refused 2\nstop 7 at 2\n")
 
 
-class Picture(unittest.TestCase):
+class Drawing(unittest.TestCase):
     """docs/pose.svg, which is drawn of the sample."""
 
     def test_as_made(self):
@@ -377,11 +545,11 @@ class Picture(unittest.TestCase):
         self.assertIn("camera (−0.05, −0.625, 2.15)", picture.drawing())
 
     def test_another_hole_is_another_drawing(self):
-        kept, picture.HOLE = picture.HOLE, (0.25, -0.4, 0.0)
+        kept, picture.HOLE_POINT = picture.HOLE_POINT, (0.25, -0.4, 0.0)
         try:
             self.assertNotEqual(picture.drawing().encode(), content(picture.DRAWING))
         finally:
-            picture.HOLE = kept
+            picture.HOLE_POINT = kept
 
 
 if __name__ == "__main__":
