@@ -41,7 +41,7 @@ def copied_tree(folder, library, program):
         os.makedirs(os.path.dirname(place))
         shutil.copy2(built, place)
     with open(os.path.join(folder, ".gitignore"), "w", encoding="utf-8") as f:
-        f.write("target\n*.pyc\nmy.*\n")
+        f.write("target\n*.pyc\n")
     git(folder, "init", "-q")
     git(folder, "add", "-A")
 
