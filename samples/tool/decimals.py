@@ -115,20 +115,23 @@ def last_lines(listing):
     )
 
 
-def difference(frame, record):
-    """What shows that a frame was listed of another record, or None."""
-    if (frame.refusal == 8) != (not record.patterns):
-        return "its version"
-    if frame.refusal == 8:
-        return None
+def content_differences(frame, record):
+    """What shows that a frame was listed of other numbers."""
     if (frame.refusal == 1) != bool(record.not_finite()):
-        return "its numbers that are not finite"
+        yield "its numbers that are not finite"
     vectors = [doubles(vector) for _, vector in record.vectors()]
     if not all(pose.fits(vectors[:3], vectors[3:6]) for pose in frame.poses):
-        return "a pose that does not put the plate's points on their bearings"
+        yield "a pose that does not put the plate's points on their bearings"
     if frame.poses and frame.best != best(frame.poses, *vectors[6:]):
-        return "its best pose"
-    return None
+        yield "its best pose"
+
+
+def differences(frame, record):
+    """What shows that a frame was listed of another record."""
+    if (frame.refusal == 8) != (not record.patterns):
+        yield "its version"
+    elif frame.refusal != 8:
+        yield from content_differences(frame, record)
 
 
 def agree(listing, records, stop):
@@ -140,5 +143,5 @@ def agree(listing, records, stop):
             f"these are {len(records)} with stop {stop} (0 is the end)"
         )
     for frame, record in zip(listing.frames, records):
-        if sign := difference(frame, record):
+        if sign := next(differences(frame, record), None):
             raise Fault(f"frame {frame.number}: the listing is of another record, by {sign}")
