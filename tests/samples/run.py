@@ -450,10 +450,10 @@ class Scores(unittest.TestCase):
         """No stored frame is taken for another record's. With the next one's record only ten are
         not: their targets are seen within 1e-6 of each other, or lie at 1.8e308."""
         given, listed = zip(*stored_frames())
-        signs = [decimals.difference(*pair) for pair in zip(listed, given)]
+        signs = [[*decimals.differences(*pair)] for pair in zip(listed, given)]
         self.assertEqual([sign for sign in signs if sign], [])
-        signs = [decimals.difference(*pair) for pair in zip(listed, given[1:]) if pair[0].poses]
-        self.assertEqual(signs.count(None), 10)
+        signs = [[*decimals.differences(*pair)] for pair in zip(listed, given[1:]) if pair[0].poses]
+        self.assertEqual(signs.count([]), 10)
 
     def test_fits_far_away(self):
         """Where coordinates are large, rounding alone takes points off their bearings."""
