@@ -4,7 +4,7 @@ use libc::STDERR_FILENO;
 use libc::STDIN_FILENO;
 use libc::STDOUT_FILENO;
 ghost use mathlib.Core.Path.{_≡_};
-ghost use Rattle.listing_program.specs.Requests.{requestOf};
+ghost use Rattle.listing_program.specs.Requests.{requestOf, requestOfOne};
 
 // What the arguments ask for.
 pub enum Request {
@@ -14,6 +14,19 @@ pub enum Request {
     Version,
     // No call that the program knows: it says how it is called.
     Usage,
+}
+
+// What one argument asks for.
+fn requested_by(argument: &[u8]) -> Request
+    ensures { λ r. ⌜ r ≡ requestOfOne (now (argument .entry)) ⌝ }
+{
+    if check::same(argument, b"--help") {
+        return Request::Help;
+    }
+    if check::same(argument, b"--version") {
+        return Request::Version;
+    }
+    Request::Usage
 }
 
 // What is asked for, by the number of words that the program is started with, its own name among
@@ -27,13 +40,7 @@ pub fn requested(words: usize, argument: &[u8]) -> Request
     if 2 < words {
         return Request::Usage;
     }
-    if check::same(argument, b"--help") {
-        return Request::Help;
-    }
-    if check::same(argument, b"--version") {
-        return Request::Version;
-    }
-    Request::Usage
+    requested_by(argument)
 }
 
 fn put(text: &[u8]) {
