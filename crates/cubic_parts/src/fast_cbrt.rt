@@ -10,13 +10,14 @@ use ieee754::cbrt::cbrt;
 use ieee754::copysign::copysign;
 use ieee754::is_finite::is_finite;
 use ieee754::literal::MIN_POSITIVE;
+use ieee754_parts::third::third;
 
 // The first guess: the exponent divided by three, by way of the bit pattern.
 fn cbrt_start(magnitude: f64) -> f64
     requires { ⌜ T (not (isNan magnitude)) ⌝ }
     ensures { λ r. ⌜ r ≡ cbrtStart magnitude ⌝ }
 {
-    f64::from_bits(f64::to_bits(magnitude) / 3 + 0x2A9F_7625_3119_D328)
+    f64::from_bits(third(f64::to_bits(magnitude)) + 0x2A9F_7625_3119_D328)
 }
 
 // A better guess, unless the cube leaves the range.

@@ -11,6 +11,7 @@ ghost use Rattle.ieee754.specs.Root as Root;
 use crate::is_finite::is_finite;
 use ieee754_parts::normal::normalise;
 use ieee754_parts::pack::pack_finite;
+use ieee754_parts::third::third;
 use ieee754_parts::unpack::unpack;
 use ieee754_roots::cbrt::nearest;
 
@@ -21,7 +22,8 @@ fn scaled(negative: bool, sig: u64, exp: u64) -> f64
     ensures { λ r. ⌜ r ≡ Root.roundRoot 3 binary64 negative (sig * 2 ^ exp) (2 ^ 1126) ⌝ }
 {
     let y = exp + 1992;
-    pack_finite(negative, nearest(sig, y % 3), y / 3)
+    let root_exp = third(y);
+    pack_finite(negative, nearest(sig, y - 3 * root_exp), root_exp)
 }
 
 // The cube root of a finite x: it has the sign of x, that of a zero too.

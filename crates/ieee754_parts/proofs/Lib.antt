@@ -3,6 +3,7 @@
 pub mod Tests
 pub mod Sizes
 pub mod Carry
+pub mod Thirds
 pub mod Nearest
 pub mod Jam
 pub mod Rounding

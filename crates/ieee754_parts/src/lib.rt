@@ -7,5 +7,6 @@ pub mod normal;
 pub mod pack;
 mod round;
 pub mod sum;
+pub mod third;
 pub mod unpack;
 pub mod wide;

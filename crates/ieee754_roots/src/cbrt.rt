@@ -7,6 +7,7 @@ ghost use mathlib.Core.Path.{_≡_};
 ghost use Prim.Native.Nat.{_*_, _^_, _≤_, _<_};
 ghost use Rattle.ieee754_roots.specs.Nearest.{IsNearest, Settled, cubeTop};
 use ieee754_parts::format::LEADING;
+use ieee754_parts::third::third;
 use ieee754_parts::wide::Wide;
 use ieee754_parts::wide::add_wide;
 use ieee754_parts::wide::product;
@@ -77,11 +78,11 @@ fn guess(m: u64, t: u64) -> u64
 {
     let bits = (1022 + t) * LEADING + m;
     let x = f64::from_bits(bits);
-    let third = x * 0.3333333333333333;
-    let mut y = f64::from_bits(0x553e_f000_0000_0000 - bits / 3);
-    y = y * (1.3333333333333333 - third * y * (y * y));
-    y = y * (1.3333333333333333 - third * y * (y * y));
-    y = y * (1.3333333333333333 - third * y * (y * y));
+    let x_third = x * 0.3333333333333333;
+    let mut y = f64::from_bits(0x553e_f000_0000_0000 - third(bits));
+    y = y * (1.3333333333333333 - x_third * y * (y * y));
+    y = y * (1.3333333333333333 - x_third * y * (y * y));
+    y = y * (1.3333333333333333 - x_third * y * (y * y));
     let r = x * (y * y);
     let root = r + (x - r * r * r) * (y * y * 0.3333333333333333);
     if root < 4.0 {

@@ -1,0 +1,59 @@
+-- A third without a division, of a number of two digits to a base that is one more than a multiple
+-- of three. Assumes nothing.
+use Prim.Native.Nat.{ℕ, suc, _+_, _*_, _/_, _%_, _≤_, _<_}
+use mathlib.Core.Path.{_≡_, refl, sym, ap, _∙_}
+use native.Mathlib.Nat.{add-mul, add-mul-div-left, div-add-mod', div-lt-iff-lt-mul, mod-lt}
+use native.Mathlib.Nat.{mul-le-mul-right}
+use native.Mathlib.Omega.{arith}
+use lib.Arith.{digits-div}
+
+-- the sum of the digits: its size, and how many threes it leaves out
+module _ (b t : ℕ) (base : b ≡ suc (3 * t)) where
+  pub digits-sum : (k n : ℕ) → n < k * b → n / b + n % b + 2 ≤ k + b
+  digits-sum k n l =
+      let pos : 0 < b = omega arith in
+      let high : n / b < k = div-lt-iff-lt-mul pos .1 l in
+      omega (arith, high, mod-lt n pos)
+
+  digits-third : (n : ℕ) → n / b * t + (n / b + n % b) / 3 ≡ n / 3
+  digits-third n =
+      let h = n / b in
+      let s = h + n % b in
+      let whole : s + 3 * (h * t) ≡ n =
+      omega (arith, div-add-mod' n b, ap (λ (x : ℕ). h * x) base) in
+      let three : 0 < 3 = omega arith in
+      omega (arith, add-mul-div-left s (h * t) three, ap (λ (x : ℕ). x / 3) whole)
+
+-- one product gives the third of a number below p - 2, where 3 * m is p + 1
+product-third : (m p n : ℕ) → 3 * m ≡ suc p → n + 2 < p → n * m / p ≡ n / 3
+product-third m p n e l =
+    let q = n / 3 in
+    let r = n % 3 in
+    let parts : n * m ≡ q * p + (q + r * m) =
+    omega (arith, ap (λ (x : ℕ). x * m) (div-add-mod' n 3), ap (λ (x : ℕ). q * x) e) in
+    let two : r ≤ 2 = omega arith in
+    let below : q + r * m < p = omega (arith, mul-le-mul-right m two) in
+    ap (λ (x : ℕ). x / p) parts ∙ digits-div q below
+
+-- n of two digits, the sum s of its digits, and the sum r of those of s, which is at most b
+module _ (b t : ℕ)
+    (base : b ≡ suc (3 * t))
+    (n s r : ℕ)
+    (size : n < b * b)
+    (first : s ≡ n / b + n % b)
+    (second : r ≡ s / b + s % b) where
+  pub second-sum : r ≤ b
+  second-sum =
+      let once : s + 2 ≤ b + b = omega (arith, digits-sum b t base b n size) in
+      let twice = digits-sum b t base 2 s (omega arith) in
+      omega (arith, twice)
+
+  pub thirds : (m p : ℕ)
+      → 3 * m ≡ suc p
+      → b + 2 < p
+      → (n / b + s / b) * t + r * m / p ≡ n / 3
+  thirds m p inverse room =
+      let of-n : n / b * t + s / 3 ≡ n / 3 = rw first (digits-third b t base n) in
+      let of-s : s / b * t + r / 3 ≡ s / 3 = rw second (digits-third b t base s) in
+      let of-r = product-third m p r inverse (omega (arith, second-sum)) in
+      omega (arith, of-n, of-s, of-r, add-mul (n / b) (s / b) t)
