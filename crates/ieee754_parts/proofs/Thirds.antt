@@ -1,7 +1,7 @@
--- A third without a division, of a number of two digits to a base that is one more than a multiple
--- of three. Assumes nothing.
+-- A third without a division, of a number of two digits to any base b that is one more than a
+-- multiple of three, 3 * t + 1, as 2 ^ 32 is. Assumes nothing.
 use Prim.Native.Nat.{ℕ, suc, _+_, _*_, _/_, _%_, _≤_, _<_}
-use mathlib.Core.Path.{_≡_, refl, sym, ap, _∙_}
+use mathlib.Core.Path.{_≡_, ap, _∙_}
 use native.Mathlib.Nat.{add-mul, add-mul-div-left, div-add-mod', div-lt-iff-lt-mul, mod-lt}
 use native.Mathlib.Nat.{mul-le-mul-right}
 use native.Mathlib.Omega.{arith}

@@ -1,8 +1,9 @@
-// A third of a word without a division, for the start of the cube root: document 02, §3.
+// A third of a word without a division: document 02, §3.
 ghost use mathlib.Core.Path.{_≡_};
 ghost use Prim.Native.Nat.{_+_, _/_, _%_, _^_};
 
-// What n leaves when it is divided by three, this leaves too.
+// The sum of a word's halves. Since 2^32 is 3 * 0x5555_5555 + 1, a word is this sum and as many
+// threes as 0x5555_5555 times its high half.
 fn halves_sum(n: u64) -> u64
     ensures { λ r. ⌜ r ≡ n / 2 ^ 32 + n % 2 ^ 32 ⌝ }
 {
@@ -11,9 +12,8 @@ fn halves_sum(n: u64) -> u64
     high + low
 }
 
-// 2^32 is 3 * 0x5555_5555 + 1: so many threes are in each unit of a high half, and one is left over.
-// Of the second sum, which is at most 2^32, one product gives the third: 3 * 0xaaaa_aaab is
-// 2^33 + 1.
+// n / 3, by multiplying halves and shifting. The sum's own halves have a sum of at most 2^32, and
+// the third of that is one product, since 3 * 0xaaaa_aaab is 2^33 + 1.
 pub fn third(n: u64) -> u64
     ensures { λ r. ⌜ r ≡ n / 3 ⌝ }
 {

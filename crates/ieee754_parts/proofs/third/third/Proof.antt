@@ -1,8 +1,10 @@
--- `ieee754_parts::third::third` meets its contract. Assumes nothing.
+-- `ieee754_parts::third::third` meets its contract: its constants are those of the law, 2^32 one more
+-- than three times 0x5555_5555, 3 * 0xaaaa_aaab one more than 2^33. Assumes nothing.
 use borrow.Author.Needs.{needs}
-use Prim.Native.Nat.{ℕ, _/_, _<_}
+use Prim.Native.Nat.{ℕ, _*_, _/_, _<_}
 use mathlib.Core.Path.{refl, sym, subst}
 use native.Mathlib.Omega.{arith}
+use lib.Dec.{lit<}
 use Rattle.ieee754_parts.proofs.Thirds.{second-sum, thirds}
 use Rattle.ieee754_parts.proofs.third.third.Statement.{statement}
 use Rattle.ieee754_parts.proofs.third.third.Tie as tie
@@ -16,8 +18,10 @@ mul-result-2 c =
 
 returns : tie.Need-returns
 returns c =
-    thirds 0x1_0000_0000 0x5555_5555 refl _ _ _ (omega arith) (c .before .halves-sum .ensures)
-    (c .halves-sum2 .ensures) 0xaaaa_aaab 0x2_0000_0000 refl (omega arith)
+    let n = c .before .before .args .n in
+    let word : n < 0x1_0000_0000 * 0x1_0000_0000 = omega arith in
+    thirds 0x1_0000_0000 _ refl _ _ _ word (c .before .halves-sum .ensures)
+    (c .halves-sum2 .ensures) _ _ refl (lit< tt)
 
 add-result-2 : tie.Need-add-result-2
 add-result-2 c =
