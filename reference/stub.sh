@@ -1,21 +1,28 @@
 #!/usr/bin/env bash
 # Tries the comparison itself, the second copy standing in for the port: stub.sh SOURCES
-# A right stand-in must show no difference, one that is wrong in a last bit of a pose or of a score
-# now and then must.
+# A right stand-in must show no difference, one that is wrong in a last bit of a pose, of a score or
+# of a fast cube root now and then must.
 set -euo pipefail
 here=$(cd "$(dirname "$0")" && pwd)
 sources=$(realpath "${1:?usage: stub.sh SOURCES}")
 build() {
   (cd "$here" && P3P_SOURCES=$sources cargo build --quiet --release --offline -p stub --target-dir "target/$1" ${2:-})
 }
-build right
-P3P_PORT=$here/target/right/release/libstub.a "$here/run" "$sources" beside 50000 | tail -n 1
-for wrong in wrong-pose wrong-score; do
-  build "$wrong" "--features=$wrong"
-  difference=$here/target/$wrong/difference
-  if P3P_PORT=$here/target/$wrong/release/libstub.a "$here/run" "$sources" beside 50000 2>"$difference"; then
-    echo "the stand-in $wrong was not found out" >&2
+compare() { # STAND-IN COMMAND..
+  P3P_PORT=$here/target/$1/release/libstub.a "$here/run" "$sources" "${@:2}"
+}
+must_find() { # STAND-IN COMMAND..
+  difference=$here/target/$1/difference
+  if compare "$@" >/dev/null 2>"$difference"; then
+    echo "the stand-in $1 was not found out by $2" >&2
     exit 1
   fi
-  echo "The stand-in $wrong: $(head -n 1 "$difference") ($(sed -n '2s/ .*//p' "$difference"))"
-done
+  echo "The stand-in $1, by $2: $(head -n 1 "$difference") ($(sed -n '2s/ .*//p' "$difference"))"
+}
+build right
+compare right beside 50000 | tail -n 1
+for wrong in pose score root; do build wrong-$wrong --features=wrong-$wrong; done
+must_find wrong-pose beside 50000
+must_find wrong-score beside 50000
+must_find wrong-root pieces 50000 fast_cbrt
+must_find wrong-root check "$here/inputs/cbrt.txt"

@@ -1,6 +1,7 @@
 // The proved single operations beside others, bit for bit, every NaN as one value: the square root,
 // the fused multiply-add, also that of a square, and the magnitude beside the C library's, the cube
-// root by whole numbers, and copied sign, maximum and total order by the order of bit patterns.
+// root by whole numbers, and copied sign, maximum and total order by the order of bit patterns. And
+// the third of a word, without a division, beside C's.
 //   compare [COUNT [SEED]]     COUNT arguments of each
 #include <inttypes.h>
 #include <stdio.h>
@@ -11,6 +12,7 @@
 // crates/ieee754_single
 double ieee754_abs(double x);
 double ieee754_fma_square(double x, double z);
+uint64_t ieee754_third(uint64_t n);
 
 typedef unsigned __int128 u128;
 
@@ -169,6 +171,28 @@ static long compare_pairs(long count) {
     return differ[0] + differ[1] + differ[2];
 }
 
+// A word of any length; or one beside a multiple of 2^32 or of 3, or at the ends of its halves.
+static uint64_t third_argument(void) {
+    uint64_t near = below(5) - 2;
+    switch (below(4)) {
+        case 0: return (next() >> 32 << 32) + near;
+        case 1: return 3 * (next() / 3) + near;
+        case 2: return (next() >> 32 << 32) + 0xffffffff - below(3);
+        default: return next() >> below(64);
+    }
+}
+
+static long compare_third(long count) {
+    long differ = 0;
+    for (long i = 0; i < count; i++) {
+        uint64_t n = third_argument(), r = ieee754_third(n);
+        if (r != n / 3 && differ++ < 10)
+            printf("third %016" PRIx64 ": %016" PRIx64 "\n", n, r);
+    }
+    printf("third %ld compared, %ld differ\n", count, differ);
+    return differ;
+}
+
 // The test of a cube root refuses the neighbours of a right result.
 static long try_the_test(long count) {
     long taken = 0;
@@ -187,6 +211,6 @@ int main(int argc, char **argv) {
     printf("seed %016" PRIx64 "\n", seed);
     long differ = compare_sqrt(count) + compare_fma(count) + compare_fma_square(count) +
                   compare_abs(count) + compare_cbrt(count) + compare_pairs(count) +
-                  try_the_test(count / 1000);
+                  compare_third(count) + try_the_test(count / 1000);
     return differ != 0;
 }

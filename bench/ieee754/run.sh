@@ -3,6 +3,7 @@
 # Needs gcc.
 #   bench/ieee754/run.sh          10^6 arguments of each operation
 #   bench/ieee754/run.sh long     10^7
+#   P3P_BEFORE=LIBRARY ..         times those of an earlier libp3p.a too, first
 set -eu
 cd "$(dirname "$0")/../.."
 count=1000000
@@ -24,4 +25,10 @@ if "$out/wrong" >"$out/wrong.out" || grep -q ", 0 differ" "$out/wrong.out"; then
     exit 1
 fi
 "$out/compare" "$count"
+if [ -n "${P3P_BEFORE:-}" ]; then
+    build timing-before timing.c "$P3P_BEFORE"
+    echo "before, $P3P_BEFORE"
+    "$out/timing-before"
+    echo "now"
+fi
 "$out/timing"

@@ -54,6 +54,7 @@ static struct row rows[] = {
     {"sqrt", "hardware", hardware_sqrt, 0, ROOTS, 0, 1e99, 1e99},
     {"cbrt", "proved", p3p_cbrt, 0, ROOTS, 1, 1e99, 1e99},
     {"cbrt", "C library", cbrt, 0, ROOTS, 0, 1e99, 1e99},
+    {"fast_cbrt", "proved", p3p_fast_cbrt, 0, ROOTS, -1, 1e99, 1e99},
     {"one argument", "a call alone", alone_one, 0, ROOTS, 0, 1e99, 1e99},
     {"fma", "proved", 0, p3p_fma, SUMS, 1, 1e99, 1e99},
     {"fma", "hardware", 0, hardware_fma, SUMS, 0, 1e99, 1e99},
@@ -104,7 +105,7 @@ int main(void) {
     // the least time of many passes: what else runs on the machine only adds
     for (int pass = 0; pass < PASSES; pass++)
         for (int i = 0; i < ROWS; i++) measure(&rows[i]);
-    printf("%-30s %10s %10s   ratio to the hardware's (cbrt: the C library's)\n", "ns a call",
+    printf("%-30s %10s %10s   ratio to the hardware's (cbrts: the C library's)\n", "ns a call",
            "throughput", "latency");
     for (int i = 0; i < ROWS; i++) {
         const struct row *r = &rows[i], *base = r + r->to;

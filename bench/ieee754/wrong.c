@@ -14,3 +14,5 @@ double ieee754_abs(double x) { return x < 0 ? -x : x; }
 double p3p_copysign(double x, double y) { return y < 0 ? -fabs(x) : fabs(x); }
 double p3p_max(double x, double y) { return x < y ? y : x; }
 int32_t p3p_total_cmp(double x, double y) { return (x > y) - (x < y); }
+// right below 2^32
+uint64_t ieee754_third(uint64_t n) { return n * 0xaaaaaaab >> 33; }

@@ -61,7 +61,11 @@ extern "C" fn p3p_cubic(b: f64, c: f64, d: f64, root: &mut f64) -> u32 {
 
 #[unsafe(no_mangle)]
 extern "C" fn p3p_fast_cbrt(x: f64) -> f64 {
-    copy_second::fast_cbrt(x)
+    let mut root = copy_second::fast_cbrt(x);
+    if cfg!(feature = "wrong-root") && x.to_bits() % 1024 == 5 {
+        change_last_bit(&mut root);
+    }
+    root
 }
 
 #[unsafe(no_mangle)]

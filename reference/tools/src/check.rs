@@ -1,15 +1,18 @@
-//! Runs both copies over vectors written as text and requires every answer.
+//! Runs the copies, and the port where it is linked, over vectors written as text and requires every
+//! answer.
 //!
 //! A line: `LABEL words -> answer`, and where the unchanged Rust differs ` | asis answer`.
 //! LABEL is a function's name, or for a frame its kind.
 
+#[cfg(port)]
+use crate::port;
 use crate::table::{self, FUNCTIONS};
 
 pub fn run(files: &[String]) -> Result<(), String> {
     let mut total = 0;
     for path in files {
         let text = std::fs::read_to_string(path).map_err(|e| format!("{path}: {e}"))?;
-        let mut differ = 0;
+        let (mut differ, mut asked) = (0, 0);
         for (number, line) in text.lines().enumerate() {
             let (left, right) = line.split_once(" -> ").ok_or(format!("{path}: line {number}"))?;
             let (second, asis) = right.split_once(" | asis ").unwrap_or((right, right));
@@ -17,15 +20,18 @@ pub fn run(files: &[String]) -> Result<(), String> {
             let name =
                 FUNCTIONS.iter().map(|f| f.name).find(|name| *name == label).unwrap_or("frame");
             let input = parse_input(name, words);
-            for (copy, expected, found) in [
-                ("the second copy", second, table::second::answer(name, &input)),
-                ("the counted copy", second, table::counted::answer(name, &input)),
-                ("the unchanged copy", asis, table::asis::answer(name, &input)),
+            let ported = port_answer(name, &input);
+            asked += ported.is_some() as usize;
+            for (whose, expected, found) in [
+                ("the second copy", second, Some(table::second::answer(name, &input))),
+                ("the counted copy", second, Some(table::counted::answer(name, &input))),
+                ("the unchanged copy", asis, Some(table::asis::answer(name, &input))),
+                ("the port", second, ported),
             ] {
-                let expected = parse_answer(name, expected);
-                if expected != found {
+                let Some(found) = found else { continue };
+                if parse_answer(name, expected) != found {
                     return Err(format!(
-                        "{path}, line {}: {copy}\n{line}\nfound {found:x?}",
+                        "{path}, line {}: {whose}\n{line}\nfound {found:x?}",
                         number + 1
                     ));
                 }
@@ -34,12 +40,23 @@ pub fn run(files: &[String]) -> Result<(), String> {
             total += 1;
         }
         println!(
-            "{path}: {} lines, the copies differ on {differ}, as it says",
+            "{path}: {} lines, the copies differ on {differ}, as it says; the port asked on {asked}",
             text.lines().count()
         );
     }
     println!("{total} answers equal");
     Ok(())
+}
+
+/// None where the port is not linked or does not offer the function.
+#[cfg(port)]
+fn port_answer(name: &str, input: &[u64]) -> Option<Vec<u64>> {
+    port::OFFERED.contains(&name).then(|| port::answer(name, input))
+}
+
+#[cfg(not(port))]
+fn port_answer(_: &str, _: &[u64]) -> Option<Vec<u64>> {
+    None
 }
 
 fn hex(word: &str) -> u64 {

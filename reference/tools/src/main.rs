@@ -23,7 +23,8 @@ mod vectors;
 use std::path::Path;
 
 const USAGE: &str = "\
-reference check FILE..           both copies over vectors written as text, every answer required
+reference check FILE..           the copies, and the port where it is linked, over vectors written
+                                 as text, every answer required
 reference vectors FOLDER         write the stored vectors
 reference coverage FOLDER        which branches of the Rust the stored vectors reach
 reference orders                 nalgebra's orders of operations, with a witness for each
