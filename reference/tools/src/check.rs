@@ -1,5 +1,5 @@
-//! Runs the copies, and the port where it is linked, over vectors written as text and requires every
-//! answer.
+//! Runs the copies, and the port where it is linked, over vectors written as text and requires
+//! every answer.
 //!
 //! A line: `LABEL words -> answer`, and where the unchanged Rust differs ` | asis answer`.
 //! LABEL is a function's name, or for a frame its kind.

@@ -1,5 +1,5 @@
--- `ieee754_parts::third::third` meets its contract: its constants are those of the law, 2^32 one more
--- than three times 0x5555_5555, 3 * 0xaaaa_aaab one more than 2^33. Assumes nothing.
+-- `ieee754_parts::third::third` meets its contract: its constants fit the law, 2 ^ 32 being one
+-- more than 3 * 0x5555_5555, and 3 * 0xaaaa_aaab one more than 2 ^ 33. Assumes nothing.
 use borrow.Author.Needs.{needs}
 use Prim.Native.Nat.{ℕ, _*_, _/_, _<_}
 use mathlib.Core.Path.{refl, sym, subst}
