@@ -17,10 +17,16 @@ must_find() { # STAND-IN COMMAND..
     echo "the stand-in $1 was not found out by $2" >&2
     exit 1
   fi
+  if ! grep -qi "the port" "$difference"; then
+    echo "$2 failed otherwise: $(head -n 1 "$difference")" >&2
+    exit 1
+  fi
   echo "The stand-in $1, by $2: $(head -n 1 "$difference") ($(sed -n '2s/ .*//p' "$difference"))"
 }
 build right
 compare right beside 50000 | tail -n 1
+compare right pieces 50000 fast_cbrt | tail -n 1
+compare right check "$here/inputs/cbrt.txt" | tail -n 1
 for wrong in pose score root; do build wrong-$wrong --features=wrong-$wrong; done
 must_find wrong-pose beside 50000
 must_find wrong-score beside 50000

@@ -171,13 +171,15 @@ static long compare_pairs(long count) {
     return differ[0] + differ[1] + differ[2];
 }
 
-// A word of any length; or one beside a multiple of 2^32 or of 3, or at the ends of its halves.
+// A word of any length; or one beside a multiple of 2^32 or of 3, with a high half of ones, or with
+// halves whose sum is beside 2^32.
 static uint64_t third_argument(void) {
-    uint64_t near = below(5) - 2;
-    switch (below(4)) {
-        case 0: return (next() >> 32 << 32) + near;
+    uint64_t near = below(5) - 2, high = next() >> 32;
+    switch (below(5)) {
+        case 0: return (high << 32) + near;
         case 1: return 3 * (next() / 3) + near;
-        case 2: return (next() >> 32 << 32) + 0xffffffff - below(3);
+        case 2: return (uint64_t)0xffffffff << 32 | high;
+        case 3: return high << 32 | (uint32_t)(near - high);
         default: return next() >> below(64);
     }
 }

@@ -1,9 +1,9 @@
 #!/usr/bin/env bash
-# Compares the single operations with the C library's and with exact arithmetic, then times them.
-# Needs gcc.
+# Compares the single operations, and the third of a word, with C's and with exact arithmetic, then
+# times the operations and the fast cube root. Needs gcc.
 #   bench/ieee754/run.sh          10^6 arguments of each operation
 #   bench/ieee754/run.sh long     10^7
-#   P3P_BEFORE=LIBRARY ..         times those of an earlier libp3p.a too, first
+#   P3P_BEFORE=LIBRARY ..         times those of an earlier libp3p.a too, before the present ones
 set -eu
 cd "$(dirname "$0")/../.."
 count=1000000

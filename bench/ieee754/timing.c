@@ -1,7 +1,7 @@
-// Nanoseconds a call of the single operations beside the hardware's and the C library's. Each is
-// called through a pointer, the hardware's instruction too, so a call is in every figure; the rows
-// `a call alone` have its cost. In throughput the calls are independent; in latency each waits for
-// the last.
+// Nanoseconds a call of the single operations, and of the fast cube root, beside the hardware's and
+// the C library's. Each is called through a pointer, the hardware's instruction too, so a call is in
+// every figure; the rows `a call alone` have its cost. In throughput the calls are independent; in
+// latency each waits for the last.
 #include <stdio.h>
 #include <time.h>
 #include "arguments.h"
@@ -39,8 +39,8 @@ static void fill(void) {
     }
 }
 
-// A row has a function of one argument or of three; its ratio is to the row that follows it as far
-// as `to` says.
+// A row has a function of one argument or of three; its ratio is to the row that is `to` places
+// further on, or before it where `to` is negative.
 struct row {
     const char *operation, *whose;
     double (*one)(double);
@@ -105,7 +105,7 @@ int main(void) {
     // the least time of many passes: what else runs on the machine only adds
     for (int pass = 0; pass < PASSES; pass++)
         for (int i = 0; i < ROWS; i++) measure(&rows[i]);
-    printf("%-30s %10s %10s   ratio to the hardware's (cbrts: the C library's)\n", "ns a call",
+    printf("%-30s %10s %10s   ratio to the hardware's (cbrt, fast_cbrt: the C library's)\n", "ns a call",
            "throughput", "latency");
     for (int i = 0; i < ROWS; i++) {
         const struct row *r = &rows[i], *base = r + r->to;

@@ -32,9 +32,9 @@ def spent(pid):
 
 def times(commit):
     """The seconds of each crate, and of all, under the name None."""
-    found = {}
+    found, repository = {}, git("rev-parse", "--show-toplevel").strip()
     with tempfile.TemporaryDirectory() as folder:
-        git("clone", "--quiet", git("rev-parse", "--show-toplevel").strip(), folder)
+        git("clone", "--quiet", repository, folder)
         git("-C", folder, "checkout", "--quiet", commit)
         environment = dict(os.environ, RT_JOBS="1")
         with subprocess.Popen(
@@ -43,7 +43,8 @@ def times(commit):
             before, last = 0, ""
             for last in rt.stdout:
                 if proved := PROVED.match(last):
-                    found[proved[1]], before = spent(rt.pid) - before, spent(rt.pid)
+                    now = spent(rt.pid)
+                    found[proved[1]], before = now - before, now
             # the process is waited for below, so its times can still be read
             found[None] = spent(rt.pid)
     if rt.returncode != 0:
@@ -67,17 +68,17 @@ def lines(before, after):
 def main():
     if len(sys.argv) not in (2, 3):
         sys.exit(__doc__)
-    before, after = (sys.argv[1:] + ["HEAD"])[:2]
+    before, after = (git("rev-parse", each).strip() for each in (sys.argv[1:] + ["HEAD"])[:2])
     count, crates = lines(before, after)
     print("| lines of | added | removed |\n|---|---:|---:|")
     for part in PARTS.values():
         print(f"| {part} | {count[part][0]} | {count[part][1]} |")
     first, second = times(before), times(after)
     print("\n| check | before, s | after, s |\n|---|---:|---:|")
-    for crate in [None] + sorted(crates, key=list(second).index):
+    for crate in [None] + [each for each in {**second, **first} if each in crates]:
         name = f"`{crate}`" if crate else "all crates"
-        old = f"{first[crate]:.1f}" if crate in first else ""
-        print(f"| {name} | {old} | {second[crate]:.1f} |")
+        cells = [f"{each[crate]:.1f}" if crate in each else "" for each in (first, second)]
+        print("|", name, "|", " | ".join(cells), "|")
 
 
 main()

@@ -4,13 +4,14 @@
 
     tests/library/run.py LIBRARY     LIBRARY: the path of libp3p.a
 
-- It links memcpy and memset alone (nm).
+- It links memset alone (nm).
 - No instruction of it divides whole numbers (objdump).
 - In the program that is compiled (rt mir) each divisor of whole numbers is a power of two, so that
   the compiler makes a shift or a mask of it.
 
 Each of the three must find fault with something: with a function of C that divides numbers of 128
-digits, with one that divides words, and with crate listing, which writes decimal numbers.
+bits, with one that divides words, and with crate listing_records, over listing, which writes
+decimal numbers.
 
 Run it at the repository's root. Needs rt, cc, nm and objdump."""
 import os
@@ -19,7 +20,7 @@ import subprocess
 import sys
 import tempfile
 
-LINKED = {"memcpy", "memset"}
+LINKED = {"memset"}
 DIVIDING = """
 unsigned __int128 wide(unsigned __int128 a, unsigned __int128 b) { return a / b; }
 unsigned long word(unsigned long a, unsigned long b) { return a / b; }
@@ -27,7 +28,7 @@ unsigned long word(unsigned long a, unsigned long b) { return a / b; }
 
 
 def output(*command):
-    return subprocess.run(command, check=True, capture_output=True, text=True).stdout
+    return subprocess.run(command, check=True, stdout=subprocess.PIPE, text=True).stdout
 
 
 def linked(path):
@@ -93,10 +94,10 @@ def main():
         looks = {
             "nm": (linked(library) - LINKED, linked(dividing) - LINKED),
             "objdump": (dividing_instructions(library), dividing_instructions(dividing)),
-            "rt mir": (other_divisors("p3p"), other_divisors("listing")),
+            "rt mir": (other_divisors("p3p"), other_divisors("listing_records")),
         }
     faults = [f"{tool}: {each}" for tool, (found, _) in looks.items() for each in found]
-    faults += [f"{tool}: nothing was noticed" for tool, (_, control) in looks.items() if not control]
+    faults += [f"{tool}: no fault was found" for tool, (_, control) in looks.items() if not control]
     print(*faults, f"{2 * len(looks)} looked at, {len(faults)} wrong", sep="\n")
     return 1 if faults else 0
 

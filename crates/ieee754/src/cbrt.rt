@@ -23,6 +23,7 @@ fn scaled(negative: bool, sig: u64, exp: u64) -> f64
 {
     let y = exp + 1992;
     let root_exp = third(y);
+    // y - 3 * root_exp is y modulo 3
     pack_finite(negative, nearest(sig, y - 3 * root_exp), root_exp)
 }
 

@@ -1,5 +1,5 @@
-// The single operations, and one of whole numbers, that crate p3p does not export, for
-// bench/ieee754 to link and to compare with C's.
+// Two single operations and the third of a word, which crate p3p does not export, for bench/ieee754
+// to link and to compare with C's.
 ghost use mathlib.Core.Path.{_≡_};
 ghost use Prim.Native.Nat.{_/_};
 ghost use Rattle.ieee754.specs.Fma as Fma;

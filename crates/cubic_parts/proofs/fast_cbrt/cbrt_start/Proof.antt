@@ -3,7 +3,6 @@
 use borrow.Author.Needs.{needs}
 use native.Mathlib.Omega.{arith}
 use Prim.Native.Nat.{_+_, _/_, _%_, _<_, _≤_}
-use mathlib.Core.Path.{refl}
 use denote.Floats.{passes}
 use lib.Ieee.{binary64, toBits}
 use lib.Ieee.Bits.{toBits-lt}
