@@ -1,7 +1,7 @@
 // Nanoseconds a call of the single operations, and of the fast cube root, beside the hardware's and
-// the C library's. Each is called through a pointer, the hardware's instruction too, so a call is in
-// every figure; the rows `a call alone` have its cost. In throughput the calls are independent; in
-// latency each waits for the last.
+// the C library's. Each is called through a pointer, the hardware's instruction too, so a call is
+// in every figure; the rows `a call alone` have its cost. In throughput the calls are independent;
+// in latency each waits for the last.
 #include <stdio.h>
 #include <time.h>
 #include "arguments.h"

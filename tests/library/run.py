@@ -28,7 +28,10 @@ unsigned long word(unsigned long a, unsigned long b) { return a / b; }
 
 
 def output(*command):
-    return subprocess.run(command, check=True, stdout=subprocess.PIPE, text=True).stdout
+    run = subprocess.run(command, capture_output=True, text=True)
+    if run.returncode != 0:
+        sys.exit(f"{command}:\n{run.stderr}")
+    return run.stdout
 
 
 def linked(path):
