@@ -4,10 +4,12 @@
     docs/changes/times.py BEFORE [AFTER]     commits; AFTER is HEAD unless it is given
 
 Each commit is cloned into a temporary folder and proved there from nothing, one crate at a time
-(`RT_JOBS=1 rt prove`), first BEFORE, then AFTER. The times are seconds of the processor in user
-mode, of the whole and of each crate that has changed. It takes a quarter of an hour on a machine
-that does nothing else. What is printed are the tables of a note (README.md beside this)."""
+(`RT_JOBS=1 rt prove`), both at once: on a machine of two cores or more that does nothing else, they
+meet the same conditions. It takes ten minutes. The times are seconds of the processor in user mode:
+of all crates; of those whose files are the same, whose difference is chance; and of each that has
+changed. What is printed are the tables of a note (README.md beside this)."""
 import collections
+import concurrent.futures
 import os
 import re
 import subprocess
@@ -31,7 +33,7 @@ def spent(pid):
 
 
 def times(commit):
-    """The seconds of each crate, and of all, under the name None."""
+    """The seconds of each crate."""
     found, repository = {}, git("rev-parse", "--show-toplevel").strip()
     with tempfile.TemporaryDirectory() as folder:
         git("clone", "--quiet", repository, folder)
@@ -45,8 +47,6 @@ def times(commit):
                 if proved := PROVED.match(last):
                     now = spent(rt.pid)
                     found[proved[1]], before = now - before, now
-            # the process is waited for below, so its times can still be read
-            found[None] = spent(rt.pid)
     if rt.returncode != 0:
         sys.exit(f"{commit}: {last}")
     return found
@@ -73,12 +73,20 @@ def main():
     print("| lines of | added | removed |\n|---|---:|---:|")
     for part in PARTS.values():
         print(f"| {part} | {count[part][0]} | {count[part][1]} |")
-    first, second = times(before), times(after)
+    with concurrent.futures.ThreadPoolExecutor() as pool:
+        columns = list(pool.map(times, (before, after)))
     print("\n| check | before, s | after, s |\n|---|---:|---:|")
-    for crate in [None] + [each for each in {**second, **first} if each in crates]:
-        name = f"`{crate}`" if crate else "all crates"
-        cells = [f"{each[crate]:.1f}" if crate in each else "" for each in (first, second)]
-        print("|", name, "|", " | ".join(cells), "|")
+    print_row("all crates", [sum(column.values()) for column in columns])
+    same = [sum(column[each] for each in column.keys() - crates) for column in columns]
+    print_row("those that have not changed", same)
+    for crate in [each for each in {**columns[1], **columns[0]} if each in crates]:
+        print_row(f"`{crate}`", [column.get(crate) for column in columns])
+
+
+def print_row(name, seconds):
+    """An empty cell for a crate that is not there."""
+    cells = ["" if each is None else f"{each:.1f}" for each in seconds]
+    print("|", name, "|", " | ".join(cells), "|")
 
 
 main()
