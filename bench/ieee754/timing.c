@@ -105,8 +105,8 @@ int main(void) {
     // the least time of many passes: what else runs on the machine only adds
     for (int pass = 0; pass < PASSES; pass++)
         for (int i = 0; i < ROWS; i++) measure(&rows[i]);
-    printf("%-30s %10s %10s   ratio to the hardware's (cbrt, fast_cbrt: the C library's)\n", "ns a call",
-           "throughput", "latency");
+    printf("%-30s %10s %10s   ratio to the hardware's (cbrt, fast_cbrt: the C library's)\n",
+           "ns a call", "throughput", "latency");
     for (int i = 0; i < ROWS; i++) {
         const struct row *r = &rows[i], *base = r + r->to;
         printf("%-16s %-13s %10.1f %10.1f", r->operation, r->whose, r->throughput, r->latency);

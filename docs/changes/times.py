@@ -6,8 +6,9 @@
 Each commit is cloned into a temporary folder and proved there from nothing, one crate at a time
 (`RT_JOBS=1 rt prove`), both at once: on a machine of two cores or more that does nothing else, they
 meet the same conditions. It takes ten minutes. The times are seconds of the processor in user mode:
-of all crates; of those whose files are the same, whose difference is chance; and of each that has
-changed. What is printed are the tables of a note (README.md beside this)."""
+of all crates; of those whose files are the same, whose difference is chance, or what the change
+below costs them; and of each that has changed. What is printed are the tables of a note (README.md
+beside this)."""
 import collections
 import concurrent.futures
 import os
