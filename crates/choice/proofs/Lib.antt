@@ -1,3 +1,5 @@
 -- The laws of this crate.
 pub mod Turns
+pub mod Evaluated
 pub mod OneAnswer
+pub mod Refusal
