@@ -23,6 +23,8 @@ import replies
 
 ROOT = os.path.join(os.path.dirname(os.path.abspath(__file__)), "..", "..")
 FRAMES = os.path.join(ROOT, "crates", "replay", "data", "rust", "frame.bin")
+# the frames that are stored by name
+NAMED = os.path.join(ROOT, "reference", "inputs", "frames.txt")
 RUNS = os.path.join(ROOT, "crates", "poses_runs")
 LENGTH, VERSION, SIZE = 193, 1, 195
 # the bytes of a stored frame with its answer
@@ -72,6 +74,13 @@ def stored_frames():
     return [stored_frame(content[i : i + STORED]) for i in range(0, len(content), STORED)]
 
 
+def named(frames, names):
+    """The stored frames of these names."""
+    lines = [line.split() for line in open(NAMED, encoding="utf-8") if not line.startswith("#")]
+    words = {line[0]: [int(word, 16) for word in line[1:]] for line in lines}
+    return [next(frame for frame in frames if frame.words == words[name]) for name in names]
+
+
 def listing(frames, last=None):
     """The listing of frames, whole or with the line that a stop has for the last one."""
     lines = [frame.lines(i + 1) for i, frame in enumerate(frames)]
@@ -100,6 +109,8 @@ def runs(frames):
     one, two = first[0, 1, 1], first[0, 2, 2]
     skipped = f"poses v1\n1 refused 8\n{one.lines(2)}end 2\n"
     filling = [frame for frame in frames if frame.refusal][:BUFFER]
+    # the other pose, put before the camera, and then the bearing turned round; and no pose
+    behind = named(frames, ["hand-behind", "hand-behind-turned", "hand-behind-all"])
     return [
         ("empty", *whole([])),
         ("lone_byte", *stopped([], b"\0", 9)),
@@ -111,6 +122,7 @@ def runs(frames):
         ("truncated_by_one", *stopped([one], two.record()[:-1], 9)),
         ("version_2", two.record(version=2) + one.record(), skipped),
         ("answers", *whole(answers)),
+        ("behind", *whole(behind)),
         ("buffer", *whole(filling)),
         ("buffer_and_byte", *stopped(filling, b"\0", 9)),
         ("thousand", *whole(frames[-1000:])),

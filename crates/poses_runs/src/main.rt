@@ -58,6 +58,7 @@ fn main() {
     list(b"truncated_by_one");
     list(b"version_2");
     list(b"answers");
+    list(b"behind");
     list(b"buffer");
     list(b"buffer_and_byte");
     list(b"thousand");

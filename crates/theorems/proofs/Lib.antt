@@ -9,3 +9,4 @@ pub mod ScalingExamples
 pub mod PremiseCases
 pub mod MarkedCases
 pub mod Answers
+pub mod BehindCamera

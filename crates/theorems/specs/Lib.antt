@@ -6,3 +6,4 @@ pub mod Plates
 pub mod PremiseCases
 pub mod Cases
 pub mod Answers
+pub mod BehindCamera

@@ -18,3 +18,7 @@ pub use Rattle.depths.specs.declared.candidates.Candidates.{Candidates}
 pub use Rattle.depths.specs.declared.ratio.Ratio.{Ratio}
 pub use Rattle.depths.specs.declared.ratio.Ratio.the-variants.{Real, NotReal}
 pub use Rattle.lambdatwist.specs.declared.solve.Answer.{Answer}
+pub use Rattle.choice.specs.declared.score.Scored.{Scored}
+pub use Rattle.choice.specs.declared.score.Scored.the-variants.{Score}
+pub use Rattle.choice.specs.declared.choose.Choice.{Choice}
+pub use Rattle.choice.specs.declared.choose.Choice.the-variants.{Best}

@@ -98,7 +98,9 @@ extern "C" fn p3p_choose(
     score: &mut f64,
 ) -> u32 {
     let slots = std::array::from_fn(|slot| std::array::from_fn(|index| poses[12 * slot + index]));
-    match choice::best(count as u64, &slots, target, bearing) {
+    let has_score: fn(f64) -> bool =
+        if cfg!(feature = "wrong-behind") { |_| true } else { |depth| depth > 0.0 };
+    match choice::lowest(count as u64, &slots, target, bearing, has_score) {
         Some((index, value)) => {
             *best = index as u32 + 1;
             *score = value;

@@ -93,7 +93,7 @@ fn print(distances: &BTreeMap<&str, Distance>) {
 
 /// A frame of any kind; every fourth is altered in a few places.
 fn next_frame(r: &mut Random) -> frames::Frame {
-    let mut frame = pieces::any_frame(r);
+    let mut frame = pieces::any_checked(r);
     if r.chance(8) {
         frame = frames::scaled(&frame, r.between(-64, 64));
     }

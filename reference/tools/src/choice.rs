@@ -1,28 +1,40 @@
-//! The choice by a fourth target (document 01, module 8; not in the Rust): camera =
-//! R × target + t, score = |camera × bearing|² ÷ (camera · bearing)², the lowest finite
-//! score, the earlier on a tie, by the chain of `best_by`. A count above 4 is read as 4.
+//! The choice by a fourth target (document 01, module 8, as document 02, §2, amends it; not in the
+//! Rust): camera = R × target + t; where camera · bearing is above zero, score = |camera × bearing|²
+//! ÷ (camera · bearing)²; the lowest finite score, the earlier on a tie, by the chain of `best_by`.
+//! A count above 4 is read as 4.
 
 use nalgebra::{Matrix3, Vector3};
 
-pub fn best(
+pub type Poses = [[f64; 12]; 4];
+
+pub fn best(count: u64, poses: &Poses, target: &[f64], bearing: &[f64]) -> Option<(usize, f64)> {
+    lowest(count, poses, target, bearing, |depth| depth > 0.0)
+}
+
+/// The lowest finite score of the poses whose depth has one.
+pub fn lowest(
     count: u64,
-    poses: &[[f64; 12]; 4],
+    poses: &Poses,
     target: &[f64],
     bearing: &[f64],
+    has_score: fn(f64) -> bool,
 ) -> Option<(usize, f64)> {
-    let target = Vector3::from_column_slice(target);
-    let bearing = Vector3::from_column_slice(bearing);
     poses
         .iter()
         .take(count.min(4) as usize)
+        .map(|pose| measured(pose, target, bearing))
         .enumerate()
-        .filter_map(|(index, pose)| {
-            let rotation = Matrix3::from_column_slice(&pose[..9]);
-            let translation = Vector3::from_column_slice(&pose[9..]);
-            let camera = rotation * target + translation;
-            let depth = camera.dot(&bearing);
-            let score = camera.cross(&bearing).norm_squared() / (depth * depth);
-            score.is_finite().then_some((index, score))
-        })
+        .filter(|(_, (depth, score))| has_score(*depth) && score.is_finite())
+        .map(|(index, (_, score))| (index, score))
         .min_by(|left, right| left.1.total_cmp(&right.1))
+}
+
+/// camera · bearing, and the score.
+pub fn measured(pose: &[f64; 12], target: &[f64], bearing: &[f64]) -> (f64, f64) {
+    let rotation = Matrix3::from_column_slice(&pose[..9]);
+    let translation = Vector3::from_column_slice(&pose[9..]);
+    let bearing = Vector3::from_column_slice(bearing);
+    let camera = rotation * Vector3::from_column_slice(target) + translation;
+    let depth = camera.dot(&bearing);
+    (depth, camera.cross(&bearing).norm_squared() / (depth * depth))
 }

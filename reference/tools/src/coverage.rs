@@ -1,5 +1,6 @@
-//! Which branches of the Rust the stored vectors reach, as a table.
+//! Which branches of the Rust and of the choice the stored vectors reach, as a table.
 
+use crate::choices;
 use crate::stored;
 use crate::table;
 use copy_counted::reach;
@@ -11,11 +12,15 @@ use std::path::Path;
 pub struct Counts(pub BTreeMap<(&'static str, bool), usize>);
 
 impl Counts {
-    /// Runs one input through the counted copy; what it reached is noted and returned.
+    /// Runs one input through the counted copy; what it reached, of the choice too, is noted and
+    /// returned.
     pub fn run(&mut self, name: &str, input: &[u64]) -> Vec<(&'static str, bool)> {
         reach::take();
         table::counted::answer(name, input);
-        let reached = reach::take();
+        let mut reached = reach::take();
+        if let Some((count, poses, target, bearing)) = table::counted::chosen_from(name, input) {
+            reached.extend(choices::reached(count, &poses, &target, &bearing));
+        }
         for &outcome in &reached {
             *self.0.entry(outcome).or_default() += 1;
         }
@@ -102,12 +107,12 @@ const NOT_REACHED: &str = "NOT REACHED";
 
 pub fn print(folder: &Path) -> Result<(), String> {
     let [(frames, frame_count), (all, total)] = count(folder)?;
-    println!("\n## Tests of the Rust, and which way they came out\n");
+    println!("\n## Tests of the Rust and of the choice, and which way they came out\n");
     println!("{frame_count} frames, {total} vectors in all\n");
     println!("| test | frames: yes | frames: no | all vectors: yes | all vectors: no | |");
     println!("|---|---:|---:|---:|---:|---|");
     let mut missing = 0;
-    for &label in reach::LABELS.iter().chain(&reach::LISTED) {
+    for &label in reach::LABELS.iter().chain(&choices::TESTS).chain(&reach::LISTED) {
         let outcomes: &[bool] = if is_place(label) { &[true] } else { &[true, false] };
         let notes: Vec<Option<String>> = outcomes
             .iter()

@@ -5,6 +5,7 @@ mod bench;
 mod beside;
 mod check;
 mod choice;
+mod choices;
 mod coverage;
 #[cfg(target_arch = "x86_64")]
 mod flags;
@@ -30,6 +31,8 @@ reference coverage FOLDER        which branches of the Rust the stored vectors r
 reference orders                 nalgebra's orders of operations, with a witness for each
 reference beside [COUNT [SEED]]  the port and both copies on the same random inputs
 reference pieces COUNT FUNCTION..  the same on COUNT random inputs of each function named
+reference choices COUNT [SEED]   how many choices document 02, §2, changes, of COUNT random frames
+                                 of each kind
 reference bench [COUNT]          how long a solve takes, the port beside the unchanged copy and,
                                  where P3P_PEERS was set, other solvers (COUNT frames of a sort)
 reference frames COUNT FILE      COUNT random frames of each kind, eighteen words a frame
@@ -54,6 +57,10 @@ fn main() {
         }
         ["pieces", count, ref names @ ..] => {
             number(count).and_then(|count| beside::pieces(count, vectors::SEED, names))
+        }
+        ["choices", count] => number(count).and_then(|count| choices::run(count, vectors::SEED)),
+        ["choices", count, seed] => {
+            number(count).and_then(|count| number(seed).and_then(|seed| choices::run(count, seed)))
         }
         #[cfg(port)]
         ["bench"] => bench::run(4096, vectors::SEED),

@@ -85,6 +85,25 @@ macro_rules! answers {
                 (answer, best.map_or(0, |(index, _)| index as u64 + 1))
             }
 
+            /// What a frame or a choice chooses from: the count, the poses, target and bearing.
+            pub fn chosen_from(
+                name: &str,
+                input: &[u64],
+            ) -> Option<(u64, choice::Poses, [f64; 3], [f64; 3])> {
+                match name {
+                    "frame" => {
+                        let answer = $copy::solve(&doubles(input));
+                        let (target, bearing) = (doubles(&input[18..]), doubles(&input[21..]));
+                        Some((answer.count as u64, answer.poses, target, bearing))
+                    }
+                    "choice" => {
+                        let poses = std::array::from_fn(|slot| doubles(&input[1 + 12 * slot..]));
+                        Some((input[0], poses, doubles(&input[49..]), doubles(&input[52..])))
+                    }
+                    _ => None,
+                }
+            }
+
             pub fn answer(name: &str, input: &[u64]) -> Vec<u64> {
                 let d = |index: usize| f64::from_bits(input[index]);
                 match name {
@@ -147,11 +166,8 @@ macro_rules! answers {
                     "row_crosses" => found($copy::row_crosses(&doubles(input), d(9))),
                     "condition" => vec![word($copy::condition(&doubles(input)))],
                     "choice" => {
-                        let poses: [[f64; 12]; 4] =
-                            std::array::from_fn(|slot| doubles(&input[1 + 12 * slot..]));
-                        let (target, bearing): ([f64; 3], [f64; 3]) =
-                            (doubles(&input[49..]), doubles(&input[52..]));
-                        match choice::best(input[0], &poses, &target, &bearing) {
+                        let (count, poses, target, bearing) = chosen_from(name, input).unwrap();
+                        match choice::best(count, &poses, &target, &bearing) {
                             Some((index, score)) => vec![0, index as u64 + 1, word(score)],
                             None => vec![10, 0, 0],
                         }

@@ -1,15 +1,19 @@
 //! Frames of all kinds: world points 0 1 2, bearings 0 1 2, checking target, checking
 //! bearing, each x y z.
 
+mod behind;
 mod degenerate;
 mod extreme;
 mod scenes;
+
+pub use behind::behind;
 
 use crate::random::{Random, Vector, plus, power, turn, unit};
 
 pub type Frame = [f64; 24];
 
-/// Kinds by name, with how many of each the stored vectors hold.
+/// Kinds by name, with how many of each the stored vectors hold. Those that differ from others in
+/// the checking target alone come after the first SOLVED.
 pub const KINDS: &[(&str, usize, fn(&mut Random) -> Frame)] = &[
     ("metres", 50, |r| scenes::realistic(r, false, false)),
     ("counts", 50, |r| scenes::realistic(r, true, false)),
@@ -41,7 +45,10 @@ pub const KINDS: &[(&str, usize, fn(&mut Random) -> Frame)] = &[
     ("pair", 30, degenerate::pair),
     ("nan-cosine", 24, extreme::nan_cosine),
     ("checking", 30, scenes::checking),
+    ("behind", 60, behind),
 ];
+
+pub const SOLVED: usize = 30;
 
 fn frame(world: [Vector; 3], bearings: [Vector; 3], target: Vector, bearing: Vector) -> Frame {
     let parts =

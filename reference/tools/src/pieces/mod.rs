@@ -42,7 +42,7 @@ fn kinds(name: &str) -> (Vec<Input>, usize, fn(&mut Random) -> Input) {
         "eig" => (eigen::hand_eig(), 200, eigen::eig),
         "row_crosses" => (vec![], 200, eigen::row_crosses),
         "condition" => (vec![], 180, eigen::condition),
-        "choice" => (vec![], 180, poses::choice),
+        "choice" => (poses::hand_choices(), 180, poses::choice),
         "sqrt" => (single::hand_cube_roots(), 600, single::square_root),
         "cbrt" => (single::hand_cube_roots(), 400, single::cube_root),
         "fma" => (single::hand_fma(), 1200, single::fma),
@@ -54,7 +54,12 @@ fn kinds(name: &str) -> (Vec<Input>, usize, fn(&mut Random) -> Input) {
     }
 }
 
+/// A frame of any kind that differs in what is solved.
 pub fn any_frame(r: &mut Random) -> Frame {
-    let index = r.below(frames::KINDS.len() as u64) as usize;
-    frames::KINDS[index].2(r)
+    frames::KINDS[r.below(frames::SOLVED as u64) as usize].2(r)
+}
+
+/// A frame of any kind, those with a target behind the camera more often than others.
+pub fn any_checked(r: &mut Random) -> Frame {
+    if r.chance(8) { frames::behind(r) } else { any_frame(r) }
 }

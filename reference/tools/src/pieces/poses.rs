@@ -1,14 +1,60 @@
 //! Poses to choose from.
 
-use super::{Input, any_frame, words};
+use super::{Input, any_checked, words};
 use crate::frames::part;
-use crate::random::{Random, power, times};
+use crate::random::{Random, Vector, power, times};
 use crate::table;
+
+/// Translations of four poses that do not turn, and a target by its bearing.
+fn unturned(translations: [Vector; 4], count: u64, target: Vector, bearing: Vector) -> Input {
+    let mut input = vec![count];
+    for t in translations {
+        input.extend(words(&[1.0, 0.0, 0.0, 0.0, 1.0, 0.0, 0.0, 0.0, 1.0]));
+        input.extend(words(&t));
+    }
+    input.extend(words(&[target, bearing].concat()));
+    input
+}
+
+/// Depths on both sides of zero: a pose has a score only where camera · bearing is above it.
+pub(super) fn hand_choices() -> Vec<Input> {
+    let still = [0.0; 3];
+    let (ahead, back, far) = ([0.0, 0.0, 1.0], [0.0, 0.0, -2.0], [0.0, 0.0, -3.0]);
+    let edge = [0.0, 0.0, -1.0];
+    let mut list = vec![
+        // The same score behind and in front; behind lower; all behind; and with a count.
+        unturned([back, still, far, back], 4, ahead, ahead),
+        unturned([back, [0.5, 0.0, 0.0], still, far], 4, ahead, ahead),
+        unturned([back, [0.5, 0.0, 0.0], still, far], 2, ahead, ahead),
+        unturned([back, far, back, far], 4, ahead, ahead),
+        unturned([back, far, still, still], 2, ahead, ahead),
+        // In front of the camera but behind along the bearing, and the other way round.
+        unturned([still; 4], 1, [-1.0, 0.0, 0.5], [1.0, 0.0, 0.0]),
+        unturned([still; 4], 1, [1.0, 0.0, -0.5], [1.0, 0.0, 0.0]),
+        // A depth of either zero.
+        unturned([[1.0, 0.0, -1.0], still, back, still], 1, ahead, ahead),
+        unturned([edge, edge, edge, still], 4, ahead, ahead),
+        unturned([edge, edge, edge, edge], 4, ahead, [0.0, 0.0, -1.0]),
+        // A depth that overflows is above zero or below it.
+        unturned([still; 4], 1, [1e308; 3], [1.0; 3]),
+        unturned([still; 4], 1, [1e308; 3], [-1.0; 3]),
+        unturned([still; 4], 1, [1e308; 3], [1.0, 1.0, -1e-3]),
+    ];
+    // Depths whose squares vanish, that vanish themselves, and that are not numbers.
+    for z in [2f64.powi(-500), 2f64.powi(-540), 2f64.powi(-1074), f64::INFINITY, f64::NAN] {
+        for sign in [1.0, -1.0] {
+            list.push(unturned([still; 4], 4, [0.0, 0.0, sign * z], ahead));
+            list.push(unturned([still; 4], 4, [z, 0.0, sign * z], ahead));
+            list.push(unturned([still, edge, ahead, back], 4, ahead, [0.0, z, sign * z]));
+        }
+    }
+    list
+}
 
 /// Poses of a solved frame, perhaps altered, and a target.
 pub(super) fn choice(r: &mut Random) -> Input {
     let (f, answer) = loop {
-        let f = any_frame(r);
+        let f = any_checked(r);
         let (answer, _) = table::second::frame(&f);
         if answer.count > 0 {
             break (f, answer);
