@@ -24,10 +24,10 @@
 #include <stddef.h>
 #include <stdint.h>
 
-#define P3P_VERSION "0.2.0"
+#define P3P_VERSION "0.2.1"
 #define P3P_VERSION_MAJOR 0
 #define P3P_VERSION_MINOR 2
-#define P3P_VERSION_PATCH 0
+#define P3P_VERSION_PATCH 1
 
 #ifdef __cplusplus
 extern "C" {

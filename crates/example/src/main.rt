@@ -32,11 +32,11 @@ fn at_place(poses: [Pose; 4], place: u32) -> Pose {
     }
 }
 
-// Whether a pose puts the fourth target before the camera and on its bearing: the score is the
-// squared tangent of the angle between the two, here at most that of 0.01 degrees.
-fn confirmed(pose: Pose, target: Vector3, bearing: Vector3, score: f64) -> bool {
-    let depth = pose.camera_point(target).dot(bearing);
-    (0.0 < depth) & (score <= 3e-8)
+// Whether the chosen pose puts the fourth target on its bearing: the score is the squared tangent of
+// the angle between the two, here at most that of 0.01 degrees. (A pose that puts it behind the
+// camera has no score, and is not chosen.)
+fn confirmed(score: f64) -> bool {
+    score <= 3e-8
 }
 
 // A length to the nearest millimetre. Beside 2^52 a double has no fraction: it is rounded, and its
@@ -71,7 +71,7 @@ fn main() {
         return;
     };
     let best = at_place(poses, place);
-    if !confirmed(best, target, bearing, score) {
+    if !confirmed(score) {
         io::write_all(STDOUT_FILENO, b"not confirmed\n");
         return;
     }

@@ -6,8 +6,8 @@ use choice::choose::Choice;
 use frames::lent::pose_at;
 use frames::lent::vector_at;
 
-// The number from 1 of the pose under which the target lies nearest to the line of its bearing, and
-// its score. Returns 0, or the refusal number with nothing written.
+// The number from 1 of the pose under which the target lies before the camera and nearest to its
+// bearing, and its score. Returns 0, or the refusal number with nothing written.
 #[no_mangle]
 pub extern "C" fn p3p_choose(
     poses: &[f64; 48],
