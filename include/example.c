@@ -30,7 +30,7 @@ static const char *advice(uint32_t refusal)
     case P3P_NO_POSE:
         return "no pose fits: look whether bearings have unit length, or points lie in a line";
     case P3P_NO_FINITE_SCORE:
-        return "no pose has a finite score: look at the checking target and its bearing";
+        return "no pose has a finite score: is the checking target right, its bearing reversed?";
     default:
         return "not a number of solve or choose";
     }
@@ -73,17 +73,12 @@ static int refused(const char *what, uint32_t refusal)
     return 1;
 }
 
-/* Whether the checking target is seen where a pose puts it. The score tells how far it is off the
- * line of its bearing, but not on which side of the camera: where its depth is negative, it lies
- * behind the camera, and the angle to its bearing is beyond 90 degrees. */
-static int confirmed(const double pose[12], const double bearing[3], double score)
+/* Whether the checking target is seen where the best pose puts it: the score tells how far it is
+ * off its bearing. */
+static int confirmed(double score)
 {
-    double camera[3], angle = atan(sqrt(score)) * degrees;
-    apply(pose, plate[3], camera);
-    double depth = camera[0] * bearing[0] + camera[1] * bearing[1] + camera[2] * bearing[2];
-    if (depth < 0.0)
-        angle = 180.0 - angle;
-    printf("checking target %.6f degrees off its bearing, at depth %.6f\n", angle, depth);
+    double angle = atan(sqrt(score)) * degrees;
+    printf("checking target %.6f degrees off its bearing\n", angle);
     if (angle > limit)
         fprintf(stderr, "not confirmed\n");
     return angle <= limit;
@@ -107,10 +102,9 @@ int main(void)
     if (refusal != 0)
         return refused("choose", refusal);
     print_poses(poses, count, best);
-    const double *pose = poses + 12 * (best - 1);
-    if (!confirmed(pose, bearing, score))
+    if (!confirmed(score))
         return 1;
-    apply(pose, hole, camera); /* rotation times point plus translation */
+    apply(poses + 12 * (best - 1), hole, camera); /* rotation times point plus translation */
     printf("hole at camera %.6f %.6f %.6f\n", camera[0], camera[1], camera[2]);
     return 0;
 }

@@ -27,13 +27,11 @@ def apply(pose, point):
     return [pose[i] * x + pose[3 + i] * y + pose[6 + i] * z + pose[9 + i] for i in range(3)]
 
 
-def confirmed(camera, bearing, score):
-    """Whether the checking target is seen where the pose puts it. The score tells how far it is off
-    the line of its bearing; where the depth is negative, it lies behind the camera."""
+def confirmed(score):
+    """Whether the checking target is seen where the best pose puts it: the score tells how far it
+    is off its bearing."""
     angle = math.degrees(math.atan(math.sqrt(score)))
-    depth = sum(c * b for c, b in zip(camera, bearing))
-    angle = 180.0 - angle if depth < 0.0 else angle
-    print(f"checking target {angle:.6f} degrees off its bearing, at depth {depth:.6f}")
+    print(f"checking target {angle:.6f} degrees off its bearing")
     return angle <= LIMIT
 
 
@@ -50,7 +48,7 @@ target, bearing = (c_double * 3)(*frame[18:21]), (c_double * 3)(*frame[21:24])
 ask(p3p.p3p_choose, poses, count, target, bearing, byref(best), byref(score))
 
 print("best", best.value)
-pose = poses[12 * best.value - 12 : 12 * best.value]
-if not confirmed(apply(pose, target), bearing, score.value):
+if not confirmed(score.value):
     sys.exit("not confirmed")
+pose = poses[12 * best.value - 12 : 12 * best.value]
 print("hole at camera", *(f"{c:.6f}" for c in apply(pose, HOLE)))

@@ -53,7 +53,7 @@ enum p3p_refusal {
     P3P_RECORD_VERSION = 8,
     /* read_record: bytes of the record are missing */
     P3P_RECORD_CUT_SHORT = 9,
-    /* choose: no pose has a finite score */
+    /* choose: no pose has a finite score, as where each puts the target behind the camera */
     P3P_NO_FINITE_SCORE = 10
 };
 
@@ -71,16 +71,16 @@ enum p3p_refusal {
  * Returns 0, or 1, 2 or 3. */
 uint32_t p3p_solve(const double input[18], double poses[48], uint32_t updates[4], uint32_t *count);
 
-/* The pose under which a fourth target lies nearest to the line of its bearing: the lowest finite
- * |camera x bearing|^2 / (camera . bearing)^2, of equal ones the earliest. The depth is squared, so
- * a target behind the camera scores as its mirror image in front of it does.
+/* The pose under which a fourth target lies before the camera and nearest to its bearing. A pose
+ * has a score only where camera . bearing, as computed, is above zero: |camera x bearing|^2 /
+ * (camera . bearing)^2. The lowest finite score wins, of equal ones the earliest.
  *
  * poses    slots as p3p_solve writes them.
  * count    how many of them hold a pose; above 4 it is read as 4.
  * best     the number of the slot, from 1.
- * score    its score: the squared tangent of the angle between the target and the line of its
- *          bearing. The angle is atan(sqrt(score)), in radians. The choice is the best of the poses
- *          and need not be good: that the angle is within your measuring error is yours to ask.
+ * score    its score: the squared tangent of the angle between the target and its bearing. The
+ *          angle is atan(sqrt(score)), in radians. The choice is the best of the poses and need not
+ *          be good: that the angle is within your measuring error is yours to ask.
  * Returns 0, or 10. */
 uint32_t p3p_choose(const double poses[48], uint32_t count, const double target[3],
                     const double bearing[3], uint32_t *best, double *score);

@@ -9,19 +9,6 @@
 
 static const double degrees = 57.29577951308232;
 
-/* The angle between a frame's checking target and its bearing, in degrees. The score has the angle
- * to the line of the bearing; where the depth is negative, the target lies behind the camera. */
-static double angle_off(const double pose[12], const double frame[24], double score)
-{
-    const double *target = frame + 18, *bearing = frame + 21;
-    double angle = atan(sqrt(score)) * degrees, depth = 0.0;
-    for (int i = 0; i < 3; i++) {
-        double turned = pose[i] * target[0] + pose[3 + i] * target[1] + pose[6 + i] * target[2];
-        depth += (turned + pose[9 + i]) * bearing[i];
-    }
-    return depth < 0.0 ? 180.0 - angle : angle;
-}
-
 static void list_frame(unsigned long number, const double frame[24])
 {
     double poses[48], score;
@@ -36,7 +23,7 @@ static void list_frame(unsigned long number, const double frame[24])
         printf("%lu poses %u, choice refused %u\n", number, count, refusal);
     else
         printf("%lu poses %u, best %u, checking target %.6f degrees off its bearing\n", number,
-               count, best, angle_off(poses + 12 * (best - 1), frame, score));
+               count, best, atan(sqrt(score)) * degrees);
 }
 
 /* Lists one record after another; 1 where it has to stop within the input. */

@@ -91,7 +91,8 @@ struct counts {
     long plates, refused[4], told;
 };
 
-// Whether the chosen pose has the checking target half a millimetre or more off its bearing's line.
+// Whether no pose is chosen, or the chosen one has the checking target half a millimetre or more off
+// its bearing.
 static int tells(const struct plate *plate, const double poses[48], uint32_t count) {
     uint32_t best;
     double score, camera[3], depth = 0;
@@ -100,7 +101,7 @@ static int tells(const struct plate *plate, const double poses[48], uint32_t cou
     apply(poses + 12 * (best - 1), plate->target, camera);
     for (int i = 0; i < 3; i++)
         depth += camera[i] * plate->bearing[i];
-    return depth <= 0 || sqrt(score) * depth * plate->mm >= 0.5;
+    return sqrt(score) * depth * plate->mm >= 0.5;
 }
 
 static void try_plate(struct plate *plate, mistake *make, struct counts *counts) {

@@ -35,7 +35,7 @@ CHANGES = [
     ("[0.0, 0.375, 0.0]", "[1.0, 0.0, 0.0]", "no pose was kept\n"),
     ("[0.075, 0.25, 2.4]", "[0.0, 0.25, 2.4]", "not confirmed\n"),
     # the mirror image behind the camera
-    ("[0.075, 0.25, 2.4]", "[-0.075, -0.25, -2.4]", "not confirmed\n"),
+    ("[0.075, 0.25, 2.4]", "[-0.075, -0.25, -2.4]", "no pose has a finite score\n"),
 ]
 OTHER_HOLE = "[0.25, -0.5, 0.0]", "[0.25, -0.5, 0.000001]"
 

@@ -27,18 +27,13 @@ def checking(record):
     return [doubles(vector) for _, vector in record.vectors()[6:]]
 
 
-def off_bearing(pose, record):
-    """The checking target's score, and its angle in degrees: nan where the score is not finite."""
-    target, bearing = checking(record)
-    score = pose.score(target, bearing)
-    return score, pose.angle(target, bearing) if math.isfinite(score) else math.nan
-
-
 def checking_lines(pose, record):
-    score, angle = off_bearing(pose, record)
+    """Where a pose puts the checking target, its score, and its angle to its bearing."""
+    target, bearing = checking(record)
+    score, angle = pose.score(target, bearing), pose.angle(target, bearing)
+    score_words = "no score" if score is None else f"score {score!r}"
     angle_words = "no angle" if math.isnan(angle) else f"angle {angle:.6f} degrees"
-    target, _ = checking(record)
-    return [row("target", pose.camera_point(target)), f"    score {score!r}, {angle_words}"]
+    return [row("target", pose.camera_point(target)), f"    {score_words}, {angle_words}"]
 
 
 def pose_lines(frame, place, record, centre):
@@ -57,9 +52,7 @@ def no_hole(frame, record, limit):
         return "no pose was chosen"
     if not record:
         return None
-    _, angle = off_bearing(frame.poses[frame.best - 1], record)
-    if angle > 90:
-        return "the checking target is behind the camera"
+    angle = frame.poses[frame.best - 1].angle(*checking(record))
     if angle > limit:
         off = f"the checking target is {angle:.6f} degrees off its bearing"
         return f"{off}, above the limit of {limit!r}"

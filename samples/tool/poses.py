@@ -43,21 +43,30 @@ class Pose(NamedTuple):
         return not any(norm(cross(c, f)) > slack * norm(f) for c, f in zip(cameras, bearings))
 
     def score(self, target, bearing):
-        """The squared tangent of the angle between the camera point and the bearing."""
+        """The squared tangent of the angle between the camera point and the bearing; None where the
+        depth along the bearing is not above zero: the pose has no score then."""
         camera = self.camera_point(target)
+        depth = dot(camera, bearing)
+        if not depth > 0:
+            return None
         normal = cross(camera, bearing)
-        off_ray, depth = dot(normal, normal), dot(camera, bearing)
+        off_ray = dot(normal, normal)
         if depth * depth == 0:  # where Python has no quotient
             return math.inf if off_ray > 0 else math.nan
         return off_ray / (depth * depth)
 
     def angle(self, target, bearing):
-        """The angle between the camera point and the bearing in degrees, above 90 behind it."""
+        """The angle between the camera point and the bearing in degrees, above 90 where the point
+        is behind the camera; nan where the depth along the bearing is no number or zero."""
         camera = self.camera_point(target)
-        return math.degrees(math.atan2(norm(cross(camera, bearing)), dot(camera, bearing)))
+        depth = dot(camera, bearing)
+        if math.isnan(depth) or depth == 0:
+            return math.nan
+        return math.degrees(math.atan2(norm(cross(camera, bearing)), depth))
 
 
 def best(poses, target, bearing):
     """The place, from 1, of the lowest finite score, the earlier on a tie; 0 where none is."""
     scores = [(pose.score(target, bearing), i) for i, pose in enumerate(poses, 1)]
-    return min((entry for entry in scores if math.isfinite(entry[0])), default=(0, 0))[1]
+    finite = [entry for entry in scores if entry[0] is not None and math.isfinite(entry[0])]
+    return min(finite, default=(0, 0))[1]

@@ -25,8 +25,9 @@ WORDS = {
     "the records after it were read.",
     9: "The input ends within this record. The run stopped: write or copy the records again.",
     10: "The choice was refused (10): no pose has a finite score. The poses stand. Look whether "
-    "the checking target and its bearing are finite and its bearing is not zero, or choose by "
-    "another target.",
+    "the checking target's bearing points away from it, since a pose that puts the target behind "
+    "the camera has no score, and whether the target and its bearing are finite and the bearing is "
+    "not zero; or choose by another target.",
 }
 CENTRE_WARNING = (
     "The camera centre, -R^T t, is for a rough look. Do not use it for holes: at national grid "

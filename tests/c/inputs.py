@@ -7,7 +7,7 @@ ROOT = os.path.join(os.path.dirname(os.path.abspath(__file__)), "..", "..")
 RECORD_SIZE = 195
 # what is listed of the sample's first record, and where its checking bearing is reversed
 LISTED = "poses 2, best 2, checking target 0.000000 degrees off its bearing\n"
-LISTED_BEHIND = LISTED.replace("0.000000", "180.000000")
+LISTED_BEHIND = "poses 2, choice refused 10\n"
 NO_READ = "records: cannot read the input: Is a directory\n"
 NO_WRITE = "records: cannot write the listing: No space left on device\n"
 

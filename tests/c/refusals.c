@@ -81,9 +81,11 @@ static uint32_t choose(uint32_t count, const double bearing[3])
 
 static void choices(void)
 {
-    const double ahead[3] = {0, 0, 1}, aside[3] = {1, 0, 0}, nowhere[3] = {NAN, 0, 0};
+    const double ahead[3] = {0, 0, 1}, aside[3] = {1, 0, 0}, back[3] = {0, 0, -1};
+    const double nowhere[3] = {NAN, 0, 0};
     expect("choose, no pose", P3P_NO_FINITE_SCORE, choose(0, ahead));
     expect("choose, depth zero", P3P_NO_FINITE_SCORE, choose(4, aside));
+    expect("choose, all behind", P3P_NO_FINITE_SCORE, choose(4, back));
     expect("choose, a NaN", P3P_NO_FINITE_SCORE, choose(4, nowhere));
     expect("choose, a pose", 0, choose(1, ahead));
     expect("choose, more than four", 0, choose(4000000000u, ahead));

@@ -90,7 +90,7 @@ CHANGES = [
     ("{0.075, 0.25, 2.4}", "{0.0, 0.0, 0.0}", "choose refused 10: no pose has a finite"),
     ("{0.075, 0.25, 2.4}", "{0.1, 0.25, 2.4}", "not confirmed"),
     # the mirror image behind the camera
-    ("{0.075, 0.25, 2.4}", "{-0.075, -0.25, -2.4}", "not confirmed"),
+    ("{0.075, 0.25, 2.4}", "{-0.075, -0.25, -2.4}", "choose refused 10: no pose has a finite"),
 ]
 # A change of the hole by a thousandth of a millimetre.
 OTHER_HOLE = "{0.25, -0.5, 0.0}", "{0.25, -0.5, 0.000001}"
@@ -156,11 +156,11 @@ def compare_python(compared, folder):
     first, last = SAMPLE[: inputs.RECORD_SIZE], SAMPLE[-inputs.RECORD_SIZE :]
     library = os.path.join(folder, "libp3p.so")
     usage = ast.get_docstring(ast.parse(read("include/example.py")), clean=False) + "\n"
-    checked = "checking target {} degrees off its bearing, at depth {}\nnot confirmed\n"
+    unconfirmed = "best 1\nchecking target 3.761142 degrees off its bearing\nnot confirmed\n"
     for words, given, expected in (
         ([library], first[:-1], "p3p_read_record refused 9\n"),
-        ([library], last, "best 1\n" + checked.format("3.761142", "2.203373")),
-        ([library], inputs.behind(first), "best 2\n" + checked.format("180.000000", "-2.414151")),
+        ([library], last, unconfirmed),
+        ([library], inputs.behind(first), "p3p_choose refused 10\n"),
         (["--help"], first, usage),
         ([], first, usage),
     ):

@@ -43,7 +43,7 @@ class Frame(NamedTuple):
     slots: list
 
     def unseen(self):
-        """The same with a checking bearing of zeros, whose scores are all 0 ÷ 0: the choice is
+        """The same with a checking bearing of zeros, along which every depth is zero: the choice is
         refused."""
         return self._replace(words=self.words[:21] + [0] * 3, best=0)
 

@@ -389,14 +389,16 @@ class Listing(unittest.TestCase):
     def test_no_hole_behind_the_camera(self):
         seen = sample()[0][171:195]
         behind = b"".join(bytes([seen[i] ^ 0x80]) + seen[i + 1 : i + 8] for i in (0, 8, 16))
-        out = self.first_with(behind, 2, "--limit", "90")
-        self.assertIn("  no hole: the checking target is behind the camera\n", out)
+        out = self.first_with(behind, 0, "--limit", "90")
+        self.assertIn("    no score, angle 174.589993 degrees\n", out)
+        self.assertIn("    no score, angle 180.000000 degrees\n", out)
+        self.assertIn("  no hole: no pose was chosen\n", out)
         self.assertNotIn("    camera ", out)
         self.assertIn("    camera ", self.first_with(seen, 2))
 
     def test_no_choice_has_no_angle(self):
         out = self.first_with(bytes(24), 0)
-        self.assertEqual(out.count("    score nan, no angle\n"), 2)
+        self.assertEqual(out.count("    no score, no angle\n"), 2)
         self.assertIn("  no hole: no pose was chosen\n", out)
         self.assertNotIn("    camera ", out)
 
@@ -466,11 +468,16 @@ class Scores(unittest.TestCase):
 
     def test_angle(self):
         pose = poses.Pose(0, [[1, 0, 0], [0, 1, 0], [0, 0, 1]], [0, 0, 0])
-        angles = [((0, 0, 5), 0), ((1, 0, 1), 45), ((0, 2, 0), 90), ((0, 0, -1), 180)]
+        angles = [((0, 0, 5), 0), ((1, 0, 1), 45), ((1, 0, -1), 135), ((0, 0, -1), 180)]
         for target, degrees in angles:
             self.assertAlmostEqual(pose.angle(target, (0, 0, 1)), degrees)
-        self.assertEqual(pose.score((0, 2, 0), (0, 0, 1)), math.inf)
-        self.assertTrue(math.isnan(pose.score((0, 0, 0), (0, 0, 1))))
+            self.assertEqual(pose.score(target, (0, 0, 1)) is None, degrees > 90)
+        self.assertTrue(math.isnan(pose.angle((0, 2, 0), (0, 0, 1))))
+        self.assertIsNone(pose.score((0, 2, 0), (0, 0, 1)))
+        self.assertIsNone(pose.score((0, 0, math.nan), (0, 0, 1)))
+        # the square of the depth vanishes
+        self.assertEqual(pose.score((0, 2, 1e-200), (0, 0, 1)), math.inf)
+        self.assertTrue(math.isnan(pose.score((0, 0, 1e-200), (0, 0, 1))))
 
 
 ROWS = ((0.8, 0.0, -0.6), (0.0, 1.0, 0.0), (0.6, 0.0, 0.8))

@@ -28,14 +28,11 @@ fn print_poses(poses: &[Pose], best: usize) {
     println!("best {}", best + 1);
 }
 
-/// Whether the checking target is seen where a pose puts it. The score tells how far it is off the
-/// line of its bearing, but not on which side of the camera: where its depth is negative, it lies
-/// behind the camera, and the angle to its bearing is beyond 90 degrees.
-fn confirmed(pose: &Pose, target: &[f64; 3], bearing: &[f64; 3], score: f64) -> bool {
-    let to_line = score.sqrt().atan().to_degrees();
-    let depth: f64 = pose.apply(target).iter().zip(bearing).map(|(c, b)| c * b).sum();
-    let angle = if depth < 0.0 { 180.0 - to_line } else { to_line };
-    println!("checking target {angle:.6} degrees off its bearing, at depth {depth:.6}");
+/// Whether the checking target is seen where the best pose puts it: the score tells how far it is
+/// off its bearing.
+fn confirmed(score: f64) -> bool {
+    let angle = score.sqrt().atan().to_degrees();
+    println!("checking target {angle:.6} degrees off its bearing");
     angle <= LIMIT
 }
 
@@ -45,11 +42,10 @@ fn find_hole() -> Result<(), Box<dyn Error>> {
     let poses = p3p::solve(&[p0, p1, p2], &[f0, f1, f2])?; // one to four, or the refusal
     let choice = p3p::choose(&poses, &target, &bearing)?; // by the fourth target
     print_poses(&poses, choice.index);
-    let pose = &poses[choice.index];
-    if !confirmed(pose, &target, &bearing, choice.score) {
+    if !confirmed(choice.score) {
         return Err("not confirmed".into());
     }
-    let [x, y, z] = pose.apply(&HOLE); // rotation × point + translation
+    let [x, y, z] = poses[choice.index].apply(&HOLE); // rotation × point + translation
     println!("hole at camera {x:.6} {y:.6} {z:.6}");
     Ok(())
 }

@@ -3,29 +3,16 @@
 //!
 //!     cargo run --example records < ../../samples/frames.bin
 
-use p3p::{Choice, Frame, Pose, Refusal};
+use p3p::{Choice, Frame, Refusal};
 use std::io::{self, Read, Write};
 use std::process::ExitCode;
-
-/// The angle between a frame's checking target and its bearing, in degrees. The score has the angle
-/// to the line of the bearing; where the depth is negative, the target lies behind the camera.
-fn angle_off(pose: &Pose, frame: &Frame, score: f64) -> f64 {
-    let angle = score.sqrt().atan().to_degrees();
-    let camera = pose.apply(&frame.target);
-    let depth: f64 = camera.iter().zip(&frame.bearing).map(|(c, b)| c * b).sum();
-    if depth < 0.0 {
-        180.0 - angle
-    } else {
-        angle
-    }
-}
 
 /// What is listed of a frame.
 fn listed(frame: &Frame) -> Result<String, Refusal> {
     let poses = p3p::solve(&frame.world, &frame.bearings)?;
     let choice = match p3p::choose(&poses, &frame.target, &frame.bearing) {
         Ok(Choice { index, score }) => {
-            let angle = angle_off(&poses[index], frame, score);
+            let angle = score.sqrt().atan().to_degrees();
             format!("best {}, checking target {angle:.6} degrees off its bearing", index + 1)
         }
         Err(refusal) => format!("choice refused {}", refusal.number()),

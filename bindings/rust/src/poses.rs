@@ -110,16 +110,16 @@ pub fn solve(world: &[[f64; 3]; 3], bearings: &[[f64; 3]; 3]) -> Result<Poses, R
 pub struct Choice {
     /// Its place among the poses, from 0.
     pub index: usize,
-    /// Its score, the squared tangent of the angle between the target and the line of its bearing:
-    /// the angle is `score.sqrt().atan()`. The choice is the best of the poses and need not be
-    /// good: that the angle is within your measuring error is yours to ask.
+    /// Its score, the squared tangent of the angle between the target and its bearing: the angle is
+    /// `score.sqrt().atan()`. The choice is the best of the poses and need not be good: that the
+    /// angle is within your measuring error is yours to ask.
     pub score: f64,
 }
 
-/// The pose under which a fourth target lies nearest to the line of its bearing: the lowest finite
-/// |camera × bearing|² / (camera · bearing)², of equal ones the earliest. The depth is squared, so
-/// a target behind the camera scores as its mirror image in front of it does. Poses after the
-/// fourth are not looked at.
+/// The pose under which a fourth target lies before the camera and nearest to its bearing. A pose
+/// has a score only where camera · bearing, as computed, is above zero:
+/// |camera × bearing|² / (camera · bearing)². The lowest finite score wins, of equal ones the
+/// earliest. Poses after the fourth are not looked at.
 pub fn choose(poses: &[Pose], target: &[f64; 3], bearing: &[f64; 3]) -> Result<Choice, Refusal> {
     let mut slots = [Slot::default(); 4];
     for (pose, slot) in poses.iter().zip(&mut slots) {

@@ -24,7 +24,7 @@ pub enum Refusal {
     RecordVersion = 8,
     /// Bytes of the record are missing.
     RecordCutShort = 9,
-    /// No pose has a finite score.
+    /// No pose has a finite score, as where each puts the target behind the camera.
     NoFiniteScore = 10,
 }
 

@@ -1,6 +1,6 @@
 //! The poses of a plate whose pose is given, the choice among them, and a pose applied to a point.
 
-use p3p::{Choice, Pose};
+use p3p::{Choice, Pose, Refusal};
 
 const WORLD: [[f64; 3]; 3] = [[0.0, 0.0, 0.0], [0.4, 0.0, 0.0], [0.0, 0.3, 0.05]];
 const TARGET: [f64; 3] = [0.35, 0.28, 0.1];
@@ -48,6 +48,31 @@ fn the_choice_looks_at_four_poses_and_takes_the_earliest_of_equals() {
     assert_eq!(index(&[wrong, TRUE_POSE, TRUE_POSE]), 1);
     assert_eq!(index(&[wrong, wrong, wrong, TRUE_POSE]), 3);
     assert_eq!(index(&[wrong, wrong, wrong, wrong, TRUE_POSE]), 0);
+}
+
+/// A plate in counts of which one pose puts the checking target behind the camera, nearer to the
+/// line of its bearing than the true pose puts it before the camera.
+#[test]
+fn a_pose_that_puts_the_target_behind_the_camera_is_not_chosen() {
+    let world = [[640.0, 1456.0, 28.0], [860.0, -1383.0, -18.0], [-670.0, -1162.0, 14.0]];
+    let bearings = [
+        [-0.46312317865702335, 0.38682879503143963, 0.7974210962378279],
+        [0.16106887445024037, -0.00861093844096056, 0.9869056030961111],
+        [0.5146826172219185, -0.020526160783105322, 0.8571350420167769],
+    ];
+    let target = [2825.0, -2917.0, 1080.0];
+    let bearing = [-0.0205646369319681, -0.23639375514755645, 0.9714396987127372];
+    let reversed = |bearing: [f64; 3]| bearing.map(|x| -x);
+
+    let poses = p3p::solve(&world, &bearings).unwrap();
+    let [behind, ahead] = [0, 1].map(|k| score(poses[k].apply(&target), bearing));
+    assert!(poses.len() == 2 && behind < ahead && ahead < 3e-10);
+    let choose = |target, bearing| p3p::choose(&poses, &target, &bearing);
+    assert_eq!(choose(target, bearing), Ok(Choice { index: 1, score: ahead }));
+    assert_eq!(choose(target, reversed(bearing)), Ok(Choice { index: 0, score: behind }));
+    // Both poses put the plate's own target before the camera.
+    assert!(choose(world[0], bearings[0]).is_ok());
+    assert_eq!(choose(world[0], reversed(bearings[0])), Err(Refusal::NoFiniteScore));
 }
 
 #[test]
@@ -108,8 +133,12 @@ fn apply_has_the_bits_of_the_librarys_camera_point() {
     for _ in 0..1000 {
         let rotation = [numbers.vector(), numbers.vector(), numbers.vector()];
         let pose = Pose { rotation, translation: numbers.vector(), updates: 0 };
-        let (target, bearing) = (numbers.vector(), numbers.vector());
-        let choice = p3p::choose(&[pose], &target, &bearing).unwrap();
+        let (target, mut bearing) = (numbers.vector(), numbers.vector());
+        // A target behind the camera has no score: then the bearing is reversed.
+        let choice = p3p::choose(&[pose], &target, &bearing).unwrap_or_else(|_| {
+            bearing = bearing.map(|x| -x);
+            p3p::choose(&[pose], &target, &bearing).unwrap()
+        });
         assert_eq!(choice, Choice { index: 0, score: score(pose.apply(&target), bearing) });
         differ += (choice.score != score(applied_otherwise(&pose, &target), bearing)) as u32;
     }

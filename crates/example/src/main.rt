@@ -32,8 +32,8 @@ fn at_place(poses: [Pose; 4], place: u32) -> Pose {
     }
 }
 
-// Whether the chosen pose puts the fourth target on its bearing: the score is the squared tangent of
-// the angle between the two, here at most that of 0.01 degrees. (A pose that puts it behind the
+// Whether the chosen pose puts the fourth target on its bearing: the score is the squared tangent
+// of the angle between the two, here at most that of 0.01 degrees. (A pose that puts it behind the
 // camera has no score, and is not chosen.)
 fn confirmed(score: f64) -> bool {
     score <= 3e-8

@@ -1,5 +1,6 @@
 -- The answer to eighteen doubles, why one retry is enough, the scaling rule with plates to which it
--- applies and one to which it does not, the marked cases, and whole answers.
+-- applies and one to which it does not, the marked cases, whole answers, and the choices in a frame
+-- one of whose poses puts the checking target behind the camera.
 pub mod OneAnswer
 pub mod OneRetry
 mod TimesPower

@@ -98,9 +98,12 @@ extern "C" fn p3p_choose(
     score: &mut f64,
 ) -> u32 {
     let slots = std::array::from_fn(|slot| std::array::from_fn(|index| poses[12 * slot + index]));
-    let has_score: fn(f64) -> bool =
-        if cfg!(feature = "wrong-behind") { |_| true } else { |depth| depth > 0.0 };
-    match choice::lowest(count as u64, &slots, target, bearing, has_score) {
+    let chosen = if cfg!(feature = "wrong-behind") {
+        choice::lowest(count as u64, &slots, target, bearing, |_| true)
+    } else {
+        choice::best(count as u64, &slots, target, bearing)
+    };
+    match chosen {
         Some((index, value)) => {
             *best = index as u32 + 1;
             *score = value;

@@ -1,6 +1,6 @@
 //! Which tests of the choice an input reaches; and what document 02, §2, changes in the choices of
-//! random frames: the choice that asks for the target before the camera, beside document 01's, which
-//! did not.
+//! random frames: the choice that asks for the target before the camera, beside document 01's,
+//! which did not.
 
 use crate::choice::{self, Poses};
 use crate::frames::{self, Frame};

@@ -70,11 +70,12 @@ fn seen(points: [Vector; 4], rotation: &[Vector; 3], translation: Vector) -> Fra
     frame([points[0], points[1], points[2]], [b[0], b[1], b[2]], points[3], b[3])
 }
 
-/// So many random frames of each kind into a file, eighteen words a frame, big-endian.
+/// So many random frames of each kind that differs in what is solved into a file, eighteen words a
+/// frame, big-endian.
 pub fn write(count: u64, seed: u64, path: &str) -> Result<(), String> {
     let mut bytes = Vec::new();
     let mut seeds = Random::new(seed);
-    for (_, _, make) in KINDS {
+    for (_, _, make) in &KINDS[..SOLVED] {
         let mut r = Random::new(seeds.word());
         for _ in 0..count {
             bytes.extend(make(&mut r)[..18].iter().flat_map(|x| x.to_bits().to_be_bytes()));
