@@ -91,8 +91,8 @@ struct counts {
     long plates, refused[4], told;
 };
 
-// Whether no pose is chosen, or the chosen one has the checking target half a millimetre or more off
-// its bearing.
+// Whether no pose is chosen, or the chosen one has the checking target half a millimetre or more
+// off its bearing.
 static int tells(const struct plate *plate, const double poses[48], uint32_t count) {
     uint32_t best;
     double score, camera[3], depth = 0;
