@@ -1,6 +1,7 @@
 // What mistakes look like: of random plates with one made on purpose, how many are refused with
-// which number, and how many of those answered have a score that tells: above that of a target half
-// a millimetre off its line. Plates in metres whose targets' triangle is not thin, bearings exact.
+// which number, and of how many of those answered the choice tells: it refuses, or its score is
+// above that of a target half a millimetre off its bearing. Plates in metres whose targets' triangle
+// is not thin, bearings exact.
 #include "measure.h"
 
 typedef void mistake(struct plate *plate);
@@ -86,7 +87,7 @@ static const struct row {
     {"a NaN", not_a_number},
 };
 
-// Of the plates tried, how many were refused with each number (0: answered), and told by the score.
+// Of the plates tried, how many were refused with each number (0: answered), and told by the choice.
 struct counts {
     long plates, refused[4], told;
 };
@@ -132,7 +133,7 @@ static void print_row(const struct row *row) {
 }
 
 int main(void) {
-    printf("| mistake | refused 1 | 2 | 3 | answered, the score tells | it does not |\n"
+    printf("| mistake | refused 1 | 2 | 3 | answered, the choice tells | it does not |\n"
            "|---|---:|---:|---:|---:|---:|\n");
     for (size_t r = 0; r < sizeof rows / sizeof *rows; r++)
         print_row(&rows[r]);

@@ -34,7 +34,7 @@ EXAMPLE = "run --offline --quiet --example "
 CHANGES = [
     ("[0.0, 0.375, 0.0]", "[1.0, 0.0, 0.0]", "no pose was kept\n"),
     ("[0.075, 0.25, 2.4]", "[0.0, 0.25, 2.4]", "not confirmed\n"),
-    # the mirror image behind the camera
+    # the checking bearing reversed
     ("[0.075, 0.25, 2.4]", "[-0.075, -0.25, -2.4]", "no pose has a finite score\n"),
 ]
 OTHER_HOLE = "[0.25, -0.5, 0.0]", "[0.25, -0.5, 0.000001]"

@@ -53,7 +53,7 @@ def no_hole(frame, record, limit):
     if not record:
         return None
     angle = frame.poses[frame.best - 1].angle(*checking(record))
-    if angle > limit:
+    if not angle <= limit:
         off = f"the checking target is {angle:.6f} degrees off its bearing"
         return f"{off}, above the limit of {limit!r}"
     return None

@@ -24,10 +24,10 @@ WORDS = {
     8: "The record has another version than 1. Write it again by a program that writes version 1; "
     "the records after it were read.",
     9: "The input ends within this record. The run stopped: write or copy the records again.",
-    10: "The choice was refused (10): no pose has a finite score. The poses stand. Look whether "
-    "the checking target's bearing points away from it, since a pose that puts the target behind "
-    "the camera has no score, and whether the target and its bearing are finite and the bearing is "
-    "not zero; or choose by another target.",
+    10: "The choice was refused (10): no pose has a finite score. The poses stand. A pose that puts "
+    "the checking target behind the camera has no score: look whether its bearing is reversed. "
+    "Look also whether the target and its bearing are finite and the bearing is not zero, or "
+    "choose by another target.",
 }
 CENTRE_WARNING = (
     "The camera centre, -R^T t, is for a rough look. Do not use it for holes: at national grid "

@@ -89,7 +89,7 @@ CHANGES = [
     ("{0.0, 0.375, 0.0}", "{1.0, 0.0, 0.0}", "solve refused 3: no pose fits"),
     ("{0.075, 0.25, 2.4}", "{0.0, 0.0, 0.0}", "choose refused 10: no pose has a finite"),
     ("{0.075, 0.25, 2.4}", "{0.1, 0.25, 2.4}", "not confirmed"),
-    # the mirror image behind the camera
+    # the checking bearing reversed
     ("{0.075, 0.25, 2.4}", "{-0.075, -0.25, -2.4}", "choose refused 10: no pose has a finite"),
 ]
 # A change of the hole by a thousandth of a millimetre.

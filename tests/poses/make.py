@@ -109,7 +109,7 @@ def runs(frames):
     one, two = first[0, 1, 1], first[0, 2, 2]
     skipped = f"poses v1\n1 refused 8\n{one.lines(2)}end 2\n"
     filling = [frame for frame in frames if frame.refusal][:BUFFER]
-    # the other pose, put before the camera, and then the bearing turned round; and no pose
+    # the pose behind is passed over; with the bearing reversed it is taken; then all are behind
     behind = named(frames, ["hand-behind", "hand-behind-turned", "hand-behind-all"])
     return [
         ("empty", *whole([])),

@@ -16,8 +16,8 @@ use Rattle.ieee754.proofs.Tests.{either-way}
 use Rattle.ieee754_laws.proofs.LtLaws.{lt-asym, lt-le-trans}
 use Rattle.choice.specs.Score.{score}
 use Rattle.choice.specs.Choose.{lower, better, chooseAmong, choose}
-use Rattle.choice.specs.OneAnswer.{Each, stated, depth, squaredTangent, HasScore, NoScore}
-use Rattle.choice.specs.OneAnswer.{Above, NotBelow, Lowest}
+use Rattle.choice.specs.OneAnswer.{Each, stated, depth, squaredTangent}
+use Rattle.choice.specs.OneAnswer.{HasFiniteScore, NoFiniteScore, Above, NotBelow, Lowest}
 use Rattle.choice.specs.OneAnswer.{OneAnswer, refused-10, chosen}
 use Rattle.choice.specs.Types.{Vector3, Pose, Scored, Choice, Best, Refused}
 
@@ -35,24 +35,29 @@ each-append P [] ys h k = k
 each-append P (x ∷ xs) ys h k = (h .0, each-append P xs ys (h .1) k)
 
 module _ (target bearing : Vector3) where
-  -- ---- a pose has a score, which is taken up, or it has none
+  -- ---- a pose has a finite score, which is taken up, or it has none
   scored-either : (P : Choice → Type 0) (pose : Pose) (best : Choice) (place : ℕ)
-      → ((x : Float) → HasScore target bearing pose x → P (lower best place x))
-      → (NoScore target bearing pose → P best)
+      → ((x : Float) → HasFiniteScore target bearing pose x → P (lower best place x))
+      → (NoFiniteScore target bearing pose → P best)
       → P (better best place (score pose target bearing .value))
   unfolding better score
   scored-either P pose best place f g =
       let x = squaredTangent target bearing pose in
-      either-way (λ (s : Traced Scored). P (better best place (s .value)))
-      (lt plusZero (depth target bearing pose))
-      (λ in-front. either-way P (finite x)
-      (λ X. f x (record { in-front = in-front; score-is = refl; score-finite = X }))
-      (λ n. g (λ y h. T-not (finite x) n (subst (λ z. T (finite z)) (h .score-is) (h .score-finite)))))
-      (λ n. g (λ y h. T-not (lt plusZero (depth target bearing pose)) n (h .in-front)))
+      let ahead = lt plusZero (depth target bearing pose) in
+      let not-ahead : T (not ahead) → NoFiniteScore target bearing pose =
+      λ n y h. T-not ahead n (h .in-front) in
+      let not-finite : T (not (finite x)) → NoFiniteScore target bearing pose =
+      λ n y h. T-not (finite x) n (subst (λ (z : Float). T (finite z)) (h .score-is)
+      (h .score-finite)) in
+      either-way (λ (s : Traced Scored). P (better best place (s .value))) ahead
+      (λ a. either-way P (finite x)
+      (λ X. f x (record { in-front = a; score-is = refl; score-finite = X }))
+      (λ n. g (not-finite n)))
+      (λ n. g (not-ahead n))
 
   -- ---- the choice among the poses passed so far
   abbrev Among : List Pose → Choice → Type 0
-  Among passed (Refused n) = (n ≡ 10) × Each (NoScore target bearing) passed
+  Among passed (Refused n) = (n ≡ 10) × Each (NoFiniteScore target bearing) passed
   Among passed (Best at value) = Lowest target bearing passed at value
 
   module _ (passed : List Pose) (pose : Pose) where
@@ -61,7 +66,7 @@ module _ (target bearing : Vector3) where
 
     -- a score takes the choice where it is below each one before it
     takes : (value : Float)
-        → HasScore target bearing pose value
+        → HasFiniteScore target bearing pose value
         → Each (Above target bearing value) passed
         → Lowest target bearing more (length passed + 1) value
     takes value s h = record {
@@ -120,13 +125,13 @@ module _ (target bearing : Vector3) where
 
     -- with a finite score, from the choice so far
     with-score : (best : Choice) (x : Float)
-        → HasScore target bearing pose x
+        → HasFiniteScore target bearing pose x
         → Among passed best
         → Among more (lower best (length passed + 1) x)
     unfolding lower
     with-score (Refused n) x s h =
         takes x s
-        (each-also (NoScore target bearing) (Above target bearing x)
+        (each-also (NoFiniteScore target bearing) (Above target bearing x)
         (λ _ none y t. absurd (none y t)) passed (h .1))
     with-score (Best at lowest) x s w =
         either-way (Among more) (lt x lowest) (λ l. takes x s (below-each x (s .score-finite) w l))
@@ -134,11 +139,11 @@ module _ (target bearing : Vector3) where
         subst (λ (z : Float). T (not (lt z lowest))) (s .score-is ∙ sym (t .score-is)) n))
 
     without : (best : Choice)
-        → NoScore target bearing pose
+        → NoFiniteScore target bearing pose
         → Among passed best
         → Among more best
     without (Refused n) none h =
-        (h .0, each-append (NoScore target bearing) passed (pose ∷ []) (h .1) (none, tt))
+        (h .0, each-append (NoFiniteScore target bearing) passed (pose ∷ []) (h .1) (none, tt))
     without (Best at lowest) none w = stays w (λ y t. absurd (none y t))
 
     with-one : (best : Choice)

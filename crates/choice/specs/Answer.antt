@@ -1,5 +1,4 @@
--- What the enum of this crate stands for: the place of a pose with its score, or document 01's
--- number 10.
+-- What `Choice` stands for: the place of a pose with its score, or document 01's number 10.
 use Prim.Native.Nat.{ℕ}
 use mathlib.Core.List.{List, [], _∷_}
 use lib.Ieee.{Float}

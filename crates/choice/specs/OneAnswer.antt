@@ -1,7 +1,7 @@
 -- Demand 1 of the mission, for the choice: it answers with the place of the lowest finite score,
 -- the earlier on a tie, or with 10 exactly where no pose has one. From document 01, "Questions, in
--- order" and module 8, and document 02, §2. What a score is stands here in words of its own, beside
--- those of `score`. That it holds of every input is `one-answer` in the proofs.
+-- order" and module 8, and document 02, §2. What a finite score is stands here apart from the
+-- definition `score`. That it holds of every input is `one-answer` in the proofs.
 use mathlib.Core.Path.{_≡_}
 use mathlib.Core.Bool.{not}
 use mathlib.Core.List.{List, [], _∷_, _++_}
@@ -37,43 +37,45 @@ module _ (target bearing : Vector3) where
       (normSquared (cross (cameraPoint pose target .value) bearing .value) .value)
       (mul binary64 (depth pose) (depth pose))
 
-  -- a pose has a finite score, and which
-  pub record HasScore (pose : Pose) (x : Float) : Type 0 where
+  -- a pose has a finite score, and which; and it has none
+  pub record HasFiniteScore (pose : Pose) (x : Float) : Type 0 where
     pub in-front : T (lt plusZero (depth pose))
     pub score-is : x ≡ squaredTangent pose
     pub score-finite : T (finite x)
 
-  abbrev pub NoScore : Pose → Type 0
-  NoScore pose = (x : Float) → HasScore pose x → ⊥
+  abbrev pub NoFiniteScore : Pose → Type 0
+  NoFiniteScore pose = (x : Float) → HasFiniteScore pose x → ⊥
 
-  -- the depth is not above zero: the target lies behind the camera, or beside it
+  -- the depth is not above zero: the target lies behind the camera or beside it, or the depth is a
+  -- NaN
   abbrev pub IsBehind : Pose → Type 0
   IsBehind pose = T (not (lt plusZero (depth pose)))
 
-  -- what is asked of another pose if it has a score: to be above this one; not to be below it
+  -- what is asked of another pose if it has a finite score: to be above this one; not to be below
+  -- it
   abbrev pub Above : Float → Pose → Type 0
-  Above lowest pose = (x : Float) → HasScore pose x → T (lt lowest x)
+  Above lowest pose = (x : Float) → HasFiniteScore pose x → T (lt lowest x)
 
   abbrev pub NotBelow : Float → Pose → Type 0
-  NotBelow lowest pose = (x : Float) → HasScore pose x → T (not (lt x lowest))
+  NotBelow lowest pose = (x : Float) → HasFiniteScore pose x → T (not (lt x lowest))
 
-  -- At a place, from 1, stands the pose with the lowest score: those before it that have one have a
-  -- higher one, those after it none that is lower.
+  -- At a place, from 1, stands the pose with the lowest finite score: those before it that have one
+  -- have a higher one, those after it none that is lower.
   pub record Lowest (poses : List Pose) (at : ℕ) (lowest : Float) : Type 0 where
     pub before : List Pose
     pub best : Pose
     pub after : List Pose
     pub poses-are : poses ≡ before ++ (best ∷ after)
     pub place-is : at ≡ length before + 1
-    pub has-score : HasScore best lowest
+    pub has-score : HasFiniteScore best lowest
     pub earlier : Each (Above lowest) before
     pub later : Each (NotBelow lowest) after
 
-  -- ---- number 10, with no place and no score, where no pose has a score, and only there;
+  -- ---- number 10, with no place and no score, where no pose has a finite score, and only there;
   --      otherwise the place of the lowest, which is one of the poses and at most four, and that
   --      score
   pub data OneAnswer (poses : List Pose) (count : ℕ) (answer : Choice) : Type 0 where
-    refused-10 : Each NoScore (stated poses count)
+    refused-10 : Each NoFiniteScore (stated poses count)
         → number answer ≡ 10
         → place answer ≡ 0
         → values answer ≡ []

@@ -1,6 +1,6 @@
 -- The score of a pose by a fourth target. From document 01, module 8, as document 02, §2, amends
 -- it.
-use lib.Ieee.{Float, lt}
+use lib.Ieee.{lt}
 use Rattle.ieee754.specs.Literal.{plusZero}
 use Rattle.ieee754.specs.Traced.{Traced, pure, _>>=_, if_then_else_, _⊗_, _⊘_, !_}
 use Rattle.linalg.specs.Vectors.{dot, normSquared, cross}

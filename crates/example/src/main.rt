@@ -61,13 +61,14 @@ fn main() {
     let f2 = seen(-0.25, 0.25, 2.0);
     let answer = solve(World { p0, p1, p2 }, Bearings { f0, f1, f2 });
 
-    // The pose that the fourth target confirms. A refused solve has no pose to choose.
+    // The pose that the fourth target confirms. None is chosen of a refused solve, nor where all
+    // poses put the target behind the camera.
     let target = point(0.5, 0.375, 0.125);
     let bearing = seen(0.075, 0.25, 2.4);
     let poses = answer.poses;
     let choice = choose(poses, answer.count, target, bearing);
     let Choice::Best(place, score) = choice else {
-        io::write_all(STDOUT_FILENO, b"no pose\n");
+        io::write_all(STDOUT_FILENO, b"no pose chosen\n");
         return;
     };
     let best = at_place(poses, place);

@@ -2,9 +2,8 @@
 -- choice: document 02, §2. A plate in counts of 4,096 to the metre with a checking target beside
 -- it, 1.5 metres before the camera; the bearing to the target is off by some hundred-thousandth, as
 -- a camera's is. The answer is the Rust's (reference/inputs/theorems.txt): the second pose is the
--- one that the frame was made with, the first puts the target 0.5 metres behind the camera. What
+-- one that the frame was made with, the first puts the target 0.55 metres behind the camera. What
 -- the choices among the two take is proofs/BehindCamera.
-use Prim.Native.Nat.{ℕ}
 use mathlib.Core.List.{[], _∷_}
 use Rattle.ieee754.specs.Literal.{double}
 use Rattle.linalg.specs.Vectors.{vector}

@@ -1,5 +1,6 @@
 //! The second copy behind the port's C interface: it stands in for the port to try the
-//! comparison itself. With a feature it is wrong in a last bit now and then, which must be found.
+//! comparison itself. With a feature it is wrong in a last bit now and then, or scores a target
+//! behind the camera, which must be found.
 
 #[path = "../../tools/src/choice.rs"]
 mod choice;

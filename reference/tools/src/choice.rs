@@ -11,7 +11,7 @@ pub fn best(count: u64, poses: &Poses, target: &[f64], bearing: &[f64]) -> Optio
     lowest(count, poses, target, bearing, |depth| depth > 0.0)
 }
 
-/// The lowest finite score of the poses whose depth has one.
+/// The lowest finite score of the poses whose depth passes `has_score`.
 pub fn lowest(
     count: u64,
     poses: &Poses,
@@ -29,7 +29,7 @@ pub fn lowest(
         .min_by(|left, right| left.1.total_cmp(&right.1))
 }
 
-/// camera · bearing, and the score.
+/// camera · bearing, and the quotient, whether or not it counts as a score.
 pub fn measured(pose: &[f64; 12], target: &[f64], bearing: &[f64]) -> (f64, f64) {
     let rotation = Matrix3::from_column_slice(&pose[..9]);
     let translation = Vector3::from_column_slice(&pose[9..]);

@@ -32,8 +32,9 @@ pub fn reached(
         outcomes.extend([(above, depth > 0.0), (nan, depth.is_nan())]);
         if depth > 0.0 {
             outcomes.insert((finite, score.is_finite()));
-        }
-        if depth > 0.0 && score.is_finite() {
+            if !score.is_finite() {
+                continue;
+            }
             if let Some(lowest) = lowest {
                 outcomes.extend([(below, score < lowest), (equal, score == lowest)]);
             }
@@ -43,12 +44,12 @@ pub fn reached(
     outcomes
 }
 
-#[derive(Default)]
 struct Row {
     solved: u64,
-    same: u64,
     other: u64,
     refused: u64,
+    /// The least score that document 01's choice had where it was another.
+    least: f64,
 }
 
 impl Row {
@@ -57,29 +58,32 @@ impl Row {
         if answer.count == 0 {
             return;
         }
+        self.solved += 1;
         let (target, bearing) = (&frame[18..21], &frame[21..24]);
         let before = choice::lowest(answer.count as u64, &answer.poses, target, bearing, |_| true);
-        self.solved += 1;
-        match before.map_or(0, |(index, _)| index as u64 + 1) {
-            before if before == now => self.same += 1,
-            _ if now == 0 => self.refused += 1,
-            _ => self.other += 1,
-        }
+        let Some((_, score)) = before.filter(|(index, _)| *index as u64 + 1 != now) else {
+            return;
+        };
+        self.other += (now != 0) as u64;
+        self.refused += (now == 0) as u64;
+        self.least = self.least.min(score);
     }
 }
 
 pub fn run(count: u64, seed: u64) -> Result<(), String> {
     println!("seed {seed}, {count} frames of each kind\n");
-    println!("| kind | solved | same choice | another pose | refused with 10 now |");
+    println!("| kind | solved | another pose | refused with 10 now | least score before |");
     println!("|---|---:|---:|---:|---:|");
     let mut seeds = Random::new(seed);
     for (kind, _, make) in frames::KINDS {
         let mut r = Random::new(seeds.word());
-        let mut row = Row::default();
+        let mut row = Row { solved: 0, other: 0, refused: 0, least: f64::INFINITY };
         for _ in 0..count {
             row.note(&make(&mut r));
         }
-        println!("| {kind} | {} | {} | {} | {} |", row.solved, row.same, row.other, row.refused);
+        let least =
+            if row.least.is_finite() { format!("{:.2e}", row.least) } else { String::new() };
+        println!("| {kind} | {} | {} | {} | {least} |", row.solved, row.other, row.refused);
     }
     Ok(())
 }

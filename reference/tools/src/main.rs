@@ -27,7 +27,8 @@ const USAGE: &str = "\
 reference check FILE..           the copies, and the port where it is linked, over vectors written
                                  as text, every answer required
 reference vectors FOLDER         write the stored vectors
-reference coverage FOLDER        which branches of the Rust the stored vectors reach
+reference coverage FOLDER        which branches of the Rust and of the choice the stored vectors
+                                 reach
 reference orders                 nalgebra's orders of operations, with a witness for each
 reference beside [COUNT [SEED]]  the port and both copies on the same random inputs
 reference pieces COUNT FUNCTION..  the same on COUNT random inputs of each function named
@@ -35,7 +36,8 @@ reference choices COUNT [SEED]   how many choices document 02, §2, changes, of 
                                  of each kind
 reference bench [COUNT]          how long a solve takes, the port beside the unchanged copy and,
                                  where P3P_PEERS was set, other solvers (COUNT frames of a sort)
-reference frames COUNT FILE      COUNT random frames of each kind, eighteen words a frame
+reference frames COUNT FILE      COUNT random frames of each kind but the last, eighteen words a
+                                 frame
 reference flags FILE             the exception flags that the processor raises in the solve of each
                                  frame of a file, and the answers (x86-64 only)
 reference search FUNCTION N SEED COUNT | FILE

@@ -10,8 +10,8 @@ use std::path::Path;
 
 pub const SEED: u64 = 0x2018_0003_0052_7754;
 
-/// Frames that random ones seldom match: document 01's cases and those found by search
-/// for a branch. A line: kind, 24 words.
+/// Frames that random ones seldom match: document 01's cases, those for document 02, §2, and
+/// those found by search for a branch. A line: kind, 24 words.
 const KEPT: &str = include_str!("../../inputs/frames.txt");
 
 /// The scaled frames' exponents.

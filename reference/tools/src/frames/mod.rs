@@ -12,8 +12,7 @@ use crate::random::{Random, Vector, plus, power, turn, unit};
 
 pub type Frame = [f64; 24];
 
-/// Kinds by name, with how many of each the stored vectors hold. Those that differ from others in
-/// the checking target alone come after the first SOLVED.
+/// Kinds by name, with how many of each the stored vectors hold.
 pub const KINDS: &[(&str, usize, fn(&mut Random) -> Frame)] = &[
     ("metres", 50, |r| scenes::realistic(r, false, false)),
     ("counts", 50, |r| scenes::realistic(r, true, false)),
@@ -48,7 +47,8 @@ pub const KINDS: &[(&str, usize, fn(&mut Random) -> Frame)] = &[
     ("behind", 60, behind),
 ];
 
-pub const SOLVED: usize = 30;
+/// All kinds but the last, `behind`, whose points and bearings are those of other kinds.
+pub const SOLVED: usize = KINDS.len() - 1;
 
 fn frame(world: [Vector; 3], bearings: [Vector; 3], target: Vector, bearing: Vector) -> Frame {
     let parts =
@@ -70,8 +70,7 @@ fn seen(points: [Vector; 4], rotation: &[Vector; 3], translation: Vector) -> Fra
     frame([points[0], points[1], points[2]], [b[0], b[1], b[2]], points[3], b[3])
 }
 
-/// So many random frames of each kind that differs in what is solved into a file, eighteen words a
-/// frame, big-endian.
+/// So many random frames of each kind but the last into a file, eighteen words a frame, big-endian.
 pub fn write(count: u64, seed: u64, path: &str) -> Result<(), String> {
     let mut bytes = Vec::new();
     let mut seeds = Random::new(seed);

@@ -54,7 +54,7 @@ fn kinds(name: &str) -> (Vec<Input>, usize, fn(&mut Random) -> Input) {
     }
 }
 
-/// A frame of any kind that differs in what is solved.
+/// A frame of any kind but the last.
 pub fn any_frame(r: &mut Random) -> Frame {
     frames::KINDS[r.below(frames::SOLVED as u64) as usize].2(r)
 }

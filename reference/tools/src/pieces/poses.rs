@@ -20,7 +20,7 @@ fn unturned(translations: [Vector; 4], count: u64, target: Vector, bearing: Vect
 pub(super) fn hand_choices() -> Vec<Input> {
     let still = [0.0; 3];
     let (ahead, back, far) = ([0.0, 0.0, 1.0], [0.0, 0.0, -2.0], [0.0, 0.0, -3.0]);
-    let edge = [0.0, 0.0, -1.0];
+    let at_camera = [0.0, 0.0, -1.0];
     let mut list = vec![
         // The same score behind and in front; behind lower; all behind; and with a count.
         unturned([back, still, far, back], 4, ahead, ahead),
@@ -33,19 +33,19 @@ pub(super) fn hand_choices() -> Vec<Input> {
         unturned([still; 4], 1, [1.0, 0.0, -0.5], [1.0, 0.0, 0.0]),
         // A depth of either zero.
         unturned([[1.0, 0.0, -1.0], still, back, still], 1, ahead, ahead),
-        unturned([edge, edge, edge, still], 4, ahead, ahead),
-        unturned([edge, edge, edge, edge], 4, ahead, [0.0, 0.0, -1.0]),
+        unturned([at_camera, at_camera, at_camera, still], 4, ahead, ahead),
+        unturned([at_camera; 4], 4, ahead, [-1.0; 3]),
         // A depth that overflows is above zero or below it.
         unturned([still; 4], 1, [1e308; 3], [1.0; 3]),
         unturned([still; 4], 1, [1e308; 3], [-1.0; 3]),
         unturned([still; 4], 1, [1e308; 3], [1.0, 1.0, -1e-3]),
     ];
-    // Depths whose squares vanish, that vanish themselves, and that are not numbers.
+    // Depths whose squares are tiny or vanish, and that are not finite.
     for z in [2f64.powi(-500), 2f64.powi(-540), 2f64.powi(-1074), f64::INFINITY, f64::NAN] {
         for sign in [1.0, -1.0] {
             list.push(unturned([still; 4], 4, [0.0, 0.0, sign * z], ahead));
             list.push(unturned([still; 4], 4, [z, 0.0, sign * z], ahead));
-            list.push(unturned([still, edge, ahead, back], 4, ahead, [0.0, z, sign * z]));
+            list.push(unturned([still, at_camera, ahead, back], 4, ahead, [0.0, z, sign * z]));
         }
     }
     list
