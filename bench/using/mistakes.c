@@ -1,7 +1,7 @@
 // What mistakes look like: of random plates with one made on purpose, how many are refused with
 // which number, and of how many of those answered the choice tells: it refuses, or its score is
-// above that of a target half a millimetre off its bearing. Plates in metres whose targets' triangle
-// is not thin, bearings exact.
+// above that of a target half a millimetre off its bearing. Plates in metres whose targets'
+// triangle is not thin, bearings exact.
 #include "measure.h"
 
 typedef void mistake(struct plate *plate);
@@ -87,7 +87,8 @@ static const struct row {
     {"a NaN", not_a_number},
 };
 
-// Of the plates tried, how many were refused with each number (0: answered), and told by the choice.
+// Of the plates tried, how many were refused with each number (0: answered), and how many the
+// choice told of.
 struct counts {
     long plates, refused[4], told;
 };
