@@ -17,8 +17,8 @@ use Rattle.theorems.specs.Types.{Vector3, World, Bearings, Pose, Answer}
 use Rattle.theorems.specs.Types.{Scored, Score, Choice}
 
 -- (640, 1456, 28), (860, -1383, -18), (-670, -1162, 14)
-unfoldable pub besidePlate : World
-besidePlate =
+unfoldable pub behindPlate : World
+behindPlate =
     points
     (vector (double 0x4084_0000_0000_0000)
     (double 0x4096_c000_0000_0000)
@@ -30,8 +30,8 @@ besidePlate =
     (double 0xc092_2800_0000_0000)
     (double 0x402c_0000_0000_0000))
 
-unfoldable pub besideBearings : Bearings
-besideBearings =
+unfoldable pub behindBearings : Bearings
+behindBearings =
     rays
     (vector (double 0xbfdd_a3cf_6696_7ea8)
     (double 0x3fd8_c1cd_8ff3_e966)
@@ -44,14 +44,14 @@ besideBearings =
     (double 0x3feb_6da6_77b6_f6ee))
 
 -- (2825, -2917, 1080)
-unfoldable pub besideTarget : Vector3
-besideTarget =
+unfoldable pub behindTarget : Vector3
+behindTarget =
     vector (double 0x40a6_1200_0000_0000)
     (double 0xc0a6_ca00_0000_0000)
     (double 0x4090_e000_0000_0000)
 
-unfoldable pub besideBearing : Vector3
-besideBearing =
+unfoldable pub behindBearing : Vector3
+behindBearing =
     vector (double 0xbf95_0ee5_6c4e_c345)
     (double 0xbfce_4226_8bab_2f7c)
     (double 0x3fef_1608_b500_3bcc)
@@ -70,8 +70,8 @@ truePose =
     ∷ 0xbfd0_1ccd_865f_224c ∷ 0xbfee_3c74_b571_8f2d ∷ 0xbfca_cb65_560b_4a37
     ∷ 0x4078_ba9a_10c9_5bfc ∷ 0x4076_4d40_4228_6b6f ∷ 0x40a2_220e_5f32_061e ∷ [])
 
-unfoldable pub besideAnswer : Answer
-besideAnswer = record {
+unfoldable pub behindAnswer : Answer
+behindAnswer = record {
   refusal = 0;
   count = 2;
   poses = poseBehind ∷ truePose ∷ zeroPose ∷ zeroPose ∷ [];
@@ -81,5 +81,5 @@ besideAnswer = record {
 -- document 01's choice among the two: each has a score, wherever it puts the target
 unfoldable pub choiceBefore : Choice
 choiceBefore =
-    let score : Pose → Scored = λ pose. Score (squaredTangent besideTarget besideBearing pose) in
+    let score : Pose → Scored = λ pose. Score (squaredTangent behindTarget behindBearing pose) in
     better (better noScore 1 (score poseBehind)) 2 (score truePose)
