@@ -1,5 +1,6 @@
--- The order of finite doubles: of two only one is below the other (`lt-asym`), and what is below a
--- second is below a third that is not below the second (`lt-le-trans`). Assumes nothing.
+-- The order of finite doubles: of two only one is below the other (`lt-asym`), and one is unless
+-- they are equal (`lt-total`); what is below a second is below a third that is not below the second
+-- (`lt-le-trans`). Assumes nothing.
 use mathlib.Core.Bool.{Bool, true, false, not}
 use mathlib.Core.Logic.{by-cases}
 use Prim.Native.Nat.{ℕ, _+_, _*_, _≤_, _<_}
@@ -7,7 +8,8 @@ use native.Mathlib.Decide.{decLt}
 use native.Mathlib.Nat.{mul-pos}
 use native.Mathlib.Omega.{arith}
 use lib.Dec.{T, ltb, ltb→lt, lt→ltb, nltb→le, not-T}
-use lib.Ieee.{Float, nan, inf, fin, up, down, below, lt}
+use borrow.Author.Tests.{eq-eqb}
+use lib.Ieee.{Float, nan, inf, fin, up, down, below, level, lt, eq}
 use lib.Ieee.Fits.{down-pos}
 use lib.Ieee.Positive.{through, first-pos}
 use lib.Ieee.Scale.{finite}
@@ -29,6 +31,37 @@ lt-asym (fin s m e) nan X Y h = absurd Y
 lt-asym (fin s m e) (inf t) X Y h = absurd Y
 lt-asym (fin s m e) (fin t n d) X Y h =
     one-below s (m * up e * down d) t (n * up d * down e) h
+
+other-below : (s : Bool) (a : ℕ) (t : Bool) (b : ℕ)
+    → T (not (below s a t b))
+    → T (not (level s a t b))
+    → T (below t b s a)
+other-below false a false b h k =
+    let above = nltb→le a b h in
+    by-cases (decLt b a) (lt→ltb b a) (λ n. absurd (rw (eq-eqb a b (omega arith)) at k))
+other-below false a true b h k =
+    by-cases (decLt 0 (b + a)) (lt→ltb 0 (b + a))
+    (λ n. absurd (rw (eq-eqb a b (omega arith), eq-eqb a 0 (omega arith)) at k))
+other-below true a false b h k =
+    let zeros = nltb→le 0 (a + b) h in
+    absurd (rw (eq-eqb a b (omega arith), eq-eqb a 0 (omega arith)) at k)
+other-below true a true b h k =
+    let above = nltb→le b a h in
+    by-cases (decLt a b) (lt→ltb a b) (λ n. absurd (rw (eq-eqb a b (omega arith)) at k))
+
+pub lt-total : (x y : Float)
+    → T (finite x)
+    → T (finite y)
+    → T (not (lt x y))
+    → T (not (eq x y))
+    → T (lt y x)
+unfolding lt eq
+lt-total nan y X Y h k = absurd X
+lt-total (inf s) y X Y h k = absurd X
+lt-total (fin s m e) nan X Y h k = absurd Y
+lt-total (fin s m e) (inf t) X Y h k = absurd Y
+lt-total (fin s m e) (fin t n d) X Y h k =
+    other-below s (m * up e * down d) t (n * up d * down e) h k
 
 -- ---- of three
 -- a product with a positive number tells whether a number is zero

@@ -5,13 +5,16 @@ use lib.Ieee.{Float}
 use Rattle.ieee754.specs.Scaling.{Both, At}
 use Rattle.ieee754_laws.proofs.Degrees.{same, at-zero}
 use Rattle.polynomial.specs.PolishedRoot.{polishedCubicRoot}
-use Rattle.polynomial.specs.RootScaling.{AtRoots, two-at, one-at, refused-at}
-use Rattle.polynomial.specs.Types.{Roots, Two, One, Refused}
+use Rattle.polynomial.specs.RootScaling.{AtRoots, two-at, double-at, lifted-at}
+use Rattle.polynomial.specs.RootScaling.{one-at, refused-at}
+use Rattle.polynomial.specs.Types.{Roots, Two, Double, Lifted, One, Refused}
 
 module _ {k : ℤ} where
   -- an answer beside itself, at degree 0
   pub roots-same : (r : Roots) → AtRoots k (pos 0) r r
   roots-same (Two x y) = two-at (same x) (same y)
+  roots-same (Double x) = double-at (same x)
+  roots-same (Lifted x) = lifted-at (same x)
   roots-same (One x) = one-at (same x)
   roots-same (Refused n) = refused-at n
 

@@ -7,27 +7,31 @@ use mathlib.Core.Bool.{Bool, true, false, not, _&&_, _||_}
 use Prim.Native.Nat.{ℕ}
 use native.Mathlib.Omega.{arith}
 use lib.Dec.{T}
-use lib.Ieee.{Float, binary64, mul, eq, ofBits}
+use lib.Ieee.{Float, binary64, mul, lt, eq, ofBits}
 use lib.Ieee.Fits.{and-i}
 use lib.Ieee.Scale.{finite}
 use lib.ListN.{length}
 use mir.Facts.{T-not-not}
 use Rattle.ieee754.specs.Literal.{plusZero}
+use Rattle.ieee754.specs.Maximum.{max}
 use Rattle.ieee754.specs.Traced.{Traced, pure, if_then_else_}
 use Rattle.ieee754.proofs.Tests.{either-way, not-both-left, not-both-right}
 use Rattle.cubic_parts.specs.CubicScale.{allZero, cubicVariableScale, normalised}
 use Rattle.cubic_parts.specs.CubicStart.{startRoot}
 use Rattle.cubic_parts.specs.Newton.{newtonSteps}
 use Rattle.cubic_parts.specs.Steps.{after}
-use Rattle.polynomial.specs.Answer.{noRoot, number, values}
-use Rattle.polynomial.specs.Quadratic.{quadraticPair, quadraticRealMonicComputed}
-use Rattle.polynomial.specs.Quadratic.{quadraticRealMonic}
+use Rattle.polynomial.specs.Answer.{noRoot, number, values, kind}
+use Rattle.polynomial.specs.Quadratic.{discriminantOf, doubleRoot, quadraticPair}
+use Rattle.polynomial.specs.Quadratic.{quadraticRealMonicComputed, quadraticRealMonic}
 use Rattle.polynomial.specs.PolishedRoot.{rescaledRoot, polishedRoot, polishedCubicRoot}
-use Rattle.polynomial.specs.OneAnswer.{NoRoots, TwoRoots, OneRoot, noRealPair, nothingFrom}
+use Rattle.polynomial.specs.OneAnswer.{NoRoots, TwoRoots, PairKind, above-zero, at-zero}
+use Rattle.polynomial.specs.OneAnswer.{below-zero, OneRoot, noRealPair, nothingFrom}
 use Rattle.polynomial.specs.OneAnswer.{noCubicRoot, QuadraticAnswer, quadratic-4, quadratic-5}
 use Rattle.polynomial.specs.OneAnswer.{quadratic-roots, CubicAnswer, cubic-4, cubic-6}
 use Rattle.polynomial.specs.OneAnswer.{cubic-root}
-use Rattle.polynomial.specs.Types.{Monic, Roots, Two, One, Refused, Step, Next, Stop}
+use Rattle.polynomial.specs.Types.{Monic, Roots, Two, Double, Lifted, One, Refused}
+use Rattle.polynomial.specs.Types.{Step, Next, Stop}
+use Rattle.polynomial.proofs.CutToZero.{cut-zero, uncut-above}
 
 refused : (n : ℕ) → NoRoots n (Refused n)
 refused n = record { refused = refl; roots = refl }
@@ -56,23 +60,55 @@ either-finite P test all same f g =
 two : (x y : Float) → TwoRoots (Two x y)
 two x y = record { first = x; second = y; not-refused = refl; roots = refl }
 
+double-two : (root computed : Float) → TwoRoots (doubleRoot root computed)
+unfolding doubleRoot
+double-two root computed =
+    either-way TwoRoots (lt computed plusZero)
+    (λ _. record { first = root; second = root; not-refused = refl; roots = refl })
+    (λ _. record { first = root; second = root; not-refused = refl; roots = refl })
+
 pair-two : (b c d : Float) → TwoRoots (quadraticPair b c d .value)
 unfolding quadraticPair
 pair-two b c d =
-    either-way (λ (m : Traced Roots). TwoRoots (m .value)) (eq d plusZero) (λ _. two _ _)
-    (λ _. either-way (λ (m : Traced Roots). TwoRoots (m .value)) (eq _ plusZero) (λ _. two _ _)
-    (λ _. two _ _))
+    let P : Traced Roots → Type 0 = λ m. TwoRoots (m .value) in
+    either-way P (eq (max d plusZero) plusZero) (λ _. double-two _ d)
+    (λ _. either-way P (eq _ plusZero) (λ _. two _ _) (λ _. two _ _))
+
+double-kind : (root d : Float)
+    → T (finite d)
+    → T (eq (max d plusZero) plusZero)
+    → PairKind d (doubleRoot root d)
+unfolding doubleRoot
+double-kind root d f cut =
+    either-way (PairKind d) (lt d plusZero) (λ below. below-zero below refl)
+    (λ not-below. at-zero (cut-zero d f not-below cut) refl)
+
+pair-kind : (b c d : Float) → T (finite d) → PairKind d (quadraticPair b c d .value)
+unfolding quadraticPair
+pair-kind b c d f =
+    let P : Traced Roots → Type 0 = λ m. PairKind d (m .value) in
+    either-way P (eq (max d plusZero) plusZero) (double-kind _ d f) (λ uncut.
+    let above = uncut-above d f uncut in
+    either-way P (eq _ plusZero) (λ _. above-zero above refl) (λ _. above-zero above refl))
+
+-- a discriminant that is not refused is finite
+there : (below real : Bool) → T (not (below || not real)) → T real
+there true real h = absurd h
+there false real h = T-not-not real h
 
 pub quadratic-answer : (b c : Float) → QuadraticAnswer b c (quadraticRealMonic b c .value)
 unfolding quadraticRealMonic quadraticRealMonicComputed noRealPair
 quadratic-answer b c =
     let P : Traced Roots → Type 0 = λ m. QuadraticAnswer b c (m .value) in
+    let discriminant = discriminantOf b c .value in
     either-finite P (not (finite b) || not (finite c)) (finite b && finite c)
     (both-finite (finite b) (finite c))
     (λ nonfinite. quadratic-4 nonfinite (refused 4))
     (λ all.
     either-way P (noRealPair b c) (λ none. quadratic-5 all none (refused 5))
-    (λ some. quadratic-roots all some (pair-two b c _)))
+    (λ some.
+    quadratic-roots all some (pair-two b c _)
+    (pair-kind b c discriminant (there (lt discriminant _) (finite discriminant) some))))
 
 -- ---- the cubic
 twice : (b : Bool) → T b → T (not (not b))
@@ -126,7 +162,7 @@ two-of : {b c : Float} {r : Roots}
     → length (values r) ≡ 2
 two-of (quadratic-4 h none) e = let n = none .refused in absurd (omega (arith, n, e))
 two-of (quadratic-5 h k none) e = let n = none .refused in absurd (omega (arith, n, e))
-two-of (quadratic-roots h k found) e = ap length (found .roots)
+two-of (quadratic-roots h k found kind) e = ap length (found .roots)
 
 pub quadratic-two : (b c : Float)
     → let answer = quadraticRealMonic b c .value in

@@ -11,12 +11,20 @@ use Rattle.ieee754_laws.proofs.Degrees.{same, null, !_, ⊝_, √_, _⊗_, _⊘
 use Rattle.ieee754_laws.proofs.Degrees.{neg-at}
 use Rattle.ieee754_laws.proofs.Degrees.{abs-at, copysign-at, max-at, lt-same, eq-same, finite-same}
 use Rattle.ieee754_laws.proofs.Degrees.{pure}
-use Rattle.ieee754_laws.proofs.Degrees.{_>>=_, if_then_else_}
+use Rattle.ieee754_laws.proofs.Degrees.{_>>=_, if_then_else_, choose}
 use Rattle.ieee754_laws.proofs.MinPositive.{floored, epsilon32-small}
 use Rattle.polynomial.specs.Literal.{four, thirtyTwo}
-use Rattle.polynomial.specs.Quadratic.{discriminantOf, bandOf, quadraticPair}
+use Rattle.polynomial.specs.Quadratic.{discriminantOf, bandOf, doubleRoot, quadraticPair}
 use Rattle.polynomial.specs.Quadratic.{quadraticRealMonicComputed, quadraticRealMonic}
-use Rattle.polynomial.specs.RootScaling.{AtRoots, two-at, refused-at}
+use Rattle.polynomial.specs.RootScaling.{AtRoots, two-at, double-at, lifted-at, refused-at}
+
+doubleRoot-at : {k n m : ℤ} {r r' d d' : Float}
+    → At k n r r'
+    → At k m d d'
+    → AtRoots k n (doubleRoot r d) (doubleRoot r' d')
+unfolding doubleRoot
+doubleRoot-at {k} {n} root computed =
+    choose (AtRoots k n) (lt-same computed null) (lifted-at root) (double-at root)
 
 module _ {k n : ℤ} {b b' c c' : Float} (B : At k n b b') (C : At k (n +ℤ n) c c') where
   pair-scales : {d d' : Float}
@@ -24,11 +32,12 @@ module _ {k n : ℤ} {b b' c c' : Float} (B : At k n b b') (C : At k (n +ℤ n) 
       → Both (AtRoots k n) (quadraticPair b c d) (quadraticPair b' c' d')
   unfolding quadraticPair
   pair-scales D =
-      if eq-same D null then (
+      let discriminant = max-at D null in
+      if eq-same discriminant null then (
       degree (+ℤ-idl n) (⊝ ! same half ⊗ ! B) >>= λ _ _ root.
-      pure (two-at root root))
+      pure (doubleRoot-at root D))
       else (
-      √ ! D >>= λ _ _ root.
+      √ ! discriminant >>= λ _ _ root.
       degree (+ℤ-idl n) (⊝ ! same half ⊗ (! B ⊕ ! copysign-at root B)) >>= λ _ _ q.
       if eq-same q null then pure (two-at null null)
       else (
@@ -57,7 +66,7 @@ module _ {k n : ℤ} {b b' c c' : Float} (B : At k n b b') (C : At k (n +ℤ n) 
       band-scales S >>= λ _ _ tolerance.
       if ap₂ _||_ (lt-same discriminant (neg-at tolerance)) (ap not (finite-same discriminant)) then
       pure (refused-at 5)
-      else pair-scales (max-at discriminant null))
+      else pair-scales discriminant)
 
   pub quadratic-scales : Both (AtRoots k n) (quadraticRealMonic b c) (quadraticRealMonic b' c')
   unfolding quadraticRealMonic

@@ -11,7 +11,7 @@ use Rattle.ieee754.specs.Traced.{Traced, pure, _>>=_, if_then_else_, !_, ⊝_, 
 use Rattle.ieee754.specs.Traced.{mulAdd}
 use Rattle.polynomial.specs.Literal.{four, thirtyTwo}
 use Rattle.polynomial.specs.Answer.{notFinite, noRealRoots}
-use Rattle.polynomial.specs.Types.{Roots, Two}
+use Rattle.polynomial.specs.Types.{Roots, Two, Double, Lifted}
 
 -- let discriminant = b.mul_add(b, -4.0 * c);
 abbrev pub discriminantOf : Float → Float → Traced Float
@@ -25,14 +25,20 @@ bandOf b cScale = do
   -- let tolerance = 32.0 * f64::EPSILON * discriminant_scale.max(f64::MIN_POSITIVE);
   ! thirtyTwo ⊗ ! epsilon ⊗ ! (max discriminantScale minPositive)
 
--- the roots where the discriminant is in the band or above it; the caller has cut a negative one to
--- zero
+-- not in the Rust: a root that counts twice tells whether the discriminant as computed was lifted to
+-- zero. Minus zero is not below zero. Document 02, §8.
+unfoldable pub doubleRoot : Float → Float → Roots
+doubleRoot root computed = if lt computed plusZero then Lifted root else Double root
+
+-- the roots where the discriminant as computed is in the band or above it
 unfoldable pub quadraticPair : Float → Float → Float → Traced Roots
-quadraticPair b c discriminant =
+quadraticPair b c computed =
+    -- let discriminant = discriminant.max(0.0);
+    let discriminant = max computed plusZero in
     if eq discriminant plusZero then (do
       -- Some([-0.5 * b; 2])
       root ← ⊝ ! half ⊗ ! b
-      pure (Two root root))
+      pure (doubleRoot root computed))
     else do
       -- let q = -0.5 * (b + discriminant.sqrt().copysign(b));
       root ← √ ! discriminant
@@ -50,7 +56,7 @@ quadraticRealMonicComputed b c cScale =
       discriminant ← discriminantOf b c
       tolerance ← bandOf b cScale
       if lt discriminant (neg tolerance) || not (finite discriminant) then pure noRealRoots
-          else quadraticPair b c (max discriminant plusZero)
+          else quadraticPair b c discriminant
 
 unfoldable pub quadraticRealMonic : Float → Float → Traced Roots
 quadraticRealMonic b c = quadraticRealMonicComputed b c (abs c)

@@ -1,8 +1,8 @@
 // The real roots of a monic quadratic: quadratic_real_monic and quadratic_real_monic_computed of
 // shared/polynomial.rs.
 ghost use mathlib.Core.Path.{_≡_};
-ghost use Rattle.polynomial.specs.Quadratic.{quadraticPair, quadraticRealMonicComputed};
-ghost use Rattle.polynomial.specs.Quadratic.{quadraticRealMonic};
+ghost use Rattle.polynomial.specs.Quadratic.{doubleRoot, quadraticPair};
+ghost use Rattle.polynomial.specs.Quadratic.{quadraticRealMonicComputed, quadraticRealMonic};
 use crate::Roots;
 use ieee754::abs::abs;
 use ieee754::copysign::copysign;
@@ -34,16 +34,27 @@ fn quadratic_real_monic_computed(b: f64, c: f64, c_scale: f64) -> Roots
     if (discriminant < -tolerance) | !is_finite(discriminant) {
         return Roots::Refused(5);
     }
-    quadratic_pair(b, c, max(discriminant, 0.0))
+    quadratic_pair(b, c, discriminant)
 }
 
-// The roots by the discriminant, which is not negative: unsorted, the first away from zero.
-fn quadratic_pair(b: f64, c: f64, discriminant: f64) -> Roots
-    ensures { λ r. ⌜ r ≡ quadraticPair b c discriminant .value ⌝ }
+// A root that counts twice, by the discriminant as computed.
+fn double_root(root: f64, computed: f64) -> Roots
+    ensures { λ r. ⌜ r ≡ doubleRoot root computed ⌝ }
 {
+    if computed < 0.0 {
+        return Roots::Lifted(root);
+    }
+    Roots::Double(root)
+}
+
+// The roots by the discriminant as computed, which is in the band or above it: unsorted, the first
+// away from zero.
+fn quadratic_pair(b: f64, c: f64, computed: f64) -> Roots
+    ensures { λ r. ⌜ r ≡ quadraticPair b c computed .value ⌝ }
+{
+    let discriminant = max(computed, 0.0);
     if discriminant == 0.0 {
-        let root = -0.5 * b;
-        return Roots::Two(root, root);
+        return double_root(-0.5 * b, computed);
     }
     let q = -0.5 * (b + copysign(sqrt(discriminant), b));
     if q == 0.0 {

@@ -31,7 +31,7 @@ returns-2 c =
 returns-3 : tie.Need-returns-3
 unfolding quadraticRealMonicComputed
 returns-3 c =
-    let is-finite3 = c .before .before .before in
+    let is-finite3 = c .before .before in
     let tested = is-finite3 .before .before .before in
     rw (
       ← tested .before .before .is-finite .ensures,
@@ -40,13 +40,11 @@ returns-3 c =
       ← is-finite3 .before .before .fma-square .ensures,
       ← is-finite3 .before .max .ensures,
       ← is-finite3 .is-finite3 .ensures,
-      c .before .before .if2 .left,
-      ← c .before .max2 .ensures,
+      c .before .if2 .left,
       ← c .quadratic-pair .ensures,
     )
 
 pub quadratic-real-monic-computed-spec : {M : Type 1} → statement M
 quadratic-real-monic-computed-spec =
     tie.close (tie.spec (λ c _. search needs) (λ c _. search needs) returns (λ c _. search needs)
-    (λ c _. search needs) (λ c _. search needs) returns-2 (λ c _. search needs)
-    (λ c _. search needs) returns-3)
+    (λ c _. search needs) (λ c _. search needs) returns-2 (λ c _. search needs) returns-3)
