@@ -8,9 +8,11 @@ use lib.Ieee.{Float, lt, le, neg}
 use lib.Ieee.Fits.{and-r}
 use Rattle.ieee754.specs.Literal.{plusZero}
 use Rattle.ieee754.specs.Magnitude.{abs}
-use Rattle.ieee754.specs.Traced.{Traced, pure, if_then_else_}
+use Rattle.ieee754.specs.Traced.{Traced, pure, _>>=_, if_then_else_}
 use Rattle.ieee754.proofs.Tests.{either-way}
-use Rattle.polynomial.specs.declared.Roots.the-variants.{Two, One, Refused}
+use Rattle.polynomial.specs.Answer.{pairOf, withPair}
+use Rattle.polynomial.specs.declared.pair.RootPair.{RootPair}
+use Rattle.polynomial.specs.declared.pair.RootPair.the-variants.{Present, Absent}
 use Rattle.depths.specs.DepthSlots.{noCandidates, pushIfPositive}
 use Rattle.depths.specs.Charts.{forRoots, noDivisor, firstChartDepths, firstChart}
 use Rattle.depths.specs.Charts.{secondChartDepths, weightChart, secondChart, chart}
@@ -29,32 +31,39 @@ module _ (found : Candidates) (few : Few found) where
       → GivesFew (if test then pure found else m)
   unless test m h = either-way GivesFew test (λ _. few) (λ _. h)
 
-  pushIfPositive-few : (depth : Float) (depths : Vector3) → Few (pushIfPositive found depth depths)
+  pushIfPositive-few : (depth : Float) (depths : Vector3) (lifted : Bool)
+      → Few (pushIfPositive found depth depths lifted)
   unfolding pushIfPositive
-  pushIfPositive-few depth depths =
+  pushIfPositive-few depth depths lifted =
       let positive = lt plusZero depth in
       let free = ltb (found .count) 4 in
       either-way Few (positive && free)
       (λ both. omega (arith, ltb→lt (found .count) 4 (and-r positive free both)))
       (λ _. few)
 
-  forRoots-few : (roots : Roots) (turn : Candidates → Float → Traced Candidates)
-      → ((c : Candidates) → Few c → (tau : Float) → Few (turn c tau .value))
+  forRoots-few : (roots : Roots) (turn : Bool → Candidates → Float → Traced Candidates)
+      → ((lifted : Bool) (c : Candidates) → Few c → (tau : Float) → Few (turn lifted c tau .value))
       → Few (forRoots roots turn found .value)
   unfolding forRoots
-  forRoots-few (Two first second) turn each = each _ (each found few first) second
-  forRoots-few (One root) turn each = few
-  forRoots-few (Refused number) turn each = few
+  forRoots-few roots turn each = go (pairOf roots)
+    where
+      go : (pair : RootPair)
+          → Few (withPair pair (pure found) (λ first second lifted. do
+            once ← turn lifted found first
+            turn lifted once second) .value)
+      go (Present first second lifted) = each lifted _ (each lifted found few first) second
+      go Absent = few
 
 module _ (squares : SquaredEdges) (factors : Factors) where
   -- ---- the chart for u0.abs() < u1.abs()
-  firstChartDepths-few : (nullVector : Vector3) (found : Candidates)
+  firstChartDepths-few : (nullVector : Vector3) (lifted : Bool) (found : Candidates)
       → Few found
       → (tau : Float)
-      → Few (firstChartDepths squares factors nullVector found tau .value)
+      → Few (firstChartDepths squares factors nullVector lifted found tau .value)
   unfolding firstChartDepths
-  firstChartDepths-few nullVector found few tau =
-      unless found few (le tau plusZero || le _ plusZero) _ (pushIfPositive-few found few _ _)
+  firstChartDepths-few nullVector lifted found few tau =
+      unless found few (le tau plusZero || le _ plusZero) _
+      (pushIfPositive-few found few _ _ lifted)
 
   firstChart-few : (nullVector : Vector3) (found : Candidates)
       → Few found
@@ -65,13 +74,14 @@ module _ (squares : SquaredEdges) (factors : Factors) where
       (forRoots-few found few _ _ (firstChartDepths-few nullVector))
 
   -- ---- the other chart
-  secondChartDepths-few : (w0 w1 : Float) (found : Candidates)
+  secondChartDepths-few : (w0 w1 : Float) (lifted : Bool) (found : Candidates)
       → Few found
       → (tau : Float)
-      → Few (secondChartDepths squares factors w0 w1 found tau .value)
+      → Few (secondChartDepths squares factors w0 w1 lifted found tau .value)
   unfolding secondChartDepths
-  secondChartDepths-few w0 w1 found few tau =
-      unless found few (le tau plusZero || le _ plusZero) _ (pushIfPositive-few found few _ _)
+  secondChartDepths-few w0 w1 lifted found few tau =
+      unless found few (le tau plusZero || le _ plusZero) _
+      (pushIfPositive-few found few _ _ lifted)
 
   weightChart-few : (w0 w1 : Float) (found : Candidates)
       → Few found
@@ -97,9 +107,9 @@ module _ (squares : SquaredEdges) (factors : Factors) where
       either-way GivesFew (lt (abs _) (abs _)) (λ _. firstChart-few _ found few)
       (λ _. secondChart-few _ found few)
 
-  pub candidates-count : (eigenvectors : Matrix3) (ratio : Float)
-      → candidates squares factors eigenvectors ratio .value .count ≤ 4
+  pub candidates-count : (eigenvectors : Matrix3) (ratio : Float) (lifted : Bool)
+      → candidates squares factors eigenvectors ratio lifted .value .count ≤ 4
   unfolding candidates noCandidates
-  candidates-count eigenvectors ratio =
-      signTurn-few eigenvectors (neg ratio) _ (signTurn-few eigenvectors ratio noCandidates
-      (omega arith))
+  candidates-count eigenvectors ratio lifted =
+      signTurn-few eigenvectors (neg ratio) _
+      (signTurn-few eigenvectors ratio (noCandidates lifted) (omega arith))

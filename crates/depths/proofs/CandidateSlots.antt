@@ -12,7 +12,7 @@ use Rattle.depths.proofs.candidates.Candidates.Laws as candidates-laws
 pub four-slots : (found : Candidates)
     → Is (row candidates.the-type) found
     (struct.val candidates.the-type candidates-laws.the-laws found ∷ [])
-    → length (found .depths) ≡ 4
+    → length (found .slots) ≡ 4
 four-slots found ok =
     simp length-map at (struct.owed candidates.the-type candidates-laws.the-laws found
-    (struct.val candidates.the-type candidates-laws.the-laws found ∷ []) ok .1 .0 .1 .0 .1)
+    (struct.val candidates.the-type candidates-laws.the-laws found ∷ []) ok .1 .1 .0 .1 .0 .1)

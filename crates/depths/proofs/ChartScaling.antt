@@ -1,5 +1,5 @@
 -- The charts: their quadratics have their coefficients at degree 0, and the depth candidates are at
--- degree 1, as many in both runs. Assumes nothing.
+-- degree 1, as many in both runs and with the same marks. Assumes nothing.
 use mathlib.Core.Path.{_≡_, refl, ap, ap₂}
 use mathlib.Core.Bool.{Bool, not, _&&_, _||_}
 use mathlib.Core.List.{Forall₂}
@@ -21,48 +21,70 @@ use Rattle.frames.specs.FrameScaling.{AtSquaredEdges}
 use Rattle.polynomial.specs.RootScaling.{AtRoots}
 use Rattle.polynomial.proofs.RootScaling.{withPair-scales}
 use Rattle.polynomial.proofs.QuadraticScaling.{quadratic-scales}
-use Rattle.depths.specs.DepthSlots.{noCandidates, pushIfPositive}
+use Rattle.depths.specs.DepthSlots.{noCandidates, candidate, pushIfPositive}
 use Rattle.depths.specs.Charts.{forRoots, noDivisor, firstChartDepths, firstChart}
 use Rattle.depths.specs.Charts.{secondChartDepths, weightChart, secondChart, chart}
-use Rattle.depths.specs.Types.{Vector3, SquaredEdges, Roots, Factors, Candidates}
+use Rattle.depths.specs.Types.{Vector3, SquaredEdges, Roots, Factors, Candidate, Candidates}
+
+pub record AtCandidate (k : ℤ) (c c' : Candidate) : Type 0 where
+  pub depths : AtVector k (pos 1) (c .depths) (c' .depths)
+  pub lifted : c .lifted ≡ c' .lifted
 
 pub record AtCandidates (k : ℤ) (c c' : Candidates) : Type 0 where
+  pub lifted : c .lifted ≡ c' .lifted
   pub count : c .count ≡ c' .count
-  pub depths : Forall₂ (AtVector k (pos 1)) (c .depths) (c' .depths)
+  pub slots : Forall₂ (AtCandidate k) (c .slots) (c' .slots)
 
 module _ {k : ℤ} where
   -- ---- the slots
-  pub noCandidates-at : AtCandidates k noCandidates noCandidates
+  pub noCandidates-at : (lifted : Bool)
+      → AtCandidates k (noCandidates lifted) (noCandidates lifted)
   unfolding noCandidates
-  noCandidates-at = record { count = refl; depths = four-entries null-vector }
+  noCandidates-at lifted = record {
+    lifted = refl;
+    count = refl;
+    slots = four-entries (record { depths = null-vector; lifted = refl });
+  }
 
-  pushIfPositive-at : {c c' : Candidates} {d d' : Float} {v v' : Vector3}
+  candidate-at : {c c' : Candidates} {v v' : Vector3} (lifted : Bool)
+      → AtCandidates k c c'
+      → AtVector k (pos 1) v v'
+      → AtCandidate k (candidate c v lifted) (candidate c' v' lifted)
+  unfolding candidate
+  candidate-at lifted found depths = record {
+    depths = depths;
+    lifted = ap (λ (b : Bool). b || lifted) (found .lifted);
+  }
+
+  pushIfPositive-at : {c c' : Candidates} {d d' : Float} {v v' : Vector3} (lifted : Bool)
       → AtCandidates k c c'
       → At k (pos 1) d d'
       → AtVector k (pos 1) v v'
-      → AtCandidates k (pushIfPositive c d v) (pushIfPositive c' d' v')
+      → AtCandidates k (pushIfPositive c d v lifted) (pushIfPositive c' d' v' lifted)
   unfolding pushIfPositive
-  pushIfPositive-at found depth depths =
+  pushIfPositive-at lifted found depth depths =
       choose (AtCandidates k)
       (ap₂ _&&_ (lt-same null depth) (ap (λ (n : ℕ). ltb n 4) (found .count)))
       (record {
+        lifted = found .lifted;
         count = ap (λ (n : ℕ). n + 1) (found .count);
-        depths = set-entries (found .count) (found .depths) depths;
+        slots = set-entries (found .count) (found .slots) (candidate-at lifted found depths);
       })
       found
 
-  forRoots-scales : {r r' : Roots} {turn turn' : Candidates → Float → Traced Candidates}
+  forRoots-scales : {r r' : Roots} {turn turn' : Bool → Candidates → Float → Traced Candidates}
       {c c' : Candidates}
       → AtRoots k (pos 0) r r'
-      → ((c c' : Candidates) (t t' : Float) → AtCandidates k c c' → At k (pos 0) t t' →
-      Both (AtCandidates k) (turn c t) (turn' c' t'))
+      → ((lifted : Bool) (c c' : Candidates) (t t' : Float) → AtCandidates k c c'
+      → At k (pos 0) t t'
+      → Both (AtCandidates k) (turn lifted c t) (turn' lifted c' t'))
       → AtCandidates k c c'
       → Both (AtCandidates k) (forRoots r turn c) (forRoots r' turn' c')
   unfolding forRoots
   forRoots-scales roots turn found =
-      withPair-scales roots (pure found) (λ _ _ _ _ first second.
-      turn _ _ _ _ found first >>= λ _ _ once.
-      turn _ _ _ _ once second)
+      withPair-scales roots (pure found) (λ _ _ _ _ lifted first second.
+      turn lifted _ _ _ _ found first >>= λ _ _ once.
+      turn lifted _ _ _ _ once second)
 
   noDivisor-same : {n : ℤ} {d d' : Float} → At k n d d' → noDivisor d ≡ noDivisor d'
   unfolding noDivisor
@@ -71,14 +93,14 @@ module _ {k : ℤ} where
   module _ {e e' : SquaredEdges} (factors : Factors) (E : AtSquaredEdges k e e') where
     -- ---- the chart for u0.abs() < u1.abs()
     module _ (nullVector : Vector3) where
-      firstChartDepths-scales : (c c' : Candidates) (t t' : Float)
+      firstChartDepths-scales : (lifted : Bool) (c c' : Candidates) (t t' : Float)
           → AtCandidates k c c'
           → At k (pos 0) t t'
           → Both (AtCandidates k)
-          (firstChartDepths e factors nullVector c t)
-          (firstChartDepths e' factors nullVector c' t')
+          (firstChartDepths e factors nullVector lifted c t)
+          (firstChartDepths e' factors nullVector lifted c' t')
       unfolding firstChartDepths
-      firstChartDepths-scales _ _ _ _ found tau =
+      firstChartDepths-scales lifted _ _ _ _ found tau =
           let u0 = same (nullVector .x) in
           let u1 = same (nullVector .y) in
           let u2 = same (nullVector .z) in
@@ -88,7 +110,7 @@ module _ {k : ℤ} where
           √_ {n = pos 1} (! (E .a02) ⊘ ! depthDenominator) >>= λ _ _ depth0.
           ! tau ⊗ ! depth0 >>= λ _ _ depth2.
           ⊝ (! u0 ⊗ ! depth0 ⊕ ! u2 ⊗ ! depth2) ⊘ ! u1 >>= λ _ _ depth1.
-          pure (pushIfPositive-at found depth1 (record { x = depth0; y = depth1; z = depth2 })))
+          pure (pushIfPositive-at lifted found depth1 (record { x = depth0; y = depth1; z = depth2 })))
 
       firstChart-scales : {c c' : Candidates}
           → AtCandidates k c c'
@@ -117,21 +139,21 @@ module _ {k : ℤ} where
 
     -- ---- the other chart
     module _ (w0 w1 : Float) where
-      secondChartDepths-scales : (c c' : Candidates) (t t' : Float)
+      secondChartDepths-scales : (lifted : Bool) (c c' : Candidates) (t t' : Float)
           → AtCandidates k c c'
           → At k (pos 0) t t'
           → Both (AtCandidates k)
-          (secondChartDepths e factors w0 w1 c t)
-          (secondChartDepths e' factors w0 w1 c' t')
+          (secondChartDepths e factors w0 w1 lifted c t)
+          (secondChartDepths e' factors w0 w1 lifted c' t')
       unfolding secondChartDepths
-      secondChartDepths-scales _ _ _ _ found tau =
+      secondChartDepths-scales lifted _ _ _ _ found tau =
           ! tau ⊗ (! same (factors .b12) ⊕ ! tau) ⊕ ! same one >>= λ _ _ depthDenominator.
           if ap₂ _||_ (le-same tau null) (le-same depthDenominator null) then pure found
           else (
           √_ {n = pos 1} (! (E .a12) ⊘ ! depthDenominator) >>= λ _ _ depth1.
           ! tau ⊗ ! depth1 >>= λ _ _ depth2.
           ! same w0 ⊗ ! depth1 ⊕ ! same w1 ⊗ ! depth2 >>= λ _ _ depth0.
-          pure (pushIfPositive-at found depth0 (record { x = depth0; y = depth1; z = depth2 })))
+          pure (pushIfPositive-at lifted found depth0 (record { x = depth0; y = depth1; z = depth2 })))
 
       weightChart-scales : {c c' : Candidates}
           → AtCandidates k c c'

@@ -1,5 +1,6 @@
 -- The depth candidates of either sign of the ratio are at degree 1, as many in both runs. Assumes
 -- nothing.
+use mathlib.Core.Bool.{Bool}
 use lib.IntN.{ℤ}
 use lib.Ieee.{Float, neg}
 use Rattle.ieee754.specs.Scaling.{Both}
@@ -24,11 +25,11 @@ module _ {k : ℤ} where
         alike {m = vecSub (column0 eigenvectors) scaled} >>≡ λ nullVector.
         chart-scales factors E nullVector found
 
-    pub candidates-scales : (eigenvectors : Matrix3) (ratio : Float)
+    pub candidates-scales : (eigenvectors : Matrix3) (ratio : Float) (lifted : Bool)
         → Both (AtCandidates k)
-        (candidates e factors eigenvectors ratio)
-        (candidates e' factors eigenvectors ratio)
+        (candidates e factors eigenvectors ratio lifted)
+        (candidates e' factors eigenvectors ratio lifted)
     unfolding candidates
-    candidates-scales eigenvectors ratio =
-        signTurn-scales eigenvectors ratio noCandidates-at >>= λ _ _ once.
+    candidates-scales eigenvectors ratio lifted =
+        signTurn-scales eigenvectors ratio (noCandidates-at lifted) >>= λ _ _ once.
         signTurn-scales eigenvectors (neg ratio) once

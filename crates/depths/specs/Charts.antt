@@ -1,6 +1,6 @@
 -- The two charts of `solve_ordered` (lambdatwist.rs): from the null vector of one sign to at most
 -- two depth candidates, one for each root of the chart's quadratic. Where the quadratic refuses,
--- only that sign's turn ends.
+-- only that sign's turn ends. Whether the pair of roots was lifted is handed on (document 02, §8).
 use mathlib.Core.Bool.{Bool, not, _||_}
 use lib.Ieee.{Float, lt, le, eq}
 use lib.Ieee.Scale.{finite}
@@ -8,27 +8,27 @@ use Rattle.ieee754.specs.Literal.{plusZero, one, two}
 use Rattle.ieee754.specs.Magnitude.{abs}
 use Rattle.ieee754.specs.Traced.{Traced, pure, _>>=_, if_then_else_, _⊗_, _⊕_, _⊖_, _⊘_, !_, ⊝_, √_}
 use Rattle.linalg.specs.Vectors.{vector}
-use Rattle.polynomial.specs.Answer.{withPair}
+use Rattle.polynomial.specs.Answer.{pairOf, withPair}
 use Rattle.polynomial.specs.Quadratic.{quadraticRealMonic}
 use Rattle.depths.specs.DepthSlots.{pushIfPositive}
 use Rattle.depths.specs.Types.{Vector3, SquaredEdges, Roots, Factors, Candidates}
 
 -- for tau in roots { .. }, whose body is `turn`
-unfoldable pub forRoots : Roots → (Candidates → Float → Traced Candidates) → Candidates
+unfoldable pub forRoots : Roots → (Bool → Candidates → Float → Traced Candidates) → Candidates
     → Traced Candidates
 forRoots roots turn found =
-    withPair roots (pure found) (λ first second. do
-      once ← turn found first
-      turn once second)
+    withPair (pairOf roots) (pure found) (λ first second lifted. do
+      once ← turn lifted found first
+      turn lifted once second)
 
 -- denominator == 0.0 || !denominator.is_finite()
 unfoldable pub noDivisor : Float → Bool
 noDivisor denominator = eq denominator plusZero || not (finite denominator)
 
 -- ---- the chart for u0.abs() < u1.abs(): the depths of a root, then the chart
-unfoldable pub firstChartDepths : SquaredEdges → Factors → Vector3 → Candidates → Float
+unfoldable pub firstChartDepths : SquaredEdges → Factors → Vector3 → Bool → Candidates → Float
     → Traced Candidates
-firstChartDepths squares factors nullVector found tau =
+firstChartDepths squares factors nullVector lifted found tau =
     let record { x = u0; y = u1; z = u2 } = nullVector in
     do
       -- let depth_denominator = tau * (tau + b02) + 1.0;
@@ -41,7 +41,7 @@ firstChartDepths squares factors nullVector found tau =
             depth2 ← ! tau ⊗ ! depth0
             -- let depth1 = -(u0 * depth0 + u2 * depth2) / u1;
             depth1 ← ⊝ (! u0 ⊗ ! depth0 ⊕ ! u2 ⊗ ! depth2) ⊘ ! u1
-            pure (pushIfPositive found depth1 (vector depth0 depth1 depth2))
+            pure (pushIfPositive found depth1 (vector depth0 depth1 depth2) lifted)
 
 unfoldable pub firstChart : SquaredEdges → Factors → Vector3 → Candidates → Traced Candidates
 firstChart squares factors nullVector found =
@@ -65,9 +65,10 @@ firstChart squares factors nullVector found =
             forRoots roots (firstChartDepths squares factors nullVector) found
 
 -- ---- the other chart: the depths of a root, the chart from w0 and w1 on, and the chart
-unfoldable pub secondChartDepths : SquaredEdges → Factors → Float → Float → Candidates → Float
+unfoldable pub secondChartDepths : SquaredEdges → Factors → Float → Float → Bool → Candidates
+    → Float
     → Traced Candidates
-secondChartDepths squares factors w0 w1 found tau = do
+secondChartDepths squares factors w0 w1 lifted found tau = do
   -- let depth_denominator = tau * (b12 + tau) + 1.0;
   depthDenominator ← ! tau ⊗ (! (factors .b12) ⊕ ! tau) ⊕ ! one
   if le tau plusZero || le depthDenominator plusZero then pure found
@@ -78,7 +79,7 @@ secondChartDepths squares factors w0 w1 found tau = do
         depth2 ← ! tau ⊗ ! depth1
         -- let depth0 = w0 * depth1 + w1 * depth2;
         depth0 ← ! w0 ⊗ ! depth1 ⊕ ! w1 ⊗ ! depth2
-        pure (pushIfPositive found depth0 (vector depth0 depth1 depth2))
+        pure (pushIfPositive found depth0 (vector depth0 depth1 depth2) lifted)
 
 unfoldable pub weightChart : SquaredEdges → Factors → Float → Float → Candidates → Traced Candidates
 weightChart squares factors w0 w1 found =

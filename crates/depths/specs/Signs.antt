@@ -1,5 +1,6 @@
 -- The depth candidates of either sign of the ratio: the loop `for sign in [ratio, -ratio]` of
 -- `solve_ordered` (lambdatwist.rs).
+use mathlib.Core.Bool.{Bool}
 use lib.Ieee.{Float, neg}
 use Rattle.ieee754.specs.Traced.{Traced, _>>=_}
 use Rattle.linalg.specs.Vectors.{vecSub, vecMul}
@@ -16,8 +17,8 @@ signTurn squares factors eigenvectors sign found = do
   nullVector ← vecSub (column0 eigenvectors) scaled
   chart squares factors nullVector found
 
--- for sign in [ratio, -ratio] { .. }
-unfoldable pub candidates : SquaredEdges → Factors → Matrix3 → Float → Traced Candidates
-candidates squares factors eigenvectors ratio = do
-  once ← signTurn squares factors eigenvectors ratio noCandidates
+-- for sign in [ratio, -ratio] { .. }, with whether the eigenvalues were lifted
+unfoldable pub candidates : SquaredEdges → Factors → Matrix3 → Float → Bool → Traced Candidates
+candidates squares factors eigenvectors ratio lifted = do
+  once ← signTurn squares factors eigenvectors ratio (noCandidates lifted)
   signTurn squares factors eigenvectors (neg ratio) once

@@ -5,6 +5,7 @@ pub use Rattle.linalg.specs.declared.vector3.Vector3.{Vector3}
 pub use Rattle.frames.specs.declared.squared_edges.SquaredEdges.{SquaredEdges}
 pub use Rattle.polynomial.specs.declared.Roots.{Roots}
 pub use Rattle.orderings.specs.declared.angles.Factors.{Factors}
+pub use Rattle.depths.specs.declared.candidates.Candidate.{Candidate}
 pub use Rattle.depths.specs.declared.candidates.Candidates.{Candidates}
 pub use Rattle.depths.specs.declared.candidates.Depths.{Depths}
 pub use Rattle.depths.specs.declared.candidates.Depths.the-variants.{At, Nowhere}

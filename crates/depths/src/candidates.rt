@@ -1,4 +1,5 @@
-// The depth candidates of solve_ordered (lambdatwist.rs): four slots and a count.
+// The depth candidates of solve_ordered (lambdatwist.rs): four slots and a count. Each has the mark
+// of document 02, §8.
 ghost use mathlib.Core.Path.{_≡_};
 ghost use Rattle.depths.specs.DepthSlots.{noCandidates};
 ghost use Rattle.depths.specs.Pushed.{pushed};
@@ -10,30 +11,47 @@ pub enum Depths {
     Nowhere,
 }
 
+// Three depths, and whether the pair of eigenvalues or of depth ratios that they came from was
+// lifted.
+pub struct Candidate {
+    pub depths: Vector3,
+    pub lifted: bool,
+}
+
+// `lifted` says it of the eigenvalues, which all the candidates came from.
 pub struct Candidates {
+    pub lifted: bool,
     pub count: usize,
-    pub depths: [Vector3; 4],
+    pub slots: [Candidate; 4],
 }
 
 impl Candidates {
-    pub fn none() -> Self
-        ensures { λ r. ⌜ r ≡ noCandidates ⌝ }
+    pub fn none(lifted: bool) -> Self
+        ensures { λ r. ⌜ r ≡ noCandidates lifted ⌝ }
     {
-        let zero = Vector3::zeros();
+        let empty = Candidate {
+            depths: Vector3::zeros(),
+            lifted: false,
+        };
         Self {
+            lifted,
             count: 0,
-            depths: [zero; 4],
+            slots: [empty; 4],
         }
     }
 
-    // The depths appended where there are some and there is room.
-    pub fn push(mut self, depths: Depths) -> Self
-        ensures { λ r. ⌜ r ≡ pushed self depths ⌝ }
+    // The depths appended where there are some and there is room; `lifted` says it of the pair of
+    // depth ratios.
+    pub fn push(mut self, depths: Depths, lifted: bool) -> Self
+        ensures { λ r. ⌜ r ≡ pushed self depths lifted ⌝ }
     {
         if let Depths::At(some) = depths {
             let at = self.count;
             if at < 4 {
-                self.depths[at] = some;
+                self.slots[at] = Candidate {
+                    depths: some,
+                    lifted: self.lifted | lifted,
+                };
                 self.count = at + 1;
             }
         }

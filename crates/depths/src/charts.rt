@@ -1,8 +1,9 @@
 // The two charts of solve_ordered (lambdatwist.rs): from the null vector of one sign to at most two
 // depth candidates, one for each root of the chart's quadratic. Where the quadratic refuses, only
 // that sign's turn ends. No chart takes the candidates found before it, so that none waits for
-// another.
+// another. Whether the pair of roots was lifted is handed on (document 02, §8).
 ghost use mathlib.Core.Path.{_≡_};
+ghost use mathlib.Core.Bool.{Bool};
 ghost use Rattle.depths.specs.DepthSlots.{pushIfPositive};
 ghost use Rattle.depths.specs.Pushed.{pushed, pushedBoth};
 ghost use Rattle.depths.specs.Types.{Candidates};
@@ -15,7 +16,8 @@ use ieee754::is_finite::is_finite;
 use ieee754::sqrt::sqrt;
 use linalg::vector3::Vector3;
 use orderings::angles::Factors;
-use polynomial::Roots;
+use polynomial::pair::RootPair;
+use polynomial::pair::pair_of;
 use polynomial::quadratic::quadratic_real_monic;
 
 // Whether a value is a zero, or not finite.
@@ -25,8 +27,9 @@ pub fn no_divisor(denominator: f64) -> bool
     (denominator == 0.0) | !is_finite(denominator)
 }
 
-// What a chart gives for the two roots of its quadratic.
+// What a chart gives for the two roots of its quadratic, and whether these were lifted.
 pub struct ChartDepths {
+    pub lifted: bool,
     pub first: Depths,
     pub second: Depths,
 }
@@ -35,6 +38,7 @@ fn nothing() -> ChartDepths
     ensures { λ r. ⌜ ((found : Candidates) → pushedBoth found r ≡ found) ⌝ }
 {
     ChartDepths {
+        lifted: false,
         first: Depths::Nowhere,
         second: Depths::Nowhere,
     }
@@ -43,7 +47,9 @@ fn nothing() -> ChartDepths
 // The depths, where `depth`, one of them, is above zero: the first half of the Rust's test; `push`
 // asks for room.
 fn if_positive(depth: f64, depths: Vector3) -> Depths
-    ensures { λ r. ⌜ ((found : Candidates) → pushed found r ≡ pushIfPositive found depth depths) ⌝ }
+    ensures { λ r.
+        ⌜ ((found : Candidates) (lifted : Bool) →
+        pushed found r lifted ≡ pushIfPositive found depth depths lifted) ⌝ }
 {
     if depth > 0.0 {
         return Depths::At(depths);
@@ -59,8 +65,9 @@ pub fn first_chart_depths(
     tau: f64,
 ) -> Depths
     ensures { λ r.
-        ⌜ ((found : Candidates) →
-        pushed found r ≡ firstChartDepths squares factors «null_vector» found tau .value) ⌝ }
+        ⌜ ((found : Candidates) (lifted : Bool) →
+        pushed found r lifted
+        ≡ firstChartDepths squares factors «null_vector» lifted found tau .value) ⌝ }
 {
     let u0 = null_vector.x;
     let u1 = null_vector.y;
@@ -99,10 +106,12 @@ pub fn first_chart(squares: SquaredEdges, factors: Factors, null_vector: Vector3
     let quadratic_b = (2.0 * (a12 - a01) * u0 * u2 + a01 * b12 * u0 * u1 - a12 * b01 * u1 * u2)
         / denominator;
     let quadratic_c = ((a12 - a01) * u0 * u0 + a12 * u1 * u1 - a12 * b01 * u0 * u1) / denominator;
-    let Roots::Two(first, second) = quadratic_real_monic(quadratic_b, quadratic_c) else {
+    let roots = quadratic_real_monic(quadratic_b, quadratic_c);
+    let RootPair::Present(first, second, lifted) = pair_of(roots) else {
         return nothing();
     };
     ChartDepths {
+        lifted,
         first: first_chart_depths(squares, factors, null_vector, first),
         second: first_chart_depths(squares, factors, null_vector, second),
     }
@@ -117,8 +126,9 @@ pub fn second_chart_depths(
     tau: f64,
 ) -> Depths
     ensures { λ r.
-        ⌜ ((found : Candidates) →
-        pushed found r ≡ secondChartDepths squares factors w0 w1 found tau .value) ⌝ }
+        ⌜ ((found : Candidates) (lifted : Bool) →
+        pushed found r lifted
+        ≡ secondChartDepths squares factors w0 w1 lifted found tau .value) ⌝ }
 {
     let depth_denominator = tau * (factors.b12 + tau) + 1.0;
     if (tau <= 0.0) | (depth_denominator <= 0.0) {
@@ -151,10 +161,12 @@ pub fn weight_chart(squares: SquaredEdges, factors: Factors, w0: f64, w1: f64) -
     }
     let quadratic_b = (a02 * b01 * w1 - a01 * b02 * w0 - 2.0 * w0 * w1 * (a01 - a02)) / denominator;
     let quadratic_c = ((a02 - a01) * w0 * w0 + a02 * b01 * w0 + a02) / denominator;
-    let Roots::Two(first, second) = quadratic_real_monic(quadratic_b, quadratic_c) else {
+    let roots = quadratic_real_monic(quadratic_b, quadratic_c);
+    let RootPair::Present(first, second, lifted) = pair_of(roots) else {
         return nothing();
     };
     ChartDepths {
+        lifted,
         first: second_chart_depths(squares, factors, w0, w1, first),
         second: second_chart_depths(squares, factors, w0, w1, second),
     }

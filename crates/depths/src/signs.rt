@@ -34,25 +34,28 @@ pub fn sign_turn(
 fn push_both(found: Candidates, both: ChartDepths) -> Candidates
     ensures { λ r. ⌜ r ≡ pushedBoth found both ⌝ }
 {
+    let lifted = both.lifted;
     let first = both.first;
     let second = both.second;
-    found.push(first).push(second)
+    found.push(first, lifted).push(second, lifted)
 }
 
+// `lifted` says it of the eigenvalues.
 pub fn candidates(
     squares: SquaredEdges,
     factors: Factors,
     first_column: Vector3,
     second_column: Vector3,
     ratio: f64,
+    lifted: bool,
 ) -> Candidates
     ensures { λ r.
         ⌜ ((eigenvectors : Matrix3) →
         column0 eigenvectors ≡ «first_column» →
         column1 eigenvectors ≡ «second_column» →
-        r ≡ candidates squares factors eigenvectors ratio .value) ⌝ }
+        r ≡ candidates squares factors eigenvectors ratio lifted .value) ⌝ }
 {
     let plus = sign_turn(squares, factors, first_column, second_column, ratio);
     let minus = sign_turn(squares, factors, first_column, second_column, -ratio);
-    push_both(push_both(Candidates::none(), plus), minus)
+    push_both(push_both(Candidates::none(lifted), plus), minus)
 }

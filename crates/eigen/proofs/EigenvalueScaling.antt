@@ -1,7 +1,7 @@
--- The eigenvalues are at degree 2: the quadratic of which they are roots has its coefficients at 2
--- and 4. Assumes nothing.
+-- The eigenvalues are at degree 2, lifted in both runs or in neither: the quadratic of which they
+-- are roots has its coefficients at 2 and 4. Assumes nothing.
 use mathlib.Core.Path.{ap₂}
-use mathlib.Core.Bool.{_||_}
+use mathlib.Core.Bool.{Bool, _||_}
 use lib.IntN.{ℤ, pos}
 use lib.Ieee.{Float}
 use Rattle.ieee754.specs.Traced.{Traced}
@@ -17,39 +17,43 @@ use Rattle.eigen.specs.EigenPair.{eigenvaluePair}
 use Rattle.eigen.specs.Types.{Matrix3, Eigenvalues, Pair, NoPair}
 
 pub data AtEigenvalues (k : ℤ) : Eigenvalues → Eigenvalues → Type 0 where
-  pair-at : {x x' y y' : Float}
+  pair-at : {x x' y y' : Float} (lifted : Bool)
       → At k (pos 2) x x'
       → At k (pos 2) y y'
-      → AtEigenvalues k (Pair x y) (Pair x' y')
+      → AtEigenvalues k (Pair x y lifted) (Pair x' y' lifted)
   no-pair : AtEigenvalues k NoPair NoPair
 
 -- what follows the eigenvalues, from those of degree 2, in any relation of the two runs
 module _ {A : Type 0} {R : A → A → Type 0} {none none' : Traced A} where
-  pub withEigenvalues-scales : {k : ℤ} {e e' : Eigenvalues} {f f' : Float → Float → Traced A}
+  pub withEigenvalues-scales : {k : ℤ} {e e' : Eigenvalues}
+      {f f' : Float → Float → Bool → Traced A}
       → AtEigenvalues k e e'
       → Both R none none'
-      → ((x x' y y' : Float) → At k (pos 2) x x' → At k (pos 2) y y' → Both R (f x y) (f' x' y'))
+      → ((x x' y y' : Float) (lifted : Bool) → At k (pos 2) x x' → At k (pos 2) y y' →
+      Both R (f x y lifted) (f' x' y' lifted))
       → Both R (withEigenvalues e none f) (withEigenvalues e' none' f')
-  withEigenvalues-scales (pair-at {x} {x'} {y} {y'} h g) none next = next x x' y y' h g
+  withEigenvalues-scales (pair-at {x} {x'} {y} {y'} lifted h g) none next =
+      next x x' y y' lifted h g
   withEigenvalues-scales no-pair none next = none
 
 module _ {k : ℤ} where
-  nonzeroPair-at : {x x' y y' : Float}
+  nonzeroPair-at : {x x' y y' : Float} (lifted : Bool)
       → At k (pos 2) x x'
       → At k (pos 2) y y'
-      → AtEigenvalues k (nonzeroPair x y) (nonzeroPair x' y')
+      → AtEigenvalues k (nonzeroPair x y lifted) (nonzeroPair x' y' lifted)
   unfolding nonzeroPair
-  nonzeroPair-at x y =
-      choose (AtEigenvalues k) (ap₂ _||_ (eq-same x null) (eq-same y null)) no-pair (pair-at x y)
+  nonzeroPair-at lifted x y =
+      choose (AtEigenvalues k) (ap₂ _||_ (eq-same x null) (eq-same y null)) no-pair
+      (pair-at lifted x y)
 
-  byMagnitude-at : {x x' y y' : Float}
+  byMagnitude-at : {x x' y y' : Float} (lifted : Bool)
       → At k (pos 2) x x'
       → At k (pos 2) y y'
-      → AtEigenvalues k (byMagnitude x y) (byMagnitude x' y')
+      → AtEigenvalues k (byMagnitude x y lifted) (byMagnitude x' y' lifted)
   unfolding byMagnitude
-  byMagnitude-at x y =
-      choose (AtEigenvalues k) (lt-same (abs-at x) (abs-at y)) (nonzeroPair-at y x)
-      (nonzeroPair-at x y)
+  byMagnitude-at lifted x y =
+      choose (AtEigenvalues k) (lt-same (abs-at x) (abs-at y)) (nonzeroPair-at lifted y x)
+      (nonzeroPair-at lifted x y)
 
   module _ {m m' : Matrix3} {s s' : Float} (M : AtMatrix k (pos 2) m m')
       (S : At k (pos 4) s s') where
@@ -66,4 +70,4 @@ module _ {k : ℤ} where
         pairCoefficient-scales >>= λ _ _ pairTerm.
         quadratic-scales traceCoefficient pairTerm >>= λ _ _ roots.
         withPair-scales roots (pure no-pair)
-        (λ _ _ _ _ first second. pure (byMagnitude-at first second))
+        (λ _ _ _ _ lifted first second. pure (byMagnitude-at lifted first second))

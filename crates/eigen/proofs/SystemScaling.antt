@@ -1,7 +1,7 @@
--- The eigensystem: its eigenvectors are equal in the two runs and its eigenvalues at degree 2, or
--- neither run has one. Assumes nothing.
+-- The eigensystem: its eigenvectors are equal in the two runs, its eigenvalues at degree 2 and
+-- lifted in both or in neither, or neither run has one. Assumes nothing.
 use mathlib.Core.Path.{ap}
-use mathlib.Core.Bool.{not}
+use mathlib.Core.Bool.{Bool, not}
 use lib.IntN.{ℤ, pos}
 use lib.Ieee.{Float}
 use Rattle.ieee754.specs.Traced.{Traced}
@@ -17,36 +17,39 @@ use Rattle.eigen.proofs.EigenvectorScaling.{precompute-scales, eigenvec
 use Rattle.eigen.proofs.EigenvalueScaling.{withEigenvalues-scales, eigenvaluePair-scales}
 
 pub data AtSystem (k : ℤ) : Eigensystem → Eigensystem → Type 0 where
-  found-at : (m : Matrix3) {v v' : Vector3}
+  found-at : (m : Matrix3) {v v' : Vector3} (lifted : Bool)
       → AtVector k (pos 2) v v'
-      → AtSystem k (Found m v) (Found m v')
+      → AtSystem k (Found m v lifted) (Found m v' lifted)
   not-found : AtSystem k NotFound NotFound
 
 -- what follows a system, in any relation of the two runs
 module _ {A : Type 0} {R : A → A → Type 0} {k : ℤ} {none none' : Traced A} where
-  pub withSystem-scales : {s s' : Eigensystem} {f f' : Matrix3 → Vector3 → Traced A}
+  pub withSystem-scales : {s s' : Eigensystem} {f f' : Matrix3 → Vector3 → Bool → Traced A}
       → AtSystem k s s'
       → Both R none none'
-      → ((m : Matrix3) (v v' : Vector3) → AtVector k (pos 2) v v' → Both R (f m v) (f' m v'))
+      → ((m : Matrix3) (v v' : Vector3) (lifted : Bool) → AtVector k (pos 2) v v' →
+      Both R (f m v lifted) (f' m v' lifted))
       → Both R (withSystem s none f) (withSystem s' none' f')
-  withSystem-scales (found-at m {v} {v'} h) none next = next m v v' h
+  withSystem-scales (found-at m {v} {v'} lifted h) none next = next m v v' lifted h
   withSystem-scales not-found none next = none
 
 module _ {k : ℤ} where
   module _ {m m' : Matrix3} (M : AtMatrix k (pos 2) m m') where
-    systemOfPair-scales : (zero : Vector3) {s s' x x' y y' : Float}
+    systemOfPair-scales : (zero : Vector3) {s s' x x' y y' : Float} (lifted : Bool)
         → At k (pos 4) s s'
         → At k (pos 2) x x'
         → At k (pos 2) y y'
-        → Both (AtSystem k) (systemOfPair m zero s x y) (systemOfPair m' zero s' x' y')
+        → Both (AtSystem k)
+        (systemOfPair m zero s x y lifted)
+        (systemOfPair m' zero s' x' y' lifted)
     unfolding systemOfPair
-    systemOfPair-scales zero square firstValue secondValue =
+    systemOfPair-scales zero lifted square firstValue secondValue =
         precompute-scales M square >>= λ _ _ p.
         eigenvectorOf-same M p firstValue >>≡ λ first.
         withVector-scales first (pure not-found) (λ column0.
         eigenvectorOf-same M p secondValue >>≡ λ second.
         withVector-scales second (pure not-found) (λ column1.
-        pure (found-at (fromColumns column0 column1 zero)
+        pure (found-at (fromColumns column0 column1 zero) lifted
         (record { x = firstValue; y = secondValue; z = null }))))
 
     pub eigWithKnownZero-scales : Both (AtSystem k) (eigWithKnownZero m) (eigWithKnownZero m')
@@ -58,5 +61,5 @@ module _ {k : ℤ} where
         withVector-scales known (pure not-found) (λ zero.
         ! (M .m01) ⊗ ! (M .m01) >>= λ _ _ square.
         eigenvaluePair-scales M square >>= λ _ _ pair.
-        withEigenvalues-scales pair (pure not-found) (λ _ _ _ _ first second.
-        systemOfPair-scales zero square first second)))
+        withEigenvalues-scales pair (pure not-found) (λ _ _ _ _ lifted first second.
+        systemOfPair-scales zero lifted square first second)))

@@ -1,23 +1,24 @@
 -- The two eigenvalues that are not known: the second part of `eig_with_known_zero`
 -- (lambdatwist.rs). They are the roots of a quadratic, the greater in magnitude first; a
--- quadratic's refusal ends the solve.
-use mathlib.Core.Bool.{_||_}
+-- quadratic's refusal ends the solve. Whether the pair was lifted is handed on (document 02, §8).
+use mathlib.Core.Bool.{Bool, _||_}
 use lib.Ieee.{Float, lt, eq}
 use Rattle.ieee754.specs.Literal.{plusZero}
 use Rattle.ieee754.specs.Magnitude.{abs}
 use Rattle.ieee754.specs.Traced.{Traced, pure, _>>=_, if_then_else_, _⊗_, _⊕_, _⊖_, !_, ⊝_}
 use Rattle.linalg.specs.Matrices.{trace}
-use Rattle.polynomial.specs.Answer.{withPair}
+use Rattle.polynomial.specs.Answer.{pairOf, withPair}
 use Rattle.polynomial.specs.Quadratic.{quadraticRealMonic}
 use Rattle.eigen.specs.Types.{Matrix3, Eigenvalues, Pair, NoPair}
 
--- ---- what follows the eigenvalues: what `k` makes of the two, and `none` where there is no pair
+-- ---- what follows the eigenvalues: what `k` makes of the two and of whether they were lifted, and
+--      `none` where there is no pair
 abbrev pub withEigenvalues : {A : Type 0}
     → Eigenvalues
     → Traced A
-    → (Float → Float → Traced A)
+    → (Float → Float → Bool → Traced A)
     → Traced A
-withEigenvalues (Pair firstValue secondValue) none k = k firstValue secondValue
+withEigenvalues (Pair firstValue secondValue lifted) none k = k firstValue secondValue lifted
 withEigenvalues NoPair none k = none
 
 -- -off_diagonal_squared - matrix[(0, 2)] * matrix[(0, 2)] - matrix[(1, 2)] * matrix[(1, 2)]
@@ -30,17 +31,17 @@ pairCoefficient m offDiagonalSquared =
     ⊕ ! (m .m11) ⊗ ! (m .m22)
 
 -- if first_value == 0.0 || second_value == 0.0 { return None; }
-unfoldable pub nonzeroPair : Float → Float → Eigenvalues
-nonzeroPair firstValue secondValue =
+unfoldable pub nonzeroPair : Float → Float → Bool → Eigenvalues
+nonzeroPair firstValue secondValue lifted =
     if eq firstValue plusZero || eq secondValue plusZero then NoPair
-    else Pair firstValue secondValue
+    else Pair firstValue secondValue lifted
 
 -- if first_value.abs() < second_value.abs() {
 --     std::mem::swap(&mut first_value, &mut second_value); }
-unfoldable pub byMagnitude : Float → Float → Eigenvalues
-byMagnitude firstValue secondValue =
-    if lt (abs firstValue) (abs secondValue) then nonzeroPair secondValue firstValue
-    else nonzeroPair firstValue secondValue
+unfoldable pub byMagnitude : Float → Float → Bool → Eigenvalues
+byMagnitude firstValue secondValue lifted =
+    if lt (abs firstValue) (abs secondValue) then nonzeroPair secondValue firstValue lifted
+    else nonzeroPair firstValue secondValue lifted
 
 unfoldable pub eigenvaluePair : Matrix3 → Float → Traced Eigenvalues
 eigenvaluePair m offDiagonalSquared = do
@@ -48,5 +49,5 @@ eigenvaluePair m offDiagonalSquared = do
   traceCoefficient ← ⊝ trace m
   pairTerm ← pairCoefficient m offDiagonalSquared
   roots ← quadraticRealMonic traceCoefficient pairTerm
-  withPair roots (pure NoPair)
-      (λ firstValue secondValue. pure (byMagnitude firstValue secondValue))
+  withPair (pairOf roots) (pure NoPair)
+      (λ firstValue secondValue lifted. pure (byMagnitude firstValue secondValue lifted))

@@ -1,5 +1,5 @@
 -- What the solve reads of `eig_with_known_zero` (lambdatwist.rs): whether zero has an eigenvector,
--- the first two columns of the eigenvectors, and their eigenvalues.
+-- the first two columns of the eigenvectors, their eigenvalues, and whether these were lifted.
 use mathlib.Core.Bool.{Bool, true, false}
 use Rattle.linalg.specs.Matrices.{column0, column1}
 use Rattle.eigen.specs.Types.{Eigenvector, Normalised, Missing, Eigensystem, Found, NotFound}
@@ -10,6 +10,6 @@ hasVector (Normalised v) = true
 hasVector Missing = false
 
 abbrev pub pairsOf : Eigensystem → Eigenpairs
-pairsOf (Found eigenvectors eigenvalues) =
-    Both (column0 eigenvectors) (column1 eigenvectors) (eigenvalues .x) (eigenvalues .y)
+pairsOf (Found eigenvectors eigenvalues lifted) =
+    Both (column0 eigenvectors) (column1 eigenvectors) (eigenvalues .x) (eigenvalues .y) lifted
 pairsOf NotFound = Neither

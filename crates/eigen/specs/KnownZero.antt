@@ -1,6 +1,7 @@
 -- `eig_with_known_zero` of lambdatwist.rs: the eigenvectors, by columns, and the eigenvalues of a
--- symmetric matrix of which zero is an eigenvalue. Each step that stops ends it.
-use mathlib.Core.Bool.{not}
+-- symmetric matrix of which zero is an eigenvalue. Each step that stops ends it. Whether the
+-- eigenvalues were lifted is handed on (document 02, §8).
+use mathlib.Core.Bool.{Bool, not}
 use lib.Ieee.{Float}
 use Rattle.ieee754.specs.Literal.{plusZero}
 use Rattle.ieee754.specs.Traced.{Traced, pure, _>>=_, if_then_else_, _⊗_, !_}
@@ -12,28 +13,29 @@ use Rattle.eigen.specs.EigenPair.{withEigenvalues, eigenvaluePair}
 use Rattle.eigen.specs.EigenvectorOf.{precompute, eigenvectorOf}
 use Rattle.eigen.specs.Types.{Vector3, Matrix3, Eigensystem, Found, NotFound}
 
--- ---- what follows a system: what `k` makes of its eigenvectors and eigenvalues, and `none` where
---      there is none
+-- ---- what follows a system: what `k` makes of its eigenvectors, its eigenvalues and whether these
+--      were lifted, and `none` where there is none
 abbrev pub withSystem : {A : Type 0}
     → Eigensystem
     → Traced A
-    → (Matrix3 → Vector3 → Traced A)
+    → (Matrix3 → Vector3 → Bool → Traced A)
     → Traced A
-withSystem (Found eigenvectors eigenvalues) none k = k eigenvectors eigenvalues
+withSystem (Found eigenvectors eigenvalues lifted) none k = k eigenvectors eigenvalues lifted
 withSystem NotFound none k = none
 
 -- Some((
 --     Matrix3::from_columns(&[eigenvector(first_value)?, eigenvector(second_value)?, zero_vector]),
 --     Vector3::new(first_value, second_value, 0.0)))
-unfoldable pub systemOfPair : Matrix3 → Vector3 → Float → Float → Float → Traced Eigensystem
-systemOfPair m zero offDiagonalSquared firstValue secondValue = do
+unfoldable pub systemOfPair : Matrix3 → Vector3 → Float → Float → Float → Bool
+    → Traced Eigensystem
+systemOfPair m zero offDiagonalSquared firstValue secondValue lifted = do
   p ← precompute m offDiagonalSquared
   first ← eigenvectorOf m p firstValue
   withVector first (pure NotFound) (λ column0. do
     second ← eigenvectorOf m p secondValue
     withVector second (pure NotFound) (λ column1. do
       let eigenvalues : Vector3 = vector firstValue secondValue plusZero
-      pure (Found (fromColumns column0 column1 zero) eigenvalues)))
+      pure (Found (fromColumns column0 column1 zero) eigenvalues lifted)))
 
 unfoldable pub eigWithKnownZero : Matrix3 → Traced Eigensystem
 eigWithKnownZero m =

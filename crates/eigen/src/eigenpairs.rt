@@ -12,9 +12,9 @@ use crate::zero_vector::has_zero_vector;
 use linalg::matrix3::Matrix3;
 use linalg::vector3::Vector3;
 
-// The two vectors, then their values.
+// The two vectors, then their values, and whether these are a lifted pair.
 pub enum Eigenpairs {
-    Both(Vector3, Vector3, f64, f64),
+    Both(Vector3, Vector3, f64, f64, bool),
     Neither,
 }
 
@@ -24,10 +24,11 @@ pub fn eigenpairs_of(
     off_diagonal_squared: f64,
     first_value: f64,
     second_value: f64,
+    lifted: bool,
 ) -> Eigenpairs
     ensures { λ r.
         ⌜ ((zero : Vector3) →
-        r ≡ pairsOf (systemOfPair m zero «off_diagonal_squared» «first_value» «second_value»
+        r ≡ pairsOf (systemOfPair m zero «off_diagonal_squared» «first_value» «second_value» lifted
         .value)) ⌝ }
 {
     let p = precompute(m, off_diagonal_squared);
@@ -37,7 +38,7 @@ pub fn eigenpairs_of(
     let Eigenvector::Normalised(column1) = eigenvector(m, p, second_value) else {
         return Eigenpairs::Neither;
     };
-    Eigenpairs::Both(column0, column1, first_value, second_value)
+    Eigenpairs::Both(column0, column1, first_value, second_value, lifted)
 }
 
 pub fn eigenpairs_with_known_zero(m: Matrix3) -> Eigenpairs
@@ -50,9 +51,11 @@ pub fn eigenpairs_with_known_zero(m: Matrix3) -> Eigenpairs
         return Eigenpairs::Neither;
     }
     let off_diagonal_squared = m.m01 * m.m01;
-    let Eigenvalues::Pair(first_value, second_value) = eigenvalue_pair(m, off_diagonal_squared)
-    else {
+    let Eigenvalues::Pair(first_value, second_value, lifted) = eigenvalue_pair(
+        m,
+        off_diagonal_squared,
+    ) else {
         return Eigenpairs::Neither;
     };
-    eigenpairs_of(m, off_diagonal_squared, first_value, second_value)
+    eigenpairs_of(m, off_diagonal_squared, first_value, second_value, lifted)
 }

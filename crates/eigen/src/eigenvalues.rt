@@ -4,11 +4,13 @@ ghost use Rattle.eigen.specs.EigenPair.{pairCoefficient, nonzeroPair, by
 ghost use Rattle.eigen.specs.EigenPair.{eigenvaluePair};
 use ieee754::abs::abs;
 use linalg::matrix3::Matrix3;
-use polynomial::Roots;
+use polynomial::pair::RootPair;
+use polynomial::pair::pair_of;
 use polynomial::quadratic::quadratic_real_monic;
 
 pub enum Eigenvalues {
-    Pair(f64, f64),
+    // The two, and whether they are a lifted pair.
+    Pair(f64, f64, bool),
     NoPair,
 }
 
@@ -18,23 +20,23 @@ pub fn pair_coefficient(m: Matrix3, off_diagonal_squared: f64) -> f64
     -off_diagonal_squared - m.m02 * m.m02 - m.m12 * m.m12 + m.m00 * (m.m11 + m.m22) + m.m11 * m.m22
 }
 
-pub fn nonzero_pair(first_value: f64, second_value: f64) -> Eigenvalues
-    ensures { λ r. ⌜ r ≡ nonzeroPair «first_value» «second_value» ⌝ }
+pub fn nonzero_pair(first_value: f64, second_value: f64, lifted: bool) -> Eigenvalues
+    ensures { λ r. ⌜ r ≡ nonzeroPair «first_value» «second_value» lifted ⌝ }
 {
     if (first_value == 0.0) | (second_value == 0.0) {
         return Eigenvalues::NoPair;
     }
-    Eigenvalues::Pair(first_value, second_value)
+    Eigenvalues::Pair(first_value, second_value, lifted)
 }
 
 // The greater in magnitude first.
-pub fn by_magnitude(first_value: f64, second_value: f64) -> Eigenvalues
-    ensures { λ r. ⌜ r ≡ byMagnitude «first_value» «second_value» ⌝ }
+pub fn by_magnitude(first_value: f64, second_value: f64, lifted: bool) -> Eigenvalues
+    ensures { λ r. ⌜ r ≡ byMagnitude «first_value» «second_value» lifted ⌝ }
 {
     if abs(first_value) < abs(second_value) {
-        return nonzero_pair(second_value, first_value);
+        return nonzero_pair(second_value, first_value, lifted);
     }
-    nonzero_pair(first_value, second_value)
+    nonzero_pair(first_value, second_value, lifted)
 }
 
 pub fn eigenvalue_pair(m: Matrix3, off_diagonal_squared: f64) -> Eigenvalues
@@ -42,11 +44,9 @@ pub fn eigenvalue_pair(m: Matrix3, off_diagonal_squared: f64) -> Eigenvalues
 {
     let trace_coefficient = -m.trace();
     let pair_coefficient = pair_coefficient(m, off_diagonal_squared);
-    let Roots::Two(first_value, second_value) = quadratic_real_monic(
-        trace_coefficient,
-        pair_coefficient,
-    ) else {
+    let roots = quadratic_real_monic(trace_coefficient, pair_coefficient);
+    let RootPair::Present(first_value, second_value, lifted) = pair_of(roots) else {
         return Eigenvalues::NoPair;
     };
-    by_magnitude(first_value, second_value)
+    by_magnitude(first_value, second_value, lifted)
 }

@@ -13,7 +13,8 @@ use linalg::matrix3::Matrix3;
 use linalg::vector3::Vector3;
 
 pub enum Eigensystem {
-    Found(Matrix3, Vector3),
+    // The eigenvectors, the eigenvalues, and whether the two that were not known are a lifted pair.
+    Found(Matrix3, Vector3, bool),
     NotFound,
 }
 
@@ -24,9 +25,11 @@ pub fn system_of_pair(
     off_diagonal_squared: f64,
     first_value: f64,
     second_value: f64,
+    lifted: bool,
 ) -> Eigensystem
     ensures { λ r.
-        ⌜ r ≡ systemOfPair m zero «off_diagonal_squared» «first_value» «second_value» .value ⌝ }
+        ⌜ r ≡ systemOfPair m zero «off_diagonal_squared» «first_value» «second_value» lifted
+        .value ⌝ }
 {
     let p = precompute(m, off_diagonal_squared);
     let Eigenvector::Normalised(column0) = eigenvector(m, p, first_value) else {
@@ -40,7 +43,11 @@ pub fn system_of_pair(
         y: second_value,
         z: 0.0,
     };
-    Eigensystem::Found(Matrix3::from_columns(column0, column1, zero), eigenvalues)
+    Eigensystem::Found(
+        Matrix3::from_columns(column0, column1, zero),
+        eigenvalues,
+        lifted,
+    )
 }
 
 pub fn eig_with_known_zero(m: Matrix3) -> Eigensystem
@@ -53,9 +60,18 @@ pub fn eig_with_known_zero(m: Matrix3) -> Eigensystem
         return Eigensystem::NotFound;
     };
     let off_diagonal_squared = m.m01 * m.m01;
-    let Eigenvalues::Pair(first_value, second_value) = eigenvalue_pair(m, off_diagonal_squared)
-    else {
+    let Eigenvalues::Pair(first_value, second_value, lifted) = eigenvalue_pair(
+        m,
+        off_diagonal_squared,
+    ) else {
         return Eigensystem::NotFound;
     };
-    system_of_pair(m, zero, off_diagonal_squared, first_value, second_value)
+    system_of_pair(
+        m,
+        zero,
+        off_diagonal_squared,
+        first_value,
+        second_value,
+        lifted,
+    )
 }

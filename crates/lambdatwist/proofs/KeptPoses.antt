@@ -1,6 +1,6 @@
 -- The poses of a solve's candidates are at most four, finite, and each after at most five updates;
--- the slots beyond them hold plus zeros. Assumes nothing.
-use mathlib.Core.Bool.{not}
+-- the slots beyond them hold plus zeros and no mark. Assumes nothing.
+use mathlib.Core.Bool.{Bool, not}
 use mathlib.Core.List.{List, [], _∷_}
 use Prim.Native.Nat.{_≤_}
 use lib.ListN.{take}
@@ -12,38 +12,39 @@ use Rattle.p3p_common.specs.Slots.{empty}
 use Rattle.p3p_common.proofs.SlotLaws.{Kept, empty-kept, pushPose-kept}
 use Rattle.refinement.proofs.FewUpdates.{updates-few}
 use Rattle.lambdatwist.specs.Poses.{allPositive, pushDepths, poseTurn, poseTurns, poses}
-use Rattle.lambdatwist.specs.Types.{Vector3, Matrix3, P3pInput, Measured, Refined, Solutions}
-use Rattle.lambdatwist.specs.Types.{Candidates}
+use Rattle.lambdatwist.specs.Types.{Matrix3, P3pInput, Measured, Refined, Solutions}
+use Rattle.lambdatwist.specs.Types.{Candidate, Candidates}
 
 module _ (input : P3pInput) (measured : Measured) (inverse : Matrix3) where
-  pushDepths-kept : (s : Solutions) (r : Refined)
+  pushDepths-kept : (s : Solutions) (r : Refined) (lifted : Bool)
       → r .updates ≤ 5
       → Kept s
-      → Kept (pushDepths input measured inverse s r .value)
+      → Kept (pushDepths input measured inverse s r lifted .value)
   unfolding pushDepths
-  pushDepths-kept s r h k =
-      pushPose-kept input s _ _ (r .updates) (rotation-finite _ _ (measured .p0)) h k
+  pushDepths-kept s r lifted h k =
+      pushPose-kept input s _ _ (r .updates) lifted (rotation-finite _ _ (measured .p0)) h k
 
-  poseTurn-kept : (s : Solutions) (d : Vector3)
+  poseTurn-kept : (s : Solutions) (c : Candidate)
       → Kept s
-      → Kept (poseTurn input measured inverse s d .value)
+      → Kept (poseTurn input measured inverse s c .value)
   unfolding poseTurn
-  poseTurn-kept s d k =
+  poseTurn-kept s c k =
       let squares = measured .squares in
       let cosines = measured .cosines in
-      let refined = refineDepths d squares cosines 5 .value in
+      let refined = refineDepths (c .depths) squares cosines 5 .value in
       either-way (λ (m : Traced Solutions). Kept (m .value)) (not (allPositive (refined .depths)))
       (λ _. k)
-      (λ _. pushDepths-kept s refined (updates-few squares cosines d 5) k)
+      (λ _.
+      pushDepths-kept s refined (c .lifted) (updates-few squares cosines (c .depths) 5) k)
 
-  poseTurns-kept : (l : List Vector3) (s : Solutions)
+  poseTurns-kept : (l : List Candidate) (s : Solutions)
       → Kept s
       → Kept (poseTurns input measured inverse l s .value)
   unfolding poseTurns
   poseTurns-kept [] s k = k
-  poseTurns-kept (d ∷ l) s k =
-      poseTurns-kept l (poseTurn input measured inverse s d .value) (poseTurn-kept s d k)
+  poseTurns-kept (c ∷ l) s k =
+      poseTurns-kept l (poseTurn input measured inverse s c .value) (poseTurn-kept s c k)
 
   pub poses-kept : (found : Candidates) → Kept (poses input measured inverse found .value)
   unfolding poses
-  poses-kept found = poseTurns-kept (take (found .count) (found .depths)) empty empty-kept
+  poses-kept found = poseTurns-kept (take (found .count) (found .slots)) empty empty-kept

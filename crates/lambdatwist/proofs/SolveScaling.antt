@@ -1,7 +1,8 @@
 -- The solve of two runs whose worlds are at degree 1 and whose bearings are equal: answers alike,
--- with the rotations, counts and refusals equal and the translations at degree 1. Assumes nothing.
+-- with the rotations, counts, marks and refusals equal and the translations at degree 1. Assumes
+-- nothing.
 use mathlib.Core.Path.{_≡_, refl, ap, subst}
-use mathlib.Core.Bool.{not, _&&_}
+use mathlib.Core.Bool.{Bool, not, _&&_}
 use mathlib.Core.List.{Forall₂}
 use Prim.Native.Nat.{ℕ, zero, suc}
 use lib.Dec.{eqb}
@@ -45,6 +46,7 @@ pub record AtAnswer (k : ℤ) (a a' : Answer) : Type 0 where
   pub count : a .count ≡ a' .count
   pub poses : Forall₂ (AtPose k) (a .poses) (a' .poses)
   pub updates : a .updates ≡ a' .updates
+  pub lifted : a .lifted ≡ a' .lifted
 
 module _ {k : ℤ} where
   -- ---- answers
@@ -52,8 +54,13 @@ module _ {k : ℤ} where
       → AtSolutions k s s'
       → AtAnswer k (answered number s) (answered number s')
   unfolding answered
-  answered-at number s =
-      record { refusal = refl; count = s .count; poses = s .poses; updates = s .updates }
+  answered-at number s = record {
+    refusal = refl;
+    count = s .count;
+    poses = s .poses;
+    updates = s .updates;
+    lifted = s .lifted;
+  }
 
   refused-alike : (number : ℕ) → AtAnswer k (refused number) (refused number)
   unfolding refused
@@ -87,12 +94,12 @@ module _ {k : ℤ} where
           (singularMatrix (m' .squares) (m' .factors) g)
       matrix-scales g = rw (← M .factors) (singularMatrix-scales (m .factors) g (M .squares))
 
-      found-scales : (e : Matrix3) (ratio : Float)
+      found-scales : (e : Matrix3) (ratio : Float) (lifted : Bool)
           → Both (AtCandidates k)
-          (candidates (m .squares) (m .factors) e ratio)
-          (candidates (m' .squares) (m' .factors) e ratio)
-      found-scales e ratio =
-          rw (← M .factors) (candidates-scales (m .factors) (M .squares) e ratio)
+          (candidates (m .squares) (m .factors) e ratio lifted)
+          (candidates (m' .squares) (m' .factors) e ratio lifted)
+      found-scales e ratio lifted =
+          rw (← M .factors) (candidates-scales (m .factors) (M .squares) e ratio lifted)
 
       solveRoot-scales : (g : Float)
           → Both (AtAnswer k) (solveRoot input m g) (solveRoot input' m' g)
@@ -100,10 +107,10 @@ module _ {k : ℤ} where
       solveRoot-scales g =
           matrix-scales g >>= λ _ _ matrix.
           eigWithKnownZero-scales matrix >>= λ _ _ system.
-          withSystem-scales system stops (λ eigenvectors _ _ eigenvalues.
+          withSystem-scales system stops (λ eigenvectors _ _ lifted eigenvalues.
           ratioOf-same (eigenvalues .x) (eigenvalues .y) >>≡ λ ratio.
           withRatio-scales ratio stops (λ real.
-          found-scales eigenvectors real >>= λ _ _ found.
+          found-scales eigenvectors real lifted >>= λ _ _ found.
           solveCandidates-scales found))
 
       solveCubic-scales : {c c' : Coefficients}

@@ -24,14 +24,15 @@ use Rattle.orderings.specs.Permutation.{bestPermutation}
 use Rattle.lambdatwist.specs.Types.{World, Bearings, P3pInput, Solutions, Measured}
 use Rattle.lambdatwist.specs.Types.{Coefficients, Candidates, Answer}
 
--- ---- an answer: number 0 with the poses that were kept, or a refusal's number with count 0 and
---      plus zeros
+-- ---- an answer: number 0 with the poses that were kept, or a refusal's number with count 0, plus
+--      zeros and no mark
 unfoldable pub answered : ℕ → Solutions → Answer
 answered number solutions = record {
   refusal = number;
   count = solutions .count;
   poses = solutions .poses;
   updates = solutions .updates;
+  lifted = solutions .lifted;
 }
 
 unfoldable pub refused : ℕ → Answer
@@ -60,10 +61,10 @@ unfoldable pub solveRoot : P3pInput → Measured → Float → Traced Answer
 solveRoot input measured g = do
   matrix ← singularMatrix (measured .squares) (measured .factors) g
   system ← eigWithKnownZero matrix
-  withSystem system stopped (λ eigenvectors eigenvalues. do
+  withSystem system stopped (λ eigenvectors eigenvalues lifted. do
     ratio ← ratioOf (eigenvalues .x) (eigenvalues .y)
     withRatio ratio stopped (λ real. do
-      found ← candidates (measured .squares) (measured .factors) eigenvectors real
+      found ← candidates (measured .squares) (measured .factors) eigenvectors real lifted
       solveCandidates input measured found))
 
 -- let Some(g) = polished_cubic_root(cubic2 / cubic3, cubic1 / cubic3, cubic0 / cubic3) else { .. }

@@ -10,6 +10,7 @@ pub use Rattle.p3p_common.specs.declared.input.P3pInput.{P3pInput}
 pub use Rattle.p3p_common.specs.declared.solutions.Solutions.{Solutions}
 pub use Rattle.orderings.specs.declared.cubic.Coefficients.{Coefficients}
 pub use Rattle.orderings.specs.declared.measured.Measured.{Measured}
+pub use Rattle.depths.specs.declared.candidates.Candidate.{Candidate}
 pub use Rattle.depths.specs.declared.candidates.Candidates.{Candidates}
 pub use Rattle.lambdatwist.specs.declared.slots.Turn.{Turn}
 pub use Rattle.lambdatwist.specs.declared.slots.Turn.the-variants.{Kept, Dropped}

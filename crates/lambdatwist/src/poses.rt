@@ -1,6 +1,7 @@
 // From depth candidates to poses: the end of solve_ordered (lambdatwist.rs). Each candidate is
 // refined, and where its depths are positive a pose is made of it and goes to the gate.
 ghost use mathlib.Core.Path.{_≡_};
+ghost use mathlib.Core.Bool.{Bool};
 ghost use Prim.Native.Nat.{_≤_};
 ghost use Rattle.p3p_common.specs.PushPose.{pushGated};
 ghost use Rattle.lambdatwist.specs.Poses.{allPositive, pushDepths, poseTurn, poses};
@@ -34,9 +35,9 @@ pub fn gated_depths(
     refined: Refined,
 ) -> Gated
     ensures { λ r.
-        ⌜ ((output : Solutions) →
-        pushGated output r (refined .updates)
-        ≡ pushDepths input measured «world_inverse» output refined .value) ⌝ }
+        ⌜ ((output : Solutions) (lifted : Bool) →
+        pushGated output r (refined .updates) lifted
+        ≡ pushDepths input measured «world_inverse» output refined lifted .value) ⌝ }
 {
     let bearings = measured.bearings;
     let depths = refined.depths;
@@ -56,8 +57,10 @@ pub fn pose_turn(
     depths: Vector3,
 ) -> Turn
     ensures { λ r.
-        ⌜ ((output : Solutions) →
-        turned output r ≡ poseTurn input measured «world_inverse» output depths .value) ⌝ }
+        ⌜ ((output : Solutions) (lifted : Bool) →
+        turned output r lifted
+        ≡ poseTurn input measured «world_inverse» output (record { depths = depths; lifted = lifted })
+        .value) ⌝ }
 {
     let squares = measured.squares;
     let cosines = measured.cosines;
@@ -81,20 +84,22 @@ pub(crate) fn poses(
     found: Candidates,
     slots: &mut [[f64; 12]; 4],
     updates: &mut [u32; 4],
+    lifted: &mut [bool; 4],
 ) -> usize
     requires { ⌜ found .count ≤ 4 ⌝ }
-    requires { ⌜ Fresh (now slots) (now updates) ⌝ }
+    requires { ⌜ Fresh (now slots) (now updates) (now lifted) ⌝ }
     ensures { λ count.
-        ⌜ held count (now (slots .exit)) (now (updates .exit))
+        ⌜ held count (now (slots .exit)) (now (updates .exit)) (now (lifted .exit))
         ≡ poses input measured «world_inverse» found .value ⌝ }
 {
     let depth_count = found.count;
-    let depths = found.depths;
+    let candidates = found.slots;
     let mut count = 0;
     let mut at = 0;
     while at < depth_count {
-        let turn = pose_turn(input, measured, world_inverse, depths[at]);
-        count = store(turn, count, slots, updates);
+        let candidate = candidates[at];
+        let turn = pose_turn(input, measured, world_inverse, candidate.depths);
+        count = store(turn, candidate.lifted, count, slots, updates, lifted);
         at += 1;
     }
     count

@@ -1,5 +1,5 @@
-// The slots that a solve fills: for each of four poses its twelve entries, and its updates. Arrays
-// of numbers can be lent to the stages, and a struct of poses cannot; what is lent is not copied
+// The slots that a solve fills: for each of four poses its twelve entries, its updates, and whether a
+// pair of roots that it came from was lifted. Arrays of numbers can be lent to the stages, and a struct of poses cannot; what is lent is not copied
 // from stage to stage.
 ghost use mathlib.Core.Path.{_≡_};
 ghost use Prim.Native.Nat.{_+_, _≤_, _<_};
@@ -44,24 +44,28 @@ pub(crate) fn pose_of(slot: [f64; 12]) -> Pose
     pose_at(&slot, 0)
 }
 
-// The pose of a turn that kept one, stored in the next slot. Returns how many slots are filled
-// then.
+// The pose of a turn that kept one, stored in the next slot with its candidate's mark. Returns how
+// many slots are filled then.
 pub(crate) fn store(
     turn: Turn,
+    mark: bool,
     count: usize,
     slots: &mut [[f64; 12]; 4],
     updates: &mut [u32; 4],
+    lifted: &mut [bool; 4],
 ) -> usize
     requires { ⌜ count < 4 ⌝ }
     ensures { λ r. ⌜ r ≤ count + 1 ⌝ }
     ensures { λ r.
-        ⌜ held r (now (slots .exit)) (now (updates .exit))
-        ≡ turned (held count (now (slots .entry)) (now (updates .entry))) turn ⌝ }
+        ⌜ held r (now (slots .exit)) (now (updates .exit)) (now (lifted .exit))
+        ≡ turned (held count (now (slots .entry)) (now (updates .entry)) (now (lifted .entry))) turn
+        mark ⌝ }
 {
     match turn {
         Turn::Kept(pose, taken) => {
             slots[count] = entries(pose);
             updates[count] = taken;
+            lifted[count] = mark;
             count + 1
         }
         Turn::Dropped => count,
@@ -69,8 +73,13 @@ pub(crate) fn store(
 }
 
 // The solutions that `count` filled slots hold.
-pub(crate) fn held(count: usize, slots: [[f64; 12]; 4], updates: [u32; 4]) -> Solutions
-    ensures { λ r. ⌜ r ≡ held count slots updates ⌝ }
+pub(crate) fn held(
+    count: usize,
+    slots: [[f64; 12]; 4],
+    updates: [u32; 4],
+    lifted: [bool; 4],
+) -> Solutions
+    ensures { λ r. ⌜ r ≡ held count slots updates lifted ⌝ }
 {
     let p0 = pose_of(slots[0]);
     let p1 = pose_of(slots[1]);
@@ -80,5 +89,6 @@ pub(crate) fn held(count: usize, slots: [[f64; 12]; 4], updates: [u32; 4]) -> So
         count,
         poses: [p0, p1, p2, p3],
         updates,
+        lifted,
     }
 }

@@ -33,12 +33,14 @@ use polynomial::Roots;
 use polynomial::cubic::polished_cubic_root;
 
 // `refusal` is 0 where there is a pose, and otherwise 1, 2 or 3, with count 0 and plus zeros in
-// every slot. Slots beyond the count hold plus zeros.
+// every slot. `lifted` says of each pose whether the pair of eigenvalues or of depth ratios that it
+// came from was lifted (document 02, §8). Slots beyond the count hold plus zeros and false.
 pub struct Answer {
     pub refusal: u32,
     pub count: u32,
     pub poses: [Pose; 4],
     pub updates: [u32; 4],
+    pub lifted: [bool; 4],
 }
 
 fn answered(number: u32, solutions: Solutions) -> Answer
@@ -47,11 +49,13 @@ fn answered(number: u32, solutions: Solutions) -> Answer
 {
     let poses = solutions.poses;
     let updates = solutions.updates;
+    let lifted = solutions.lifted;
     Answer {
         refusal: number,
         count: solutions.count as u32,
         poses,
         updates,
+        lifted,
     }
 }
 
@@ -80,11 +84,12 @@ fn solve_candidates(
     found: Candidates,
     slots: &mut [[f64; 12]; 4],
     updates: &mut [u32; 4],
+    lifted: &mut [bool; 4],
 ) -> usize
     requires { ⌜ found .count ≤ 4 ⌝ }
-    requires { ⌜ Fresh (now slots) (now updates) ⌝ }
+    requires { ⌜ Fresh (now slots) (now updates) (now lifted) ⌝ }
     ensures { λ count.
-        ⌜ Answers count (now (slots .exit)) (now (updates .exit))
+        ⌜ Answers count (now (slots .exit)) (now (updates .exit)) (now (lifted .exit))
         (Solve.solveCandidates input measured found .value) ⌝ }
 {
     let d01 = measured.d01;
@@ -92,7 +97,15 @@ fn solve_candidates(
     let Basis::Inverse(world_inverse) = world_basis_inverse(d01, d02) else {
         return 0;
     };
-    poses(input, measured, world_inverse, found, slots, updates)
+    poses(
+        input,
+        measured,
+        world_inverse,
+        found,
+        slots,
+        updates,
+        lifted,
+    )
 }
 
 fn solve_root(
@@ -101,25 +114,25 @@ fn solve_root(
     g: f64,
     slots: &mut [[f64; 12]; 4],
     updates: &mut [u32; 4],
+    lifted: &mut [bool; 4],
 ) -> usize
-    requires { ⌜ Fresh (now slots) (now updates) ⌝ }
+    requires { ⌜ Fresh (now slots) (now updates) (now lifted) ⌝ }
     ensures { λ count.
-        ⌜ Answers count (now (slots .exit)) (now (updates .exit))
+        ⌜ Answers count (now (slots .exit)) (now (updates .exit)) (now (lifted .exit))
         (Solve.solveRoot input measured g .value) ⌝ }
 {
     let squares = measured.squares;
     let factors = measured.factors;
     let matrix = singular_matrix(squares, factors, g);
-    let Eigenpairs::Both(column0, column1, first_value, second_value) = eigenpairs_with_known_zero(
-        matrix,
-    ) else {
+    let Eigenpairs::Both(column0, column1, first_value, second_value, mark) =
+        eigenpairs_with_known_zero(matrix) else {
         return 0;
     };
     let Ratio::Real(ratio) = ratio_of(first_value, second_value) else {
         return 0;
     };
-    let found = candidates(squares, factors, column0, column1, ratio);
-    solve_candidates(input, measured, found, slots, updates)
+    let found = candidates(squares, factors, column0, column1, ratio, mark);
+    solve_candidates(input, measured, found, slots, updates, lifted)
 }
 
 fn solve_cubic(
@@ -128,10 +141,11 @@ fn solve_cubic(
     c: Coefficients,
     slots: &mut [[f64; 12]; 4],
     updates: &mut [u32; 4],
+    lifted: &mut [bool; 4],
 ) -> usize
-    requires { ⌜ Fresh (now slots) (now updates) ⌝ }
+    requires { ⌜ Fresh (now slots) (now updates) (now lifted) ⌝ }
     ensures { λ count.
-        ⌜ Answers count (now (slots .exit)) (now (updates .exit))
+        ⌜ Answers count (now (slots .exit)) (now (updates .exit)) (now (lifted .exit))
         (Solve.solveCubic input measured c .value) ⌝ }
 {
     let cubic3 = c.cubic3;
@@ -141,7 +155,7 @@ fn solve_cubic(
     let Roots::One(g) = polished_cubic_root(c2, c1, c0) else {
         return 0;
     };
-    solve_root(input, measured, g, slots, updates)
+    solve_root(input, measured, g, slots, updates, lifted)
 }
 
 // ---- the cycle
@@ -161,8 +175,16 @@ fn solve_ordered(input: P3pInput, world: World, bearings: Bearings, retries: u32
     }
     let mut slots = [[0.0; 12]; 4];
     let mut updates = [0u32; 4];
-    let count = solve_cubic(input, measured, cubic, &mut slots, &mut updates);
-    if_kept(held(count, slots, updates))
+    let mut lifted = [false; 4];
+    let count = solve_cubic(
+        input,
+        measured,
+        cubic,
+        &mut slots,
+        &mut updates,
+        &mut lifted,
+    );
+    if_kept(held(count, slots, updates, lifted))
 }
 
 fn solve_best_conditioned_permutation(input: P3pInput, retries: u32) -> Answer
@@ -187,8 +209,9 @@ fn solve_given(input: P3pInput, measured: Measured, c: Coefficients) -> Answer
 {
     let mut slots = [[0.0; 12]; 4];
     let mut updates = [0u32; 4];
-    let count = solve_cubic(input, measured, c, &mut slots, &mut updates);
-    if_kept(held(count, slots, updates))
+    let mut lifted = [false; 4];
+    let count = solve_cubic(input, measured, c, &mut slots, &mut updates, &mut lifted);
+    if_kept(held(count, slots, updates, lifted))
 }
 
 // The poses of three world points and the bearings to them.

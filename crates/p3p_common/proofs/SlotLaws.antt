@@ -1,6 +1,7 @@
 -- The slots of a solve hold what specs/PoseSlots.antt says: at the start, and after a pose is
 -- pushed that took at most five updates. Assumes nothing.
 use mathlib.Core.Path.{_≡_, refl, _∙_, subst⁻¹}
+use mathlib.Core.Bool.{Bool, false}
 use mathlib.Core.Logic.{_⊎_, inl, inr}
 use mathlib.Core.List.{List, [], _∷_}
 use Prim.Native.Nat.{ℕ, _+_, _≤_, _<_}
@@ -51,7 +52,7 @@ module _ {A : Type 0} where
 
 -- ---- the solutions
 abbrev pub Kept : Solutions → Type 0
-Kept s = PoseSlots (s .count) (s .poses) (s .updates)
+Kept s = PoseSlots (s .count) (s .poses) (s .updates) (s .lifted)
 
 pub empty-kept : Kept empty
 unfolding empty
@@ -59,34 +60,43 @@ empty-kept = record {
   few = omega arith;
   poses = none-filled FinitePose zeroPose;
   updates = none-filled (λ (n : ℕ). n ≤ 5) 0;
+  lifted = none-filled (λ (b : Bool). Unit {0}) false;
 }
 
-push-kept : (s : Solutions) (p : Pose) (u : ℕ) → FinitePose p → u ≤ 5 → Kept s → Kept (push s p u)
+push-kept : (s : Solutions) (p : Pose) (u : ℕ) (lifted : Bool)
+    → FinitePose p
+    → u ≤ 5
+    → Kept s
+    → Kept (push s p u lifted)
 unfolding push
-push-kept s p u f h k =
+push-kept s p u lifted f h k =
     either-way Kept (ltb (s .count) 4)
     (λ t. let room : s .count < 4 = ltb→lt (s .count) 4 t in record {
       few = omega arith;
       poses = next-filled FinitePose zeroPose (s .count) (s .poses) p room (k .poses) f;
       updates = next-filled (λ (n : ℕ). n ≤ 5) 0 (s .count) (s .updates) u room (k .updates) h;
+      lifted =
+          next-filled (λ (b : Bool). Unit {0}) false (s .count) (s .lifted) lifted room (k .lifted)
+          tt;
     })
     (λ _. k)
 
-pushGated-kept : (s : Solutions) (g : Gated) (u : ℕ)
+pushGated-kept : (s : Solutions) (g : Gated) (u : ℕ) (lifted : Bool)
     → FiniteGated g
     → u ≤ 5
     → Kept s
-    → Kept (pushGated s g u)
+    → Kept (pushGated s g u lifted)
 unfolding pushGated
-pushGated-kept s (Passed p) u f h k = push-kept s p u f h k
-pushGated-kept s (Projected p) u f h k = push-kept s p u f h k
-pushGated-kept s Dropped u f h k = k
+pushGated-kept s (Passed p) u lifted f h k = push-kept s p u lifted f h k
+pushGated-kept s (Projected p) u lifted f h k = push-kept s p u lifted f h k
+pushGated-kept s Dropped u lifted f h k = k
 
 pub pushPose-kept : (input : P3pInput) (s : Solutions) (r : Matrix3) (t : Vector3) (u : ℕ)
+    (lifted : Bool)
     → (T (allFinite t) → T (matFinite r))
     → u ≤ 5
     → Kept s
-    → Kept (pushPose input s r t u .value)
+    → Kept (pushPose input s r t u lifted .value)
 unfolding pushPose
-pushPose-kept input s r t u whole h k =
-    pushGated-kept s (gate input r t .value) u (gate-finite input r t whole) h k
+pushPose-kept input s r t u lifted whole h k =
+    pushGated-kept s (gate input r t .value) u lifted (gate-finite input r t whole) h k

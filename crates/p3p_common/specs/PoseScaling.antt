@@ -1,5 +1,5 @@
--- What the scaling rule says of two runs' inputs, bases, gates and solutions: bearings and counts
--- equal, the inverse basis's rows at their degrees.
+-- What the scaling rule says of two runs' inputs, bases, gates and solutions: bearings, counts and
+-- marks equal, the inverse basis's rows at their degrees.
 use mathlib.Core.Path.{_≡_}
 use mathlib.Core.List.{Forall₂}
 use lib.IntN.{ℤ, negsuc}
@@ -31,3 +31,4 @@ pub record AtSolutions (k : ℤ) (s s' : Solutions) : Type 0 where
   pub count : s .count ≡ s' .count
   pub poses : Forall₂ (AtPose k) (s .poses) (s' .poses)
   pub updates : s .updates ≡ s' .updates
+  pub lifted : s .lifted ≡ s' .lifted

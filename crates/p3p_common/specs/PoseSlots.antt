@@ -1,8 +1,10 @@
 -- What the four slots of a solve hold, at its start and after each push: at most four poses, each
 -- of twelve finite numbers and after at most five depth updates, and in the slots beyond the count
--- plus zeros and 0. Demand 1 of the mission is stated with it (document 01: "A pose is nine
--- rotation entries and three translation entries, all finite").
+-- plus zeros, 0 and no mark. Demand 1 of the mission is stated with it (document 01: "A pose is
+-- nine rotation entries and three translation entries, all finite"; document 02, §8: "empty slots:
+-- not set").
 use mathlib.Core.Path.{_≡_}
+use mathlib.Core.Bool.{Bool, false}
 use mathlib.Core.List.{List}
 use Prim.Native.Nat.{ℕ, _≤_, _<_}
 use lib.Dec.{T}
@@ -24,7 +26,10 @@ pub record FinitePose (pose : Pose) : Type 0 where
   pub rotation : T (matFinite (pose .rotation))
   pub translation : T (allFinite (pose .translation))
 
-pub record PoseSlots (count : ℕ) (slots : List Pose) (counts : List ℕ) : Type 0 where
+-- a filled slot's mark is either
+pub record PoseSlots (count : ℕ) (slots : List Pose) (counts : List ℕ) (marks : List Bool)
+    : Type 0 where
   pub few : count ≤ 4
   pub poses : Filled FinitePose zeroPose count slots
   pub updates : Filled (λ (n : ℕ). n ≤ 5) 0 count counts
+  pub lifted : Filled (λ (b : Bool). Unit {0}) false count marks

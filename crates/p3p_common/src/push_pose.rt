@@ -16,12 +16,14 @@ pub fn push_pose(
     raw_rotation: Matrix3,
     translation: Vector3,
     updates: u32,
+    lifted: bool,
 ) -> Solutions
-    ensures { λ r. ⌜ r ≡ pushPose input output «raw_rotation» translation updates .value ⌝ }
+    ensures { λ r.
+        ⌜ r ≡ pushPose input output «raw_rotation» translation updates lifted .value ⌝ }
 {
     match gate(input, raw_rotation, translation) {
-        Gated::Passed(pose) => output.push(pose, updates),
-        Gated::Projected(pose) => output.push(pose, updates),
+        Gated::Passed(pose) => output.push(pose, updates, lifted),
+        Gated::Projected(pose) => output.push(pose, updates, lifted),
         Gated::Dropped => output,
     }
 }

@@ -6,11 +6,11 @@ use Rattle.depths.proofs.charts.if_positive.Tie as tie
 
 returns : tie.Need-returns
 unfolding pushIfPositive pushed
-returns c found = rw (c .if1 .taken)
+returns c found lifted = rw (c .if1 .taken)
 
 returns-2 : tie.Need-returns-2
 unfolding pushIfPositive pushed
-returns-2 c found = rw (c .if1 .left)
+returns-2 c found lifted = rw (c .if1 .left)
 
 pub if-positive-spec : {M : Type 1} → statement M
 if-positive-spec = tie.close (tie.spec returns returns-2)

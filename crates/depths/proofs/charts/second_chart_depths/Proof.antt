@@ -7,13 +7,13 @@ use Rattle.depths.proofs.charts.second_chart_depths.Tie as tie
 
 returns : tie.Need-returns
 unfolding pushed secondChartDepths
-returns c found = rw (c .if1 .taken)
+returns c found lifted = rw (c .if1 .taken)
 
 returns-2 : tie.Need-returns-2
 unfolding secondChartDepths
-returns-2 c found =
+returns-2 c found lifted =
     let above = c .before .before .before in
-    rw (above .if1 .left, ← c .before .sqrt .ensures) (c .if-positive .ensures found)
+    rw (above .if1 .left, ← c .before .sqrt .ensures) (c .if-positive .ensures found lifted)
 
 pub second-chart-depths-spec : {M : Type 1} → statement M
 second-chart-depths-spec =

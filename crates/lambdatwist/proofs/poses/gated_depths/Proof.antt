@@ -7,7 +7,7 @@ use Rattle.lambdatwist.proofs.poses.gated_depths.Tie as tie
 
 returns : tie.Need-returns
 unfolding pushDepths pushPose
-returns c output = cc
+returns c output lifted = cc
 
 pub gated-depths-spec : {M : Type 1} → statement M
 gated-depths-spec =

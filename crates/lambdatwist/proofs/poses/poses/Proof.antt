@@ -15,41 +15,49 @@ use Rattle.lambdatwist.proofs.poses.poses.Statement.{statement}
 use Rattle.lambdatwist.proofs.poses.poses.Tie as tie
 
 abbrev Inv-loop : tie.InvT-loop
-Inv-loop input measured inverse slots₀ updates₀ n depths count₀ at₀ slots updates count at =
+Inv-loop input measured inverse slots₀ updates₀ lifted₀ n candidates count₀ at₀ slots updates lifted
+    count at =
     (at ≤ n)
     × (count ≤ at)
-    × (poseTurns input measured inverse (drop at (take n depths)) (held count slots updates) .value
-    ≡ poseTurns input measured inverse (take n depths) empty .value)
+    × (poseTurns input measured inverse (drop at (take n candidates))
+    (held count slots updates lifted) .value
+    ≡ poseTurns input measured inverse (take n candidates) empty .value)
 
 abbrev μ-loop : tie.MeasureT-loop
-μ-loop input measured inverse slots₀ updates₀ n depths count₀ at₀ slots updates count at = n - at
+μ-loop input measured inverse slots₀ updates₀ lifted₀ n candidates count₀ at₀ slots updates lifted
+    count at =
+    n - at
 
 loop-holds : tie.Need-loop-holds Inv-loop μ-loop
 loop-holds c =
     let s = c .before in
     (omega arith, omega arith, rw (none-held (s .pre .1)))
 
-array-copy-out-pose-turn : tie.Need-array-copy-out-pose-turn Inv-loop μ-loop
-array-copy-out-pose-turn c =
+array-copy-out-candidate : tie.Need-array-copy-out-candidate Inv-loop μ-loop
+array-copy-out-candidate c =
     let s = c .before .before .before in omega (arith, c .loop-test .taken, s .pre .0)
 
 store-requires : tie.Need-store-requires Inv-loop μ-loop
 store-requires c κs =
-    let after-pose-turn = c .before .before in
-    let test = after-pose-turn .before .before in
+    let lent = c .before .before in
+    let after-candidate = lent .before .before in
+    let test = after-candidate .before in
     let head = test .before in
     let s = head .before .before in
     omega (arith, test .loop-test .taken, head .loop .inv .1, s .pre .0)
 
 loop-less : tie.Need-loop-less Inv-loop μ-loop
 loop-less c =
-    let after-pose-turn = c .before .before .before in
-    let test = after-pose-turn .before .before in omega (arith, test .loop-test .taken)
+    let lent = c .before .before .before in
+    let after-candidate = lent .before .before in
+    omega (arith, after-candidate .before .loop-test .taken)
 
 loop-again : tie.Need-loop-again Inv-loop μ-loop
 loop-again c =
-    let after-pose-turn = c .before .before .before in
-    let test = after-pose-turn .before .before in
+    let lent = c .before .before .before in
+    let after-pose-turn = lent .before in
+    let after-candidate = after-pose-turn .before in
+    let test = after-candidate .before in
     let head = test .before in
     let loop = head .loop in
     let s = head .before .before in
@@ -60,9 +68,9 @@ loop-again c =
       omega (arith, c .store .ensures .0),
       rw (
         c .store .ensures .1,
-        after-pose-turn .pose-turn .ensures _,
+        after-pose-turn .pose-turn .ensures _ _,
       )
-          (turns-go _ _ _ (found .count) (found .depths) (loop .at) _ _ below
+          (turns-go _ _ _ (found .count) (found .slots) (loop .at) _ _ below
           (omega (arith, four, s .pre .0))
           ∙ loop .inv .2),
     )
@@ -74,11 +82,11 @@ returns c =
     let loop = head .loop in
     let s = head .before .before in
     let found = s .args .found in
-    turns-end _ _ _ (found .count) (found .depths) (loop .at) _ (omega (arith, c .loop-test .left))
+    turns-end _ _ _ (found .count) (found .slots) (loop .at) _ (omega (arith, c .loop-test .left))
     ∙ loop .inv .2
 
 pub poses-spec : {M : Type 1} → statement M
 poses-spec =
     tie.close (tie.spec Inv-loop μ-loop loop-holds (λ c. search needs)
-    array-copy-out-pose-turn (λ c _. search needs) store-requires (λ c. search needs) loop-less
+    array-copy-out-candidate (λ c _. search needs) store-requires (λ c. search needs) loop-less
     loop-again returns)

@@ -22,7 +22,12 @@ returns c =
       c .pose-of4 .ensures,
     )
     (ap
-    (λ (l : List Pose). record { count = s .args .count; poses = l; updates = s .args .updates })
+    (λ (l : List Pose). record {
+      count = s .args .count;
+      poses = l;
+      updates = s .args .updates;
+      lifted = s .args .lifted;
+    })
     (ap (map poseOf) (list-of-four (s .args .t2) [] (s .good .1 .0 .1 .0 .1))))
 
 pub held-spec : {M : Type 1} → statement M

@@ -14,7 +14,7 @@ returns c =
       rw (
         c .entries .ensures,
         after-turn .turn .given .1,
-      ) (sym (next-held (s .args .count) _ _ _ _ (s .pre))),
+      ) (sym (next-held (s .args .count) _ _ _ _ _ _ (s .pre))),
     )
 
 returns-2 : tie.Need-returns-2
@@ -24,4 +24,4 @@ pub store-spec : {M : Type 1} → statement M
 store-spec =
     tie.close (tie.spec (λ c. search needs) (λ c _. search needs) (λ c. search needs)
     (λ c. search needs) (λ c. search needs) (λ c. search needs) (λ c. search needs)
-    (λ c. search needs) returns returns-2)
+    (λ c. search needs) (λ c. search needs) returns returns-2)

@@ -151,7 +151,8 @@ module _ (t : ℕ) where
   ordered-returns-3 c =
       let after-held = c .before in
       let after-solve-cubic = after-held .before in
-      let tested = after-solve-cubic .before .before .before in
+      let lent = after-solve-cubic .before .before .before in
+      let tested = lent .before in
       let measured = tested .before .before .before in
       let args = measured .before .args in
       c .if-kept .ensures

@@ -12,16 +12,17 @@ returns c =
     rw (
       ← c .before .before .world-basis-inverse .ensures,
       c .enum-told .given .1,
-    ) (stops _ _)
+    ) (stops _ _ _)
 
 returns-2 : tie.Need-returns-2
 unfolding solveCandidates
 returns-2 c =
-    let after-world-inverse = c .before .before .before .before in
+    let lent = c .before .before .before in
+    let after-world-inverse = lent .before .before in
     rw (
       ← after-world-inverse .before .before .world-basis-inverse .ensures,
       after-world-inverse .world-inverse .given .1,
-    ) (filled _ _ _ (c .poses .ensures) (poses-kept _ _ _ _ .few))
+    ) (filled _ _ _ _ (c .poses .ensures) (poses-kept _ _ _ _ .few))
 
 pub solve-candidates-spec : {M : Type 1} → statement M
 solve-candidates-spec =

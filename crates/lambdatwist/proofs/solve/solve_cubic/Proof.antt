@@ -15,13 +15,14 @@ returns c =
     let root = c .before in
     let s = root .before .before .before .before in
     rw (← root .polished-cubic-root .ensures)
-    (subst (λ (a : Answer). Answers 0 (s .args .slots .now) (s .args .updates .now) a)
-    (no-root stopped _ (root .polished-cubic-root .result) (c .match .keys2)) (stops _ _))
+    (subst (λ (a : Answer). Answers 0 (s .args .slots .now) (s .args .updates .now) (s .args .lifted .now) a)
+    (no-root stopped _ (root .polished-cubic-root .result) (c .match .keys2)) (stops _ _ _))
 
 returns-2 : tie.Need-returns-2
 unfolding solveCubic
 returns-2 c =
-    let after-g = c .before .before .before .before in
+    let lent = c .before .before .before in
+    let after-g = lent .before .before in
     rw (
       ← after-g .before .before .polished-cubic-root .ensures,
       after-g .g .given .1,

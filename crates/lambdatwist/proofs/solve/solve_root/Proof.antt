@@ -20,14 +20,14 @@ returns c =
       ← matrix .ensures,
       eigenpairs-neither (eigWithKnownZero (matrix .result) .value)
           (sym (c .enum-told .given .1) ∙ pairs .ensures),
-    ) (stops _ _)
+    ) (stops _ _ _)
 
 -- the system that the pairs are read of
 read : (c : tie.After-column0)
     → let v = c .column0 .given .0 in
     let after-eigenpairs = c .before .before in
     ReadOf (eigWithKnownZero (after-eigenpairs .before .singular-matrix .result) .value) (v .0)
-    (v .1 .0) (v .1 .1 .0) (v .1 .1 .1 .0)
+    (v .1 .0) (v .1 .1 .0) (v .1 .1 .1 .0) (v .1 .1 .1 .1 .0)
 read c =
     let after-eigenpairs = c .before .before in
     eigenpairs-both (eigWithKnownZero (after-eigenpairs .before .singular-matrix .result) .value)
@@ -46,7 +46,7 @@ returns-2 c =
       read both .second-value,
       ← after-ratio-of .ratio-of .ensures,
       c .enum-told2 .given .1,
-    ) (stops _ _)
+    ) (stops _ _ _)
 
 -- the candidates of that system
 found : (c : tie.After-candidates)
@@ -57,7 +57,8 @@ found : (c : tie.After-candidates)
     let start = after-eigenpairs .before .before .before .before in
     c .candidates .result
     ≡ candidates (start .args .measured .squares) (start .args .measured .factors)
-    (read both .eigenvectors) (after-ratio .ratio .given .0 .0) .value
+    (read both .eigenvectors) (after-ratio .ratio .given .0 .0)
+    (both .column0 .given .0 .1 .1 .1 .1 .0) .value
 found c =
     let after-ratio = c .before .before in
     let after-ratio-of = after-ratio .before .before in
@@ -67,12 +68,13 @@ found c =
 
 solve-candidates-requires : tie.Need-solve-candidates-requires
 solve-candidates-requires c κs =
-    (rw (found (c .before .before)) (candidates-count _ _ _ _), search needs)
+    (rw (found (c .before .before .before)) (candidates-count _ _ _ _ _), search needs)
 
 returns-3 : tie.Need-returns-3
 unfolding solveRoot
 returns-3 c =
-    let after-candidates = c .before .before .before in
+    let lent = c .before .before .before in
+    let after-candidates = lent .before in
     let after-ratio = after-candidates .before .before in
     let after-ratio-of = after-ratio .before .before in
     let both = after-ratio-of .before .before in

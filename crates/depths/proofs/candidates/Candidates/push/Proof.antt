@@ -1,12 +1,13 @@
 -- `depths::candidates::Candidates::push` meets its contract. Assumes nothing.
 use borrow.Author.Needs.{needs}
 use borrow.Author.Tests.{lt-ltb, le-ltb}
+use Rattle.depths.specs.DepthSlots.{candidate}
 use Rattle.depths.specs.Pushed.{pushed}
 use Rattle.depths.proofs.candidates.Candidates.push.Statement.{statement}
 use Rattle.depths.proofs.candidates.Candidates.push.Tie as tie
 
 returns : tie.Need-returns
-unfolding pushed
+unfolding pushed candidate
 returns c =
     rw (
       c .before .before .depths .given .1,

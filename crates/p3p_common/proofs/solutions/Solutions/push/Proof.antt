@@ -16,4 +16,4 @@ returns-2 c = rw (le-ltb _ _ (c .if1 .left))
 pub push-spec : {M : Type 1} → statement M
 push-spec =
     tie.close (tie.spec (λ c. search needs) (λ c. search needs) (λ c. search needs)
-    (λ c. search needs) (λ c. search needs) returns returns-2)
+    (λ c. search needs) (λ c. search needs) (λ c. search needs) returns returns-2)
