@@ -1,8 +1,10 @@
--- The answer to eighteen doubles, why one retry is enough, the scaling rule with plates to which it
+-- The answer to eighteen doubles, why one retry is enough, why no pose has its mark from the
+-- eigenvalues, the scaling rule with plates to which it
 -- applies and one to which it does not, the marked cases, whole answers, and the choices in a frame
 -- one of whose poses puts the checking target behind the camera.
 pub mod OneAnswer
 pub mod OneRetry
+pub mod LiftedEigenvalues
 mod TimesPower
 mod FiniteTranslation
 pub mod ScalingRule

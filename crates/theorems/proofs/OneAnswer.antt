@@ -38,7 +38,8 @@ use Rattle.lambdatwist.proofs.KeptPoses.{poses-kept}
 -- ---- the two kinds of answer
 refused-so : (n : ℕ) → Refused n (refused n)
 unfolding refused answered empty
-refused-so n = record { refusal = refl; count = refl; poses = refl; updates = refl }
+refused-so n =
+    record { refusal = refl; count = refl; poses = refl; updates = refl; lifted = refl }
 
 ifKept-so : (P : Answer → Type 0)
     → P (refused 3)
@@ -68,12 +69,14 @@ module _ (P : Answer → Type 0) (three : P (refused 3))
       → Gives (withRoot r stopped f)
   withRoot-gives (roots.One g) f h = h g
   withRoot-gives (roots.Two x y) f h = three
+  withRoot-gives (roots.Double x) f h = three
+  withRoot-gives (roots.Lifted x) f h = three
   withRoot-gives (roots.Refused n) f h = three
 
-  withSystem-gives : (s : Eigensystem) (f : Matrix3 → Vector3 → Traced Answer)
-      → ((m : Matrix3) (v : Vector3) → Gives (f m v))
+  withSystem-gives : (s : Eigensystem) (f : Matrix3 → Vector3 → Bool → Traced Answer)
+      → ((m : Matrix3) (v : Vector3) (lifted : Bool) → Gives (f m v lifted))
       → Gives (withSystem s stopped f)
-  withSystem-gives (Found m v) f h = h m v
+  withSystem-gives (Found m v lifted) f h = h m v lifted
   withSystem-gives NotFound f h = three
 
   withRatio-gives : (r : Ratio) (f : Float → Traced Answer)
@@ -100,15 +103,16 @@ module _ (P : Answer → Type 0) (three : P (refused 3))
     unfolding solveRoot
     solveRoot-gives g =
         let matrix = singularMatrix (measured .squares) (measured .factors) g .value in
-        let after : Matrix3 → Float → Traced Answer
-        = λ e x.
-        candidates (measured .squares) (measured .factors) e x >>= λ found.
+        let after : Matrix3 → Bool → Float → Traced Answer
+        = λ e lifted x.
+        candidates (measured .squares) (measured .factors) e x lifted >>= λ found.
         solveCandidates input measured found in
         withSystem-gives (eigWithKnownZero matrix .value)
-        (λ (e : Matrix3) (v : Vector3).
-        ratioOf (v .x) (v .y) >>= λ ratio. withRatio ratio stopped (after e))
-        (λ e v.
-        withRatio-gives (ratioOf (v .x) (v .y) .value) (after e) (λ x. solveCandidates-gives _))
+        (λ (e : Matrix3) (v : Vector3) (lifted : Bool).
+        ratioOf (v .x) (v .y) >>= λ ratio. withRatio ratio stopped (after e lifted))
+        (λ e v lifted.
+        withRatio-gives (ratioOf (v .x) (v .y) .value) (after e lifted)
+        (λ x. solveCandidates-gives _))
 
     solveCubic-gives : (c : Coefficients) → Gives (solveCubic input measured c)
     unfolding solveCubic

@@ -74,6 +74,7 @@ module _ (k : ℤ) where
     count = h .count;
     poses = poses-alike f (h .poses);
     updates = h .updates;
+    lifted = h .lifted;
   }
 
 pub scaling-rule : ScalingRule

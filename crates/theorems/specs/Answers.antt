@@ -1,8 +1,9 @@
--- Whole answers of real plates, every bit of every pose and its count, as the Rust gives them
+-- Whole answers of real plates, every bit of every pose, its count and its mark, as the Rust gives them
 -- (reference/inputs/theorems.txt): of the plate in metres, and of the far plate, whose poses take
 -- three updates each; and the refinement of document 01's case from (2, 2, 2) with five updates
 -- allowed, in place of one. That they are given is proofs/Answers.
 use Prim.Native.Nat.{ℕ}
+use mathlib.Core.Bool.{false}
 use mathlib.Core.List.{List, [], _∷_, map}
 use Rattle.ieee754.specs.Literal.{double}
 use Rattle.frames.specs.Lent.{poseAt}
@@ -29,6 +30,7 @@ plateAnswer = record {
       ∷ 0x3fd9_43f8_12fc_4346 ∷ 0x3fd1_e9e9_3b80_741b ∷ 0x3fc6_5d7d_c1da_ad41 ∷ [])
       ∷ zeroPose ∷ zeroPose ∷ [];
   updates = 0 ∷ 0 ∷ 0 ∷ 0 ∷ [];
+  lifted = false ∷ false ∷ false ∷ false ∷ [];
 }
 
 unfoldable pub farAnswer : Answer
@@ -46,6 +48,7 @@ farAnswer = record {
       ∷ 0xc0f0_cc5b_f130_82e5 ∷ 0x40d2_a84f_cf19_bb32 ∷ 0x40e7_b35a_f21c_70d8 ∷ [])
       ∷ zeroPose ∷ zeroPose ∷ [];
   updates = 3 ∷ 3 ∷ 0 ∷ 0 ∷ [];
+  lifted = false ∷ false ∷ false ∷ false ∷ [];
 }
 
 unfoldable pub fiveUpdates : Refined

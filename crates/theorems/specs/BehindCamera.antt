@@ -4,6 +4,7 @@
 -- a camera's is. The answer is the Rust's (reference/inputs/theorems.txt): the second pose is the
 -- one that the frame was made with, the first puts the target 0.55 metres behind the camera. What
 -- the choices among the two take is proofs/BehindCamera.
+use mathlib.Core.Bool.{false}
 use mathlib.Core.List.{[], _∷_}
 use Rattle.ieee754.specs.Literal.{double}
 use Rattle.linalg.specs.Vectors.{vector}
@@ -76,6 +77,7 @@ behindAnswer = record {
   count = 2;
   poses = poseBehind ∷ truePose ∷ zeroPose ∷ zeroPose ∷ [];
   updates = 0 ∷ 0 ∷ 0 ∷ 0 ∷ [];
+  lifted = false ∷ false ∷ false ∷ false ∷ [];
 }
 
 -- document 01's choice among the two: each has a score, wherever it puts the target

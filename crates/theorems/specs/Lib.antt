@@ -1,6 +1,7 @@
 -- The theorems' statements, the frames that they name, and whole answers.
 pub mod Types
 pub mod OneAnswer
+pub mod LiftedEigenvalues
 pub mod ScalingRule
 pub mod Plates
 pub mod PremiseCases

@@ -1,8 +1,8 @@
 -- Demand 1 of the mission, for the solve: the answer to eighteen doubles, finite or not, is one to
--- four poses or number 1, 2 or 3; a refusal holds no pose and plus zero in every slot. That it
--- holds of every input and the answer of `solve` to it is `one-answer` in the proofs.
+-- four poses or number 1, 2 or 3; a refusal holds no pose, plus zero in every slot and no mark. That
+-- it holds of every input and the answer of `solve` to it is `one-answer` in the proofs.
 use mathlib.Core.Path.{_≡_}
-use mathlib.Core.Bool.{Bool, not, _&&_, _||_}
+use mathlib.Core.Bool.{Bool, false, not, _&&_, _||_}
 use mathlib.Core.List.{[], _∷_}
 use Prim.Native.Nat.{ℕ, _≤_}
 use lib.Dec.{T}
@@ -18,18 +18,19 @@ use Rattle.theorems.specs.Types.{World, Bearings, P3pInput, Answer}
 
 -- One to four poses and no refusal. `PoseSlots` says that there are at most four, that their twelve
 -- numbers are finite, that each took at most five updates, and that the slots beyond the count hold
--- plus zeros and 0.
+-- plus zeros, 0 and no mark.
 pub record Accepted (answer : Answer) : Type 0 where
   pub refusal : answer .refusal ≡ 0
   pub one-or-more : 1 ≤ answer .count
-  pub slots : PoseSlots (answer .count) (answer .poses) (answer .updates)
+  pub slots : PoseSlots (answer .count) (answer .poses) (answer .updates) (answer .lifted)
 
--- refused with a number: no pose, and plus zeros and 0 in all four slots
+-- refused with a number: no pose, and plus zeros, 0 and no mark in all four slots
 pub record Refused (number : ℕ) (answer : Answer) : Type 0 where
   pub refusal : answer .refusal ≡ number
   pub count : answer .count ≡ 0
   pub poses : answer .poses ≡ zeroPose ∷ zeroPose ∷ zeroPose ∷ zeroPose ∷ []
   pub updates : answer .updates ≡ 0 ∷ 0 ∷ 0 ∷ 0 ∷ []
+  pub lifted : answer .lifted ≡ false ∷ false ∷ false ∷ false ∷ []
 
 -- ---- question 2 of document 01: is there a usable ordering?
 -- one ordering of the points and bearings is not

@@ -41,14 +41,15 @@ pub record AlikePose (k : ℤ) (p p' : Pose) : Type 0 where
   pub rotation : p .rotation ≡ p' .rotation
   pub translation : TimesVector k (p .translation) (p' .translation)
 
--- the same refusal number or none, the same count of poses, and in each place poses that are alike
--- and the same update count. The library's `Forall₂ R` says of two lists that they are of one
+-- the same refusal number or none, the same count of poses, and in each place poses that are alike,
+-- the same update count and the same mark. The library's `Forall₂ R` says of two lists that they are of one
 -- length and that R holds of their entries in each place.
 pub record Alike (k : ℤ) (a a' : Answer) : Type 0 where
   pub refusal : a .refusal ≡ a' .refusal
   pub count : a .count ≡ a' .count
   pub poses : Forall₂ (AlikePose k) (a .poses) (a' .poses)
   pub updates : a .updates ≡ a' .updates
+  pub lifted : a .lifted ≡ a' .lifted
 
 -- for every whole number k, and where every operation that either solve reaches and that can round
 -- meets the premise
