@@ -1,5 +1,5 @@
 -- The lines of the listing, as bytes, and what putting one into a slice leaves. From document 01,
--- "Frame records and their listing".
+-- "Frame records and their listing", and document 02, §8.
 use Prim.Native.Nat.{ℕ, _+_, _-_, _≤_}
 use mathlib.Core.Path.{_≡_}
 use mathlib.Core.Bool.{Bool, cond}
@@ -7,7 +7,7 @@ use mathlib.Core.List.{List, _++_}
 use lib.Dec.{leb}
 use lib.ListN.{length, take, drop}
 use lib.Ieee.{Float, binary64, toBits}
-use Rattle.listing.specs.Types.{Vector3, Pose}
+use Rattle.listing.specs.Types.{Vector3, Pose, Slot}
 use Rattle.linalg.specs.Matrices.{column0, column1, column2}
 use Rattle.listing.specs.Bytes.{ascii}
 use Rattle.listing.specs.Digits.{decimal, hexadecimal}
@@ -38,11 +38,15 @@ unfoldable pub acceptedLine : ℕ → ℕ → ℕ → List ℕ
 acceptedLine n k j =
     decimal n ++ ascii " poses " ++ decimal k ++ ascii " best " ++ decimal j ++ ascii "\n"
 
--- N.J updates U, and the twelve words
-unfoldable pub poseLine : ℕ → ℕ → ℕ → Pose → List ℕ
-poseLine n j u p =
-    decimal n ++ ascii "." ++ decimal j ++ ascii " updates " ++ decimal u ++ poseWords p
-    ++ ascii "\n"
+-- the word that a pose's line ends in
+unfoldable pub markText : Bool → List ℕ
+markText lifted = cond lifted (ascii " lifted") (ascii " plain")
+
+-- N.J updates U, the twelve words, and the mark
+unfoldable pub poseLine : ℕ → ℕ → Slot → List ℕ
+poseLine n j slot =
+    decimal n ++ ascii "." ++ decimal j ++ ascii " updates " ++ decimal (slot .updates)
+    ++ poseWords (slot .pose) ++ markText (slot .lifted) ++ ascii "\n"
 
 -- stop R at N
 unfoldable pub stopLine : ℕ → ℕ → List ℕ

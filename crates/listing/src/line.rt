@@ -1,14 +1,17 @@
-// The lines of the listing. Each function puts one line from `at` on and returns the next position.
-// Where fewer than 320 bytes are left, which every line fits in, it puts nothing and returns `at`.
+// The lines of the listing. Each function but `put_mark` puts one line from `at` on and returns the
+// next position. Where fewer than 320 bytes are left, which every line fits in, it puts nothing and
+// returns `at`.
 use crate::digits::put_decimal;
 use crate::put::put_byte;
 use crate::put::put_text;
 use crate::words::put_words;
 use frames::pose::Pose;
 ghost use mathlib.Core.Path.{_≡_};
-ghost use Prim.Native.Nat.{_-_};
+ghost use Prim.Native.Nat.{_+_, _-_, _≤_};
+ghost use lib.ListN.{length};
+ghost use Rattle.listing.specs.Bytes.{Stored};
 ghost use Rattle.listing.specs.Lines.{Written, headerLine, refusedLine, acceptedLine};
-ghost use Rattle.listing.specs.Lines.{poseLine, stopLine, endLine};
+ghost use Rattle.listing.specs.Lines.{markText, poseLine, stopLine, endLine};
 
 const LINE: usize = 320;
 
@@ -59,19 +62,34 @@ pub fn put_accepted(out: &mut [u8], at: usize, number: u64, count: u32, best: u3
     put_byte(out, e, b'\n')
 }
 
-// `N.J updates U` and twelve words: the rotation by columns, the translation
-pub fn put_pose(
-    out: &mut [u8],
-    at: usize,
-    number: u64,
-    place: u32,
-    updates: u32,
-    pose: Pose,
-) -> usize
-    ensures { λ r.
-        ⌜ Written 320 (now (out .entry)) at (poseLine number place updates pose) r
-        (now (out .exit)) ⌝ }
+// A slot of an answer: a pose, the updates of its depths, and whether a pair of roots that it came
+// from was lifted.
+pub struct Slot {
+    pub pose: Pose,
+    pub updates: u32,
+    pub lifted: bool,
+}
+
+// ` lifted` or ` plain`
+fn put_mark(out: &mut [u8], at: usize, lifted: bool) -> usize
+    requires { ⌜ at + 7 ≤ length (now out) ⌝ }
+    ensures { λ r. ⌜ Stored (now (out .entry)) at (markText lifted) r (now (out .exit)) ⌝ }
+    ensures { λ r. ⌜ r ≤ at + 7 ⌝ }
 {
+    if lifted {
+        return put_text(out, at, b" lifted");
+    }
+    put_text(out, at, b" plain")
+}
+
+// `N.J updates U`, twelve words (the rotation by columns, the translation), and the mark
+pub fn put_pose(out: &mut [u8], at: usize, number: u64, place: u32, slot: Slot) -> usize
+    ensures { λ r.
+        ⌜ Written 320 (now (out .entry)) at (poseLine number place slot) r (now (out .exit)) ⌝ }
+{
+    let pose = slot.pose;
+    let updates = slot.updates;
+    let lifted = slot.lifted;
     if left(out.len(), at) < LINE {
         return at;
     }
@@ -81,7 +99,8 @@ pub fn put_pose(
     let d = put_text(out, c, b" updates ");
     let e = put_decimal(out, d, updates as u64);
     let f = put_words(out, e, pose);
-    put_byte(out, f, b'\n')
+    let g = put_mark(out, f, lifted);
+    put_byte(out, g, b'\n')
 }
 
 // `stop R at N`

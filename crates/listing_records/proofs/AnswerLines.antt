@@ -19,7 +19,7 @@ module _ (n : ℕ) (answer : Answer) (target bearing : Vector3) where
       → answer .refusal ≡ 0
       → best ≡ place (choose (answer .poses) (answer .count) target bearing .value)
       → acceptedLine n (answer .count) best
-      ++ poseLines n (answer .poses) (answer .updates) (min (answer .count) 4)
+      ++ poseLines n (answer .poses) (answer .updates) (answer .lifted) (min (answer .count) 4)
       ≡ answerLines n answer target bearing
   unfolding answerLines
   accepted-lines h e = rw (eq-eqb (answer .refusal) 0 h, e)

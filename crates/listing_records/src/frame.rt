@@ -10,10 +10,10 @@ use choice::choose::Choice;
 use choice::choose::choose;
 use choice::count::at_most_four;
 use frames::frame::Frame;
-use frames::pose::Pose;
 use lambdatwist::solve::Answer;
 use lambdatwist::solve::solve;
 use linalg::vector3::Vector3;
+use listing::line::Slot;
 use listing::line::left;
 use listing::line::put_accepted;
 use listing::line::put_pose;
@@ -32,29 +32,29 @@ fn place_of(choice: Choice) -> u32
     }
 }
 
-// Puts a line for each of the first `count` poses.
-fn put_poses(
-    out: &mut [u8],
-    at: usize,
-    number: u64,
-    count: u32,
-    poses: [Pose; 4],
-    updates: [u32; 4],
-) -> usize
+// Puts a line for each pose of an answer.
+fn put_poses(out: &mut [u8], at: usize, number: u64, answer: Answer) -> usize
     requires { ⌜ at + 1280 ≤ length (now out) ⌝ }
     ensures { λ r.
-        ⌜ Stored (now (out .entry)) at (poseLines number poses updates (min count 4)) r
-        (now (out .exit)) ⌝ }
+        ⌜ Stored (now (out .entry)) at
+        (poseLines number (answer .poses) (answer .updates) (answer .lifted)
+        (min (answer .count) 4)) r (now (out .exit)) ⌝ }
     ensures { λ r. ⌜ r ≤ at + 1280 ⌝ }
 {
-    let n = at_most_four(count);
+    let poses = answer.poses;
+    let updates = answer.updates;
+    let lifted = answer.lifted;
+    let n = at_most_four(answer.count);
     let mut next = at;
     let mut place: u32 = 0;
     while place < n {
-        let pose = poses[place as usize];
-        let made = updates[place as usize];
+        let slot = Slot {
+            pose: poses[place as usize],
+            updates: updates[place as usize],
+            lifted: lifted[place as usize],
+        };
         place += 1;
-        next = put_pose(out, next, number, place, made, pose);
+        next = put_pose(out, next, number, place, slot);
     }
     next
 }
@@ -80,10 +80,9 @@ fn put_answer(
     }
     let count = answer.count;
     let poses = answer.poses;
-    let updates = answer.updates;
     let best = place_of(choose(poses, count, target, bearing));
     let next = put_accepted(out, at, number, count, best);
-    put_poses(out, next, number, count, poses, updates)
+    put_poses(out, next, number, answer)
 }
 
 // Puts the lines of a frame: its solve, and the answer. Where fewer than 1,600 bytes are left,

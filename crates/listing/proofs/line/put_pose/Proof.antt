@@ -14,7 +14,8 @@ returns-2 : tie.Need-returns-2
 unfolding poseLine
 returns-2 c =
     let line = c .before .before in
-    let words = line .before .before .before .before in
+    let mark = line .before .before .before .before in
+    let words = mark .before .before .before .before in
     let updates = words .before .before .before .before in
     let text = updates .before .before .before .before in
     let place = text .before .before .before .before .before in
@@ -28,11 +29,13 @@ returns-2 c =
     and-then text .put-text .ensures
     and-then updates .put-decimal3 .ensures .0
     and-then words .put-words .ensures .0
+    and-then mark .put-mark .ensures .0
     and-then line .put-byte2 .ensures
     )
 
 pub put-pose-spec : {M : Type 1} → statement M
 put-pose-spec =
     tie.close (tie.spec (λ c _. search needs) returns (λ c _. search needs) (λ c _. search needs)
-    (λ c _. search needs) (λ c. search needs) (λ c _. search needs) (λ c _. search needs)
-    (λ c _. search needs) (λ c _. search needs) (λ c. search needs) returns-2)
+    (λ c _. search needs) (λ c. search needs) (λ c _. search needs) (λ c. search needs)
+    (λ c _. search needs) (λ c _. search needs) (λ c _. search needs) (λ c _. search needs)
+    (λ c. search needs) returns-2)

@@ -22,7 +22,7 @@ returns c =
 
 abbrev entry : tie.After-put-accepted → tie.Start
 entry c =
-    let accepted = c .before .before .before .before .before .before in accepted .before .before
+    let accepted = c .before .before .before .before .before in accepted .before .before
 
 -- the first line is in place
 first : (c : tie.After-put-accepted) → let a = entry c .args in
@@ -41,7 +41,7 @@ returns-2 c =
     let put = poses .before .before .before .before in
     let placed = put .before .before in
     let chosen = placed .before in
-    let accepted = chosen .before .before .before in
+    let accepted = chosen .before .before in
     let best = placed .place-of .ensures ∙ ap place (chosen .choose .ensures) in
     let lines = accepted-lines _ _ _ _ (accepted .if1 .left) best in (
       stored-as lines (first put and-then poses .put-poses .ensures .0),
