@@ -1,7 +1,8 @@
 -- The solve over lent arrays: the eighteen doubles that are read, and what the other arrays hold
 -- when it returns. A refused solve leaves them as they were: document 01, "Questions, in order".
 use Prim.Native.Nat.{ℕ}
-use mathlib.Core.List.{List, [], _∷_, _++_}
+use mathlib.Core.Bool.{Bool, true, false}
+use mathlib.Core.List.{List, [], _∷_, map, _++_}
 use lib.Dec.{eqb}
 use lib.Ieee.{Float}
 use Rattle.ieee754.specs.Traced.{if_then_else_}
@@ -32,6 +33,14 @@ posesAfter answer held = if eqb (answer .refusal) 0 then allEntries (answer .pos
 
 unfoldable pub updatesAfter : Answer → List ℕ → List ℕ
 updatesAfter answer held = if eqb (answer .refusal) 0 then answer .updates else held
+
+-- 1 where the pose has its mark
+abbrev pub flag : Bool → ℕ
+flag true = 1
+flag false = 0
+
+unfoldable pub liftedAfter : Answer → List ℕ → List ℕ
+liftedAfter answer held = if eqb (answer .refusal) 0 then map flag (answer .lifted) else held
 
 unfoldable pub countAfter : Answer → ℕ → ℕ
 countAfter answer held = if eqb (answer .refusal) 0 then answer .count else held

@@ -1,7 +1,8 @@
 // The solve of eighteen doubles over lent arrays.
 ghost use mathlib.Core.Path.{_≡_};
-ghost use mathlib.Core.List.{_++_};
-ghost use Rattle.p3p.specs.SolveLent.{solved, entries, posesAfter, updatesAfter, countAfter};
+ghost use mathlib.Core.List.{map, _++_};
+ghost use Rattle.p3p.specs.SolveLent.{solved, entries, flag, posesAfter, updatesAfter};
+ghost use Rattle.p3p.specs.SolveLent.{liftedAfter, countAfter};
 use frames::lent::bearings_at;
 use frames::lent::world_at;
 use frames::pose::Pose;
@@ -70,6 +71,18 @@ fn all_entries(p0: Pose, p1: Pose, p2: Pose, p3: Pose) -> [f64; 48]
     ]
 }
 
+// The marks as numbers: a `bool` that is lent would have to hold 0 or 1 before.
+fn flags(lifted: [bool; 4]) -> [u32; 4]
+    ensures { λ r. ⌜ r ≡ map flag lifted ⌝ }
+{
+    [
+        lifted[0] as u32,
+        lifted[1] as u32,
+        lifted[2] as u32,
+        lifted[3] as u32,
+    ]
+}
+
 // The poses of three world points and the bearings to them. Returns 0, or the refusal number with
 // nothing written.
 #[no_mangle]
@@ -77,6 +90,7 @@ pub extern "C" fn p3p_solve(
     input: &[f64; 18],
     poses: &mut [f64; 48],
     updates: &mut [u32; 4],
+    lifted: &mut [u32; 4],
     count: &mut u32,
 ) -> u32
     ensures { λ r. ⌜ r ≡ solved (now (input .entry)) .refusal ⌝ }
@@ -85,6 +99,9 @@ pub extern "C" fn p3p_solve(
     ensures { λ _.
         ⌜ now (updates .exit)
         ≡ updatesAfter (solved (now (input .entry))) (now (updates .entry)) ⌝ }
+    ensures { λ _.
+        ⌜ now (lifted .exit)
+        ≡ liftedAfter (solved (now (input .entry))) (now (lifted .entry)) ⌝ }
     ensures { λ _.
         ⌜ now (count .exit) ≡ countAfter (solved (now (input .entry))) (now (count .entry)) ⌝ }
 {
@@ -102,5 +119,7 @@ pub extern "C" fn p3p_solve(
     let taken = answer.updates;
     *updates = taken;
     *count = answer.count;
+    let marks = answer.lifted;
+    *lifted = flags(marks);
     0
 }

@@ -2,10 +2,8 @@
 -- pair is where it has ruled out every kind of it (`no-pair`). Assumes nothing.
 use mathlib.Core.Path.{_≡_, refl}
 use mathlib.Core.List.{[], _∷_}
-use mathlib.Core.Logic.{inl, inr}
-use native.Mathlib.Omega.{arith}
 use lib.Ieee.{Float}
-use types.Run.{OneOf}
+use types.Run.{OneOf, miss}
 use denote.Enum.Declared.{tagOf}
 use Rattle.ieee754.specs.Traced.{Traced}
 use Rattle.polynomial.specs.Answer.{pairOf, withRoot}
@@ -18,12 +16,12 @@ pub no-root : {A : Type 0} (none : Traced A) (k : Float → Traced A) (r : Roots
 no-root none k (Two x y) h = refl
 no-root none k (Double x) h = refl
 no-root none k (Lifted x) h = refl
-no-root none k (One x) h = absurd (elim h [ inl e ↦ omega arith | inr g ↦ elim g [ inl e ↦ omega arith | inr g ↦ elim g [ inl e ↦ omega arith | inr e ↦ omega arith ] ] ])
+no-root none k (One x) h = absurd (miss (0 ∷ 1 ∷ 2 ∷ 4 ∷ []) 3 tt h)
 no-root none k (Refused n) h = refl
 
 pub no-pair : (r : Roots) → OneOf (3 ∷ 4 ∷ []) (tagOf the-type r) → Absent ≡ pairOf r
-no-pair (Two x y) h = absurd (elim h [ inl e ↦ omega arith | inr e ↦ omega arith ])
-no-pair (Double x) h = absurd (elim h [ inl e ↦ omega arith | inr e ↦ omega arith ])
-no-pair (Lifted x) h = absurd (elim h [ inl e ↦ omega arith | inr e ↦ omega arith ])
+no-pair (Two x y) h = absurd (miss (3 ∷ 4 ∷ []) 0 tt h)
+no-pair (Double x) h = absurd (miss (3 ∷ 4 ∷ []) 1 tt h)
+no-pair (Lifted x) h = absurd (miss (3 ∷ 4 ∷ []) 2 tt h)
 no-pair (One x) h = refl
 no-pair (Refused n) h = refl

@@ -2,7 +2,8 @@
 -- another writes each whole. Assumes nothing.
 use borrow.Author.Needs.{needs}
 use mathlib.Core.Path.{_≡_, refl, sym, _∙_}
-use Rattle.p3p.specs.SolveLent.{solved, posesAfter, updatesAfter, countAfter}
+use Rattle.p3p.specs.SolveLent.{solved, posesAfter, updatesAfter, liftedAfter}
+use Rattle.p3p.specs.SolveLent.{countAfter}
 use Rattle.lambdatwist.proofs.AnswerSlots.{four-poses}
 use Rattle.p3p.proofs.SolveLent.{as-solved, when-refused, when-answered, four-entries}
 use Rattle.p3p.proofs.solve.p3p_solve.Statement.{statement}
@@ -17,26 +18,33 @@ found c =
     as-solved _ (world .world-at .ensures) (bearings .bearings-at .ensures) (c .solve .ensures)
 
 returns : tie.Need-returns
-unfolding posesAfter updatesAfter countAfter
+unfolding posesAfter updatesAfter liftedAfter countAfter
 returns c =
     let number = c .if1 .taken in
-    rw (← found (c .before))
-    (refl, (when-refused _ _ number, (when-refused _ _ number, when-refused _ _ number)))
+    rw (← found (c .before)) (
+      refl,
+      (
+        when-refused _ _ number,
+        (when-refused _ _ number, (when-refused _ _ number, when-refused _ _ number)),
+      ),
+    )
 
 returns-2 : tie.Need-returns-2
-unfolding posesAfter updatesAfter countAfter
+unfolding posesAfter updatesAfter liftedAfter countAfter
 returns-2 c =
-    let accepted = c .before .before .before .before .before .before .before in
+    let filled = c .before .before in
+    let accepted = filled .before .before .before .before .before .before .before in
     let answer = accepted .before .solve in
     let zero = accepted .if1 .left in
     let four = four-poses (answer .result) (answer .ok) in
     let slots = four-entries (answer .result .poses) _ four in
-    let entered = c .before .all-entries .ensures ∙ slots ∙ when-answered _ _ zero in
+    let entered = filled .before .all-entries .ensures ∙ slots ∙ when-answered _ _ zero in
+    let marked = c .flags .ensures ∙ when-answered _ _ zero in
     rw (← found (accepted .before))
-    (sym zero, (entered, (when-answered _ _ zero, when-answered _ _ zero)))
+    (sym zero, (entered, (when-answered _ _ zero, (marked, when-answered _ _ zero))))
 
 pub p3p-solve-spec : {M : Type 1} → statement M
 p3p-solve-spec =
     tie.close (tie.spec (λ c _. search needs) (λ c _. search needs) (λ c _. search needs) returns
     (λ c. search needs) (λ c. search needs) (λ c. search needs) (λ c. search needs)
-    (λ c _. search needs) returns-2)
+    (λ c _. search needs) (λ c _. search needs) returns-2)

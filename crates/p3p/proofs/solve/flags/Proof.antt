@@ -1,0 +1,32 @@
+-- `p3p::solve::flags` meets its contract: four marks are all there are. Assumes nothing.
+use borrow.Author.Needs.{needs}
+use mathlib.Core.Path.{_≡_, refl, ap}
+use mathlib.Core.Bool.{Bool, true, false}
+use mathlib.Core.List.{map}
+use lib.ListN.{getD}
+use mir.Val.{boolByte}
+use Rattle.frames.proofs.Entries.{list-of-four}
+use Rattle.p3p.specs.SolveLent.{flag}
+use Rattle.p3p.proofs.solve.flags.Statement.{statement}
+use Rattle.p3p.proofs.solve.flags.Tie as tie
+
+as-flag : (b : Bool) → boolByte b ≡ flag b
+as-flag true = refl
+as-flag false = refl
+
+returns : tie.Need-returns
+returns c =
+    let marks = c .args .t1 in
+    rw (
+      as-flag (getD marks 0 false),
+      as-flag (getD marks 1 false),
+      as-flag (getD marks 2 false),
+      as-flag (getD marks 3 false),
+    )
+    (ap (map flag) (list-of-four marks false (c .good .0 .1 .0 .1)))
+
+pub flags-spec : {M : Type 1} → statement M
+flags-spec =
+    tie.close (tie.spec (λ c. search needs) (λ c. search needs) (λ c. search needs)
+    (λ c. search needs) (λ c. search needs) (λ c. search needs) (λ c. search needs)
+    (λ c. search needs) returns)
