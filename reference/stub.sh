@@ -1,7 +1,8 @@
 #!/usr/bin/env bash
 # Tries the comparison itself, the second copy standing in for the port: stub.sh SOURCES
 # A right stand-in must show no difference. One that is wrong in a last bit of a pose, of a score or
-# of a fast cube root now and then must, and one that scores a target behind the camera.
+# of a fast cube root now and then must, one that scores a target behind the camera, one that takes
+# a discriminant of zero for a lifted one, and one that marks a pose because it stands twice.
 set -euo pipefail
 here=$(cd "$(dirname "$0")" && pwd)
 sources=$(realpath "${1:?usage: stub.sh SOURCES}")
@@ -27,10 +28,12 @@ build right
 compare right beside 50000 | tail -n 1
 compare right pieces 50000 fast_cbrt | tail -n 1
 compare right check "$here/inputs/cbrt.txt" | tail -n 1
-for wrong in pose score behind root; do build wrong-$wrong --features=wrong-$wrong; done
+for wrong in pose score behind root kind mark; do build wrong-$wrong --features=wrong-$wrong; done
 must_find wrong-pose beside 50000
 must_find wrong-score beside 50000
 must_find wrong-behind beside 50000
 must_find wrong-behind pieces 50000 choice
 must_find wrong-root pieces 50000 fast_cbrt
 must_find wrong-root check "$here/inputs/cbrt.txt"
+must_find wrong-kind pieces 50000 quadratic
+must_find wrong-mark beside 1000000

@@ -91,13 +91,15 @@ use pose::p3p::{common, lambdatwist};
 use shared::polynomial;
 
 /// A whole answer: refusal number (0 if none), count, and four slots of twelve words
-/// (rotation by columns, translation) with their update counts.
+/// (rotation by columns, translation) with their update counts, and whether a pair of roots that
+/// the pose came from was lifted.
 #[derive(Clone, Copy, PartialEq, Debug, Default)]
 pub struct Answer {
     pub refusal: u32,
     pub count: usize,
     pub poses: [[f64; 12]; 4],
     pub updates: [u32; 4],
+    pub lifted: [bool; 4],
 }
 
 fn vector(words: &[f64]) -> Vector3<f64> {
@@ -122,9 +124,12 @@ pub fn solve(input: &[f64; 18]) -> Answer {
     record::answer(count)
 }
 
-/// Two roots, or 4 or 5.
-pub fn quadratic(b: f64, c: f64) -> Result<[f64; 2], u32> {
-    polynomial::quadratic_real_monic(b, c).ok_or(if b.is_finite() && c.is_finite() { 5 } else { 4 })
+/// The kind of the pair (0 two roots, 1 a discriminant of zero, 2 lifted) and the two roots, or 4
+/// or 5.
+pub fn quadratic(b: f64, c: f64) -> Result<(u32, [f64; 2]), u32> {
+    let refused: u32 = if b.is_finite() && c.is_finite() { 5 } else { 4 };
+    let roots = polynomial::quadratic_real_monic(b, c).ok_or(refused)?;
+    Ok((record::kind(), roots))
 }
 
 /// One root, or 4 or 6.
@@ -191,8 +196,10 @@ pub fn push(
     (output.len(), record::grown(count, output.len()))
 }
 
-pub fn eig(m: &[f64; 9]) -> Option<([f64; 9], [f64; 3])> {
-    lambdatwist::eig_with_known_zero(&matrix(m)).map(|(m, v)| (words(&m), v.into()))
+/// The vectors, the values, and whether the pair that was not known was lifted.
+pub fn eig(m: &[f64; 9]) -> Option<([f64; 9], [f64; 3], bool)> {
+    let (m, v) = lambdatwist::eig_with_known_zero(&matrix(m))?;
+    Some((words(&m), v.into(), record::eigenvalues_lifted()))
 }
 
 pub fn row_crosses(m: &[f64; 9], value: f64) -> Option<[f64; 3]> {

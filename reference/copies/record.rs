@@ -1,21 +1,30 @@
-//! What the test copy tells: pushed pairs, update counts, refusal numbers.
+//! What the test copy tells: pushed pairs, update counts, refusal numbers, lifted pairs of roots.
 
 use crate::Answer;
 use nalgebra::{Matrix3, Vector3};
 use std::cell::RefCell;
 
+#[derive(Default)]
 struct Record {
     answer: Answer,
     updates: u32,
+    lifts: Lifts,
+}
+
+#[derive(Default)]
+struct Lifts {
+    /// The kind of the last quadratic's pair: 0 two roots, 1 a discriminant of zero, 2 lifted.
+    kind: u32,
+    eigenvalues: bool,
+    depth_ratios: bool,
+    candidates: [bool; 4],
+    /// How many candidates have had their turn, and the mark of the last.
+    turns: usize,
+    mark: bool,
 }
 
 thread_local! {
-    static RECORD: RefCell<Record> = const {
-        RefCell::new(Record {
-            answer: Answer { refusal: 0, count: 0, poses: [[0.0; 12]; 4], updates: [0; 4] },
-            updates: 0,
-        })
-    };
+    static RECORD: RefCell<Record> = RefCell::default();
 }
 
 fn with<T>(change: impl FnOnce(&mut Record) -> T) -> T {
@@ -23,14 +32,14 @@ fn with<T>(change: impl FnOnce(&mut Record) -> T) -> T {
 }
 
 pub(crate) fn start() {
-    with(|record| record.answer = Answer::default());
+    with(|record| *record = Record::default());
 }
 
 /// A list with so many poses, before a push of depths with so many updates.
 pub(crate) fn holding(count: usize, updates: u32) {
     with(|record| {
-        record.answer = Answer { count, ..Answer::default() };
-        record.updates = updates;
+        *record = Record { updates, ..Record::default() };
+        record.answer.count = count;
     });
 }
 
@@ -58,6 +67,51 @@ pub(crate) fn updates() -> u32 {
     with(|record| record.updates)
 }
 
+/// The discriminant of a pair of roots, before it is cut to zero.
+pub(crate) fn computed(discriminant: f64) {
+    let kind = if discriminant > 0.0 {
+        0
+    } else if discriminant == 0.0 {
+        1
+    } else {
+        2
+    };
+    with(|record| record.lifts.kind = kind);
+}
+
+pub(crate) fn kind() -> u32 {
+    with(|record| record.lifts.kind)
+}
+
+/// The last pair was the eigenvalues'.
+pub(crate) fn eigenvalues() {
+    with(|record| record.lifts.eigenvalues = record.lifts.kind == 2);
+}
+
+pub(crate) fn eigenvalues_lifted() -> bool {
+    with(|record| record.lifts.eigenvalues)
+}
+
+/// The last pair was a sign's depth ratios.
+pub(crate) fn depth_ratios() {
+    with(|record| record.lifts.depth_ratios = record.lifts.kind == 2);
+}
+
+/// A candidate was made of them.
+pub(crate) fn candidate(index: usize) {
+    with(|record| {
+        record.lifts.candidates[index] = record.lifts.eigenvalues || record.lifts.depth_ratios;
+    });
+}
+
+/// The next candidate's turn.
+pub(crate) fn turn() {
+    with(|record| {
+        record.lifts.mark = record.lifts.candidates[record.lifts.turns];
+        record.lifts.turns += 1;
+    });
+}
+
 pub(crate) fn pushed(rotation: &Matrix3<f64>, translation: &Vector3<f64>) {
     with(|record| {
         let slot = record.answer.count;
@@ -67,6 +121,7 @@ pub(crate) fn pushed(rotation: &Matrix3<f64>, translation: &Vector3<f64>) {
         record.answer.poses[slot][..9].copy_from_slice(rotation.as_slice());
         record.answer.poses[slot][9..].copy_from_slice(translation.as_slice());
         record.answer.updates[slot] = record.updates;
+        record.answer.lifted[slot] = record.lifts.mark;
         record.answer.count += 1;
     });
 }

@@ -1,6 +1,7 @@
 //! The second copy behind the port's C interface: it stands in for the port to try the
-//! comparison itself. With a feature it is wrong in a last bit now and then, or scores a target
-//! behind the camera, which must be found.
+//! comparison itself. With a feature it is wrong in a last bit now and then, scores a target
+//! behind the camera, takes a discriminant of zero for a
+//! lifted one, or marks a pose because it stands twice, which must be found.
 
 #[path = "../../tools/src/choice.rs"]
 mod choice;
@@ -39,14 +40,26 @@ extern "C" fn p3p_total_cmp(a: f64, b: f64) -> i32 {
 }
 
 #[unsafe(no_mangle)]
-extern "C" fn p3p_quadratic(b: f64, c: f64, first: &mut f64, second: &mut f64) -> u32 {
+extern "C" fn p3p_quadratic_kind(
+    b: f64,
+    c: f64,
+    first: &mut f64,
+    second: &mut f64,
+    kind: &mut u32,
+) -> u32 {
     match copy_second::quadratic(b, c) {
-        Ok(roots) => {
+        Ok((found, roots)) => {
             [*first, *second] = roots;
+            *kind = if cfg!(feature = "wrong-kind") && found == 1 { 2 } else { found };
             0
         }
         Err(number) => number,
     }
+}
+
+#[unsafe(no_mangle)]
+extern "C" fn p3p_quadratic(b: f64, c: f64, first: &mut f64, second: &mut f64) -> u32 {
+    p3p_quadratic_kind(b, c, first, second, &mut 0)
 }
 
 #[unsafe(no_mangle)]
@@ -74,6 +87,7 @@ extern "C" fn p3p_solve(
     input: &[f64; 18],
     poses: &mut [f64; 48],
     updates: &mut [u32; 4],
+    lifted: &mut [u32; 4],
     count: &mut u32,
 ) -> u32 {
     let answer = copy_second::solve(input);
@@ -82,6 +96,14 @@ extern "C" fn p3p_solve(
     }
     *poses = std::array::from_fn(|index| answer.poses[index / 12][index % 12]);
     *updates = answer.updates;
+    *lifted = answer.lifted.map(u32::from);
+    if cfg!(feature = "wrong-mark") {
+        *lifted = std::array::from_fn(|slot| {
+            let pose = answer.poses[slot];
+            let twice = answer.poses.iter().filter(|other| **other == pose).count() > 1;
+            (slot < answer.count && twice) as u32
+        });
+    }
     *count = answer.count as u32;
     if cfg!(feature = "wrong-pose") && answer.count == 3 && answer.updates[2] == 5 {
         change_last_bit(&mut poses[24]);

@@ -85,7 +85,7 @@ pub fn run(count: u64, seed: u64) -> Result<(), String> {
     let inputs = &sorts[0].1;
     for power in 3..=6 {
         let frames = 10usize.pow(power);
-        let one_run = || pass(inputs.iter().cycle().take(frames), |input| port::solve(input).3);
+        let one_run = || pass(inputs.iter().cycle().take(frames), |input| port::solve(input).count);
         let least = (0..3).map(|_| one_run()).fold(f64::INFINITY, f64::min);
         println!("| {frames} | {:.0} |", least / frames as f64);
     }
@@ -122,7 +122,7 @@ fn times(inputs: &[Input]) -> Vec<f64> {
     let mut least = vec![vec![f64::INFINITY; 2 + peers]; parts.len()];
     for _ in 0..PASSES {
         for (part, least) in parts.clone().zip(&mut least) {
-            least[0] = least[0].min(pass(part.iter(), |input| port::solve(input).3));
+            least[0] = least[0].min(pass(part.iter(), |input| port::solve(input).count));
             least[1] = least[1].min(pass(part.iter(), |input| copy_asis::solve(input).count));
             for (p, least) in least[2..].iter_mut().enumerate() {
                 *least = least.min(pass(part.iter(), |input| peers::solve(p, input).0));
@@ -134,7 +134,8 @@ fn times(inputs: &[Input]) -> Vec<f64> {
 }
 
 fn ported(input: &Input) -> (usize, [f64; 48]) {
-    let (_, poses, _, count) = port::solve(input);
+    let port::Solve { number, poses, count, .. } = port::solve(input);
+    let count = if number == 0 { count } else { 0 };
     (count as usize, poses)
 }
 

@@ -88,13 +88,20 @@ fn parse_answer(name: &str, answer: &str) -> Vec<u64> {
         (_, "none") => vec![0],
         ("frame", _) => {
             let mut result = vec![0, number(1), number(3)];
-            for pose in tokens[4..].chunks(14) {
+            for pose in tokens[4..].chunks(15) {
                 result.push(pose[1].parse().unwrap());
-                result.extend(pose[2..].iter().map(|word| hex(word)));
+                result
+                    .push(["plain", "lifted"].iter().position(|mark| *mark == pose[14]).unwrap()
+                        as u64);
+                result.extend(pose[2..14].iter().map(|word| hex(word)));
             }
             result
         }
-        ("quadratic" | "cubic", _) => std::iter::once(0).chain(words(1)).collect(),
+        ("quadratic", kind) => {
+            let kind = ["two", "zero", "lifted"].iter().position(|name| *name == kind).unwrap();
+            [0, kind as u64].into_iter().chain(words(1)).collect()
+        }
+        ("cubic", _) => std::iter::once(0).chain(words(1)).collect(),
         ("refine", _) => std::iter::once(number(1)).chain(words(2)).collect(),
         ("ray_fits" | "near", _) => vec![number(1)],
         ("project" | "basis" | "eig" | "row_crosses", _) => {

@@ -12,8 +12,16 @@ unsafe extern "C" {
     fn p3p_total_cmp(a: f64, b: f64) -> i32;
     fn p3p_fast_cbrt(x: f64) -> f64;
     fn p3p_quadratic(b: f64, c: f64, first: *mut f64, second: *mut f64) -> u32;
+    fn p3p_quadratic_kind(b: f64, c: f64, first: *mut f64, second: *mut f64, kind: *mut u32)
+    -> u32;
     fn p3p_cubic(b: f64, c: f64, d: f64, root: *mut f64) -> u32;
-    fn p3p_solve(input: *const f64, poses: *mut f64, updates: *mut u32, count: *mut u32) -> u32;
+    fn p3p_solve(
+        input: *const f64,
+        poses: *mut f64,
+        updates: *mut u32,
+        lifted: *mut u32,
+        count: *mut u32,
+    ) -> u32;
     fn p3p_choose(
         poses: *const f64,
         count: u32,
@@ -50,11 +58,7 @@ pub fn answer(name: &str, input: &[u64]) -> Vec<u64> {
     let d = |index: usize| f64::from_bits(input[index]);
     match name {
         "frame" => frame(&std::array::from_fn(d)),
-        "quadratic" => {
-            let (mut first, mut second) = (LENT, LENT);
-            let number = unsafe { p3p_quadratic(d(0), d(1), &mut first, &mut second) };
-            result(number, &[first, second])
-        }
+        "quadratic" => quadratic(d(0), d(1)),
         "cubic" => {
             let mut root = LENT;
             let number = unsafe { p3p_cubic(d(0), d(1), d(2), &mut root) };
@@ -78,12 +82,45 @@ pub fn answer(name: &str, input: &[u64]) -> Vec<u64> {
     }
 }
 
-/// A solve alone, for its time: the number, the slots, their updates and the count.
-pub fn solve(input: &[f64; 18]) -> (u32, [f64; 48], [u32; 4], u32) {
-    let (mut poses, mut updates, mut count) = ([0.0; 48], [0; 4], 0);
-    let number =
-        unsafe { p3p_solve(input.as_ptr(), poses.as_mut_ptr(), updates.as_mut_ptr(), &mut count) };
-    (number, poses, updates, count)
+/// A solve over lent memory, which it fills whole or, where it refuses, leaves.
+pub struct Solve {
+    pub number: u32,
+    pub poses: [f64; 48],
+    pub updates: [u32; 4],
+    pub lifted: [u32; 4],
+    pub count: u32,
+}
+
+pub fn solve(input: &[f64]) -> Solve {
+    assert!(input.len() >= 18);
+    let mut s = Solve {
+        number: 0,
+        poses: [LENT; 48],
+        updates: [LENT_WHOLE; 4],
+        lifted: [LENT_WHOLE; 4],
+        count: LENT_WHOLE,
+    };
+    let [updates, lifted] = [s.updates.as_mut_ptr(), s.lifted.as_mut_ptr()];
+    s.number =
+        unsafe { p3p_solve(input.as_ptr(), s.poses.as_mut_ptr(), updates, lifted, &mut s.count) };
+    s
+}
+
+/// The number, the kind and the two roots, by both functions.
+fn quadratic(b: f64, c: f64) -> Vec<u64> {
+    let (mut first, mut second, mut kind) = (LENT, LENT, LENT_WHOLE);
+    let number = unsafe { p3p_quadratic_kind(b, c, &mut first, &mut second, &mut kind) };
+    let mut words = result(number, &[first, second]);
+    let kind = match number {
+        0 => kind as u64,
+        _ if kind == LENT_WHOLE => 0,
+        _ => WROTE,
+    };
+    let (mut first, mut second) = (LENT, LENT);
+    let number = unsafe { p3p_quadratic(b, c, &mut first, &mut second) };
+    let alike = words == result(number, &[first, second]);
+    words.insert(1, if alike { kind } else { WROTE });
+    words
 }
 
 fn result(number: u32, roots: &[f64]) -> Vec<u64> {
@@ -108,24 +145,24 @@ fn choose(poses: &[f64; 48], count: u32, target: &[f64; 3], bearing: &[f64; 3]) 
 }
 
 fn frame(input: &[f64; 24]) -> Vec<u64> {
-    let (mut poses, mut updates, mut count) = ([LENT; 48], [LENT_WHOLE; 4], LENT_WHOLE);
-    let number =
-        unsafe { p3p_solve(input.as_ptr(), poses.as_mut_ptr(), updates.as_mut_ptr(), &mut count) };
-    if number != 0 {
-        let kept = poses.iter().all(|x| x.to_bits() == LENT.to_bits())
-            && updates == [LENT_WHOLE; 4]
-            && count == LENT_WHOLE;
-        let mut words = vec![0; 55];
-        (words[0], words[1]) = (number as u64, if kept { 0 } else { WROTE });
+    let s = solve(input);
+    if s.number != 0 {
+        let kept = s.poses.iter().all(|x| x.to_bits() == LENT.to_bits())
+            && s.updates == [LENT_WHOLE; 4]
+            && s.lifted == [LENT_WHOLE; 4]
+            && s.count == LENT_WHOLE;
+        let mut words = vec![0; 59];
+        (words[0], words[1]) = (s.number as u64, if kept { 0 } else { WROTE });
         return words;
     }
     let target: [f64; 3] = std::array::from_fn(|index| input[18 + index]);
     let bearing: [f64; 3] = std::array::from_fn(|index| input[21 + index]);
-    let [_, best, _] = choose(&poses, count, &target, &bearing);
-    let mut words = vec![0, count as u64, best];
+    let [_, best, _] = choose(&s.poses, s.count, &target, &bearing);
+    let mut words = vec![0, s.count as u64, best];
     for slot in 0..4 {
-        words.push(updates[slot] as u64);
-        words.extend(poses[12 * slot..12 * slot + 12].iter().map(|&x| word(x)));
+        words.push(s.updates[slot] as u64);
+        words.push(s.lifted[slot] as u64);
+        words.extend(s.poses[12 * slot..12 * slot + 12].iter().map(|&x| word(x)));
     }
     words
 }

@@ -16,20 +16,20 @@ const fn function(name: &'static str, takes: usize, gives: usize) -> Function {
 
 /// The place decides which generator the inputs come from (vectors.rs), so a new one goes last.
 pub const FUNCTIONS: &[Function] = &[
-    function("frame", 24, 55),      // -> number, count, best, 4 x (updates, 12)
-    function("quadratic", 2, 3),    // b c -> number, root, root
-    function("cubic", 3, 2),        // b c d -> number, root
-    function("fast_cbrt", 1, 1),    // x -> root
-    function("refine", 10, 4),      // depths, squared edges, cosines, limit -> updates, depths
-    function("ray_fits", 6, 1),     // camera, bearing -> 0 or 1
-    function("near", 9, 1),         // m -> 0 or 1
-    function("project", 9, 10),     // m -> 0 or 1, m
-    function("basis", 6, 10),       // edge, edge -> 0 or 1, m
-    function("edges", 15, 9),       // edge, edge, m -> m
-    function("eig", 9, 13),         // m -> 0 or 1, vectors, values
+    function("frame", 24, 59), // -> number, count, best, 4 x (updates, lifted, 12)
+    function("quadratic", 2, 4), // b c -> number, kind, root, root
+    function("cubic", 3, 2),   // b c d -> number, root
+    function("fast_cbrt", 1, 1), // x -> root
+    function("refine", 10, 4), // depths, squared edges, cosines, limit -> updates, depths
+    function("ray_fits", 6, 1), // camera, bearing -> 0 or 1
+    function("near", 9, 1),    // m -> 0 or 1
+    function("project", 9, 10), // m -> 0 or 1, m
+    function("basis", 6, 10),  // edge, edge -> 0 or 1, m
+    function("edges", 15, 9),  // edge, edge, m -> m
+    function("eig", 9, 14),    // m -> 0 or 1, vectors, values, lifted
     function("row_crosses", 10, 4), // m, value -> 0 or 1, vector
-    function("condition", 18, 1),   // world, bearings -> condition
-    function("choice", 55, 3),      // count, 4 x 12, target, bearing -> number, best, score
+    function("condition", 18, 1), // world, bearings -> condition
+    function("choice", 55, 3), // count, 4 x 12, target, bearing -> number, best, score
     function("sqrt", 1, 1),
     function("cbrt", 1, 1),
     function("fma", 3, 1), // a b c -> a × b + c
@@ -110,15 +110,18 @@ macro_rules! answers {
                     "frame" => {
                         let (answer, best) = frame(&doubles(input));
                         let mut words = vec![answer.refusal as u64, answer.count as u64, best];
-                        for (pose, updates) in answer.poses.iter().zip(answer.updates) {
-                            words.push(updates as u64);
+                        for (slot, pose) in answer.poses.iter().enumerate() {
+                            words.push(answer.updates[slot] as u64);
+                            words.push(answer.lifted[slot] as u64);
                             words.extend(pose.map(word));
                         }
                         words
                     }
                     "quadratic" => match $copy::quadratic(d(0), d(1)) {
-                        Ok(roots) => vec![0, word(roots[0]), word(roots[1])],
-                        Err(number) => vec![number as u64, 0, 0],
+                        Ok((kind, roots)) => {
+                            vec![0, kind as u64, word(roots[0]), word(roots[1])]
+                        }
+                        Err(number) => vec![number as u64, 0, 0, 0],
                     },
                     "cubic" => match $copy::cubic(d(0), d(1), d(2)) {
                         Ok(root) => vec![0, word(root)],
@@ -157,11 +160,14 @@ macro_rules! answers {
                         [vec![count as u64, updates as u64], pose.map(word).to_vec()].concat()
                     }
                     "eig" => match $copy::eig(&doubles(input)) {
-                        Some((vectors, values)) => {
-                            [vec![1], vectors.map(word).to_vec(), values.map(word).to_vec()]
-                                .concat()
+                        Some((vectors, values, lifted)) => {
+                            let entries = vectors.into_iter().chain(values).map(word);
+                            let mut words = vec![1];
+                            words.extend(entries);
+                            words.push(lifted as u64);
+                            words
                         }
-                        None => vec![0; 13],
+                        None => vec![0; 14],
                     },
                     "row_crosses" => found($copy::row_crosses(&doubles(input), d(9))),
                     "condition" => vec![word($copy::condition(&doubles(input)))],

@@ -152,9 +152,11 @@ fn summary(name: &str, records: &[Vec<u64>]) -> String {
     match name {
         "frame" => {
             let mut updates = [0; 6];
+            let mut lifted = 0;
             for record in records {
                 for slot in 0..record[takes + 1] as usize {
-                    updates[record[takes + 3 + 13 * slot] as usize] += 1;
+                    lifted += record[takes + 4 + 14 * slot];
+                    updates[record[takes + 3 + 14 * slot] as usize] += 1;
                 }
             }
             let updates: Vec<String> = updates
@@ -163,14 +165,15 @@ fn summary(name: &str, records: &[Vec<u64>]) -> String {
                 .map(|(value, count)| format!("{value}: {count}"))
                 .collect();
             format!(
-                "refusals {}; poses {}; best {}; updates {}",
+                "refusals {}; poses {}; best {}; updates {}; lifted {lifted}",
                 tally(0),
                 tally(1),
                 tally(2),
                 updates.join(", ")
             )
         }
-        "quadratic" | "cubic" => format!("numbers {}", tally(0)),
+        "quadratic" => format!("numbers {}; kinds {}", tally(0), tally(1)),
+        "cubic" => format!("numbers {}", tally(0)),
         "refine" => format!("updates {}", tally(0)),
         "choice" => format!("numbers {}; best {}", tally(0), tally(1)),
         "push" => {
@@ -186,19 +189,22 @@ fn summary(name: &str, records: &[Vec<u64>]) -> String {
 
 /// Kinds of frames, with the answers of each.
 fn kinds() {
-    let mut rows: Vec<(String, [usize; 9])> = Vec::new();
+    let mut rows: Vec<(String, [usize; 10])> = Vec::new();
     for (kind, frame) in frames() {
         let (answer, _) = table::second::frame(&frame);
         if rows.iter().all(|(name, _)| *name != kind) {
-            rows.push((kind.clone(), [0; 9]));
+            rows.push((kind.clone(), [0; 10]));
         }
         let row = &mut rows.iter_mut().find(|(name, _)| *name == kind).unwrap().1;
         row[0] += 1;
         row[if answer.count == 0 { answer.refusal as usize } else { 3 + answer.count }] += 1;
         row[8] += answer.updates.iter().any(|&updates| updates > 0) as usize;
+        row[9] += answer.lifted.contains(&true) as usize;
     }
-    println!("\n| kind | frames | refused 1 | 2 | 3 | 1 pose | 2 | 3 | 4 | with updates |");
-    println!("|---|---:|---:|---:|---:|---:|---:|---:|---:|---:|");
+    println!(
+        "\n| kind | frames | refused 1 | 2 | 3 | 1 pose | 2 | 3 | 4 | with updates | lifted |"
+    );
+    println!("|---|---:|---:|---:|---:|---:|---:|---:|---:|---:|---:|");
     for (kind, row) in rows {
         println!("| {kind} | {} |", row.map(|count| count.to_string()).join(" | "));
     }

@@ -122,7 +122,7 @@ pub(super) fn row_crosses(r: &mut Random) -> Input {
         m = std::array::from_fn(|_| r.scaled(200, 520));
     }
     let value = match copy_second::eig(&m) {
-        Some((_, values)) if !r.chance(4) => values[r.index()],
+        Some((_, values, _)) if !r.chance(4) => values[r.index()],
         _ if r.chance(2) => 0.0,
         _ => r.whole(-2, 2),
     };
