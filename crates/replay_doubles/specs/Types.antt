@@ -3,7 +3,7 @@
 pub use Rattle.ieee754.specs.declared.total_cmp.Order.{Order}
 pub use Rattle.ieee754.specs.declared.total_cmp.Order.the-variants.{Less, Equal, Greater}
 pub use Rattle.polynomial.specs.declared.Roots.{Roots}
-pub use Rattle.polynomial.specs.declared.Roots.the-variants.{Two, One, Refused}
+pub use Rattle.polynomial.specs.declared.Roots.the-variants.{Two, Double, Lifted, One, Refused}
 pub use Rattle.replay_doubles.specs.declared.operations.Operation.{Operation}
 pub use Rattle.replay_doubles.specs.declared.operations.Operation.the-variants.{
   Abs,

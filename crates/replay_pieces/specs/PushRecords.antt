@@ -1,9 +1,10 @@
 -- Records of a pushed pose: world points, bearings, the matrix, the translation, the updates and
 -- the count; then the count after it, and the updates and the pose that were pushed. Whether a
 -- record has the answer of the definition, run on a list whose slots are marked: slot i, from 0,
--- holds i + 1 as the updates and as the bit pattern of each entry of its pose.
+-- holds i + 1 as the updates and as the bit pattern of each entry of its pose, and is not lifted;
+-- what is pushed is.
 use Prim.Native.Nat.{ℕ}
-use mathlib.Core.Bool.{Bool, _&&_}
+use mathlib.Core.Bool.{Bool, true, false, not, _&&_}
 use mathlib.Core.List.{List, [], _∷_}
 use lib.Dec.{eqb, ltb}
 use lib.Ieee.{binary64, ofBits, toBits}
@@ -33,6 +34,7 @@ marked count = record {
   count = count;
   poses = marker 1 ∷ marker 2 ∷ marker 3 ∷ marker 4 ∷ [];
   updates = 1 ∷ 2 ∷ 3 ∷ 4 ∷ [];
+  lifted = false ∷ false ∷ false ∷ false ∷ [];
 }
 
 unfoldable pub vectorIs : Vector3 → ℕ → Bool
@@ -50,26 +52,27 @@ isMarker pose bits =
 
 -- ---- a slot after the push, by its mark: what was pushed stands in the one that the count now
 --      ends with, where there are more than before, and every other slot is as it was
-unfoldable pub slotHolds : List ℕ → ℕ → Pose → ℕ → Bool
-slotHolds s mark pose updates =
+unfoldable pub slotHolds : List ℕ → ℕ → Pose → ℕ → Bool → Bool
+slotHolds s mark pose updates lifted =
     if eqb (wordAt s 256) mark && ltb (wordAt s 248) mark
-    then numberAgrees updates s 264 && poseAgrees pose s 272
-    else (eqb updates mark && isMarker pose mark)
+    then lifted && numberAgrees updates s 264 && poseAgrees pose s 272
+    else (not lifted && eqb updates mark && isMarker pose mark)
 
-unfoldable pub slotsHold : List ℕ → List Pose → List ℕ → Bool
-slotsHold s poses updates =
-    slotHolds s 1 (getD poses 0 zeroPose) (getD updates 0 0)
-    && slotHolds s 2 (getD poses 1 zeroPose) (getD updates 1 0)
-    && slotHolds s 3 (getD poses 2 zeroPose) (getD updates 2 0)
-    && slotHolds s 4 (getD poses 3 zeroPose) (getD updates 3 0)
+unfoldable pub slotsHold : List ℕ → List Pose → List ℕ → List Bool → Bool
+slotsHold s poses updates lifted =
+    slotHolds s 1 (getD poses 0 zeroPose) (getD updates 0 0) (getD lifted 0 false)
+    && slotHolds s 2 (getD poses 1 zeroPose) (getD updates 1 0) (getD lifted 1 false)
+    && slotHolds s 3 (getD poses 2 zeroPose) (getD updates 2 0) (getD lifted 2 false)
+    && slotHolds s 4 (getD poses 3 zeroPose) (getD updates 3 0) (getD lifted 3 false)
 
 unfoldable pub solutionsHold : Solutions → List ℕ → Bool
 solutionsHold after s =
-    numberAgrees (after .count) s 256 && slotsHold s (after .poses) (after .updates)
+    numberAgrees (after .count) s 256
+    && slotsHold s (after .poses) (after .updates) (after .lifted)
 
 unfoldable pub pushHolds : List ℕ → Bool
 pushHolds s =
     let input : P3pInput = record { world = worldAt s 0; bearings = bearingsAt s 72 } in
     let before = marked (narrow (wordAt s 248)) in
     let updates = narrow (wordAt s 240) in
-    solutionsHold (pushPose input before (matrixAt s 144) (vectorAt s 216) updates .value) s
+    solutionsHold (pushPose input before (matrixAt s 144) (vectorAt s 216) updates true .value) s

@@ -14,12 +14,12 @@ use replay_words::word;
 
 // The bytes of a record.
 pub fn length() -> usize
-    ensures { λ r. ⌜ (r ≡ 8 * choiceWords) × (r ≤ 632) ⌝ }
+    ensures { λ r. ⌜ (r ≡ 8 * choiceWords) × (r ≤ 664) ⌝ }
 {
     464
 }
 
-fn choice_agrees(choice: Choice, s: &[u8; 632]) -> bool
+fn choice_agrees(choice: Choice, s: &[u8; 664]) -> bool
     ensures { λ r. ⌜ r ≡ choiceAgrees choice (now (s .entry)) ⌝ }
 {
     match choice {
@@ -33,7 +33,7 @@ fn choice_agrees(choice: Choice, s: &[u8; 632]) -> bool
 }
 
 // Whether the choice gives the record's answer.
-pub fn holds(s: &[u8; 632]) -> bool
+pub fn holds(s: &[u8; 664]) -> bool
     ensures { λ r. ⌜ r ≡ choiceHolds (now (s .entry)) ⌝ }
 {
     let first = pose_at(s, 8);

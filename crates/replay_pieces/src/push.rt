@@ -40,7 +40,7 @@ fn marker(bits: u64) -> Pose
     }
 }
 
-// A list of so many poses, slot i marked with i + 1.
+// A list of so many poses, slot i marked with i + 1 and not lifted.
 fn marked(count: usize) -> Solutions
     ensures { λ r. ⌜ r ≡ PushRecords.marked count ⌝ }
 {
@@ -52,6 +52,7 @@ fn marked(count: usize) -> Solutions
         count,
         poses: [first, second, third, fourth],
         updates: [1, 2, 3, 4],
+        lifted: [false; 4],
     }
 }
 
@@ -71,37 +72,39 @@ fn is_marker(pose: Pose, bits: u64) -> bool
         & vector_is(pose.translation, bits)
 }
 
-// Whether slot `mark - 1` holds the pose that the record says was pushed there, and else its mark.
-fn slot_holds(s: &[u8; 632], mark: u64, pose: Pose, updates: u32) -> bool
-    ensures { λ r. ⌜ r ≡ slotHolds (now (s .entry)) mark pose updates ⌝ }
+// Whether slot `mark - 1` holds the pose that the record says was pushed there, and is lifted, and
+// else its mark.
+fn slot_holds(s: &[u8; 664], mark: u64, pose: Pose, updates: u32, lifted: bool) -> bool
+    ensures { λ r. ⌜ r ≡ slotHolds (now (s .entry)) mark pose updates lifted ⌝ }
 {
     if (word(s, 256) == mark) & (word(s, 248) < mark) {
-        return number_agrees(updates as u64, s, 264) & pose_agrees(pose, s, 272);
+        return lifted & number_agrees(updates as u64, s, 264) & pose_agrees(pose, s, 272);
     }
-    (updates as u64 == mark) & is_marker(pose, mark)
+    !lifted & (updates as u64 == mark) & is_marker(pose, mark)
 }
 
-fn slots_hold(s: &[u8; 632], poses: [Pose; 4], updates: [u32; 4]) -> bool
-    ensures { λ r. ⌜ r ≡ slotsHold (now (s .entry)) poses updates ⌝ }
+fn slots_hold(s: &[u8; 664], poses: [Pose; 4], updates: [u32; 4], lifted: [bool; 4]) -> bool
+    ensures { λ r. ⌜ r ≡ slotsHold (now (s .entry)) poses updates lifted ⌝ }
 {
-    let first = slot_holds(s, 1, poses[0], updates[0]);
-    let second = slot_holds(s, 2, poses[1], updates[1]);
-    let third = slot_holds(s, 3, poses[2], updates[2]);
-    let fourth = slot_holds(s, 4, poses[3], updates[3]);
+    let first = slot_holds(s, 1, poses[0], updates[0], lifted[0]);
+    let second = slot_holds(s, 2, poses[1], updates[1], lifted[1]);
+    let third = slot_holds(s, 3, poses[2], updates[2], lifted[2]);
+    let fourth = slot_holds(s, 4, poses[3], updates[3], lifted[3]);
     first & second & third & fourth
 }
 
-fn solutions_hold(after: Solutions, s: &[u8; 632]) -> bool
+fn solutions_hold(after: Solutions, s: &[u8; 664]) -> bool
     ensures { λ r. ⌜ r ≡ solutionsHold after (now (s .entry)) ⌝ }
 {
     let poses = after.poses;
     let updates = after.updates;
-    number_agrees(after.count as u64, s, 256) & slots_hold(s, poses, updates)
+    let lifted = after.lifted;
+    number_agrees(after.count as u64, s, 256) & slots_hold(s, poses, updates, lifted)
 }
 
 // World points, bearings, the matrix, the translation, the updates and the count; the count, the
-// updates and the pose.
-pub(crate) fn push_holds(s: &[u8; 632]) -> bool
+// updates and the pose. What is pushed is lifted.
+pub(crate) fn push_holds(s: &[u8; 664]) -> bool
     ensures { λ r. ⌜ r ≡ pushHolds (now (s .entry)) ⌝ }
 {
     let world = world_at(s, 0);
@@ -111,5 +114,8 @@ pub(crate) fn push_holds(s: &[u8; 632]) -> bool
     let matrix = matrix_at(s, 144);
     let translation = vector_at(s, 216);
     let updates = narrow(word(s, 240));
-    solutions_hold(push_pose(input, before, matrix, translation, updates), s)
+    solutions_hold(
+        push_pose(input, before, matrix, translation, updates, true),
+        s,
+    )
 }

@@ -12,14 +12,14 @@ use linalg::matrix3::Matrix3;
 use linalg::vector3::Vector3;
 use replay_words::word;
 
-pub fn double_at(s: &[u8; 632], at: usize) -> f64
+pub fn double_at(s: &[u8; 664], at: usize) -> f64
     ensures { λ r. ⌜ r ≡ doubleAt (now (s .entry)) at ⌝ }
 {
     from_bits(word(s, at))
 }
 
-pub fn vector_at(s: &[u8; 632], at: usize) -> Vector3
-    requires { ⌜ at ≤ 608 ⌝ }
+pub fn vector_at(s: &[u8; 664], at: usize) -> Vector3
+    requires { ⌜ at ≤ 640 ⌝ }
     ensures { λ r. ⌜ r ≡ vectorAt (now (s .entry)) at ⌝ }
 {
     Vector3 {
@@ -29,8 +29,8 @@ pub fn vector_at(s: &[u8; 632], at: usize) -> Vector3
     }
 }
 
-pub fn matrix_at(s: &[u8; 632], at: usize) -> Matrix3
-    requires { ⌜ at ≤ 560 ⌝ }
+pub fn matrix_at(s: &[u8; 664], at: usize) -> Matrix3
+    requires { ⌜ at ≤ 592 ⌝ }
     ensures { λ r. ⌜ r ≡ matrixAt (now (s .entry)) at ⌝ }
 {
     let c0 = vector_at(s, at);
@@ -39,8 +39,8 @@ pub fn matrix_at(s: &[u8; 632], at: usize) -> Matrix3
     Matrix3::from_columns(c0, c1, c2)
 }
 
-pub fn world_at(s: &[u8; 632], at: usize) -> World
-    requires { ⌜ at ≤ 560 ⌝ }
+pub fn world_at(s: &[u8; 664], at: usize) -> World
+    requires { ⌜ at ≤ 592 ⌝ }
     ensures { λ r. ⌜ r ≡ worldAt (now (s .entry)) at ⌝ }
 {
     World {
@@ -50,8 +50,8 @@ pub fn world_at(s: &[u8; 632], at: usize) -> World
     }
 }
 
-pub fn bearings_at(s: &[u8; 632], at: usize) -> Bearings
-    requires { ⌜ at ≤ 560 ⌝ }
+pub fn bearings_at(s: &[u8; 664], at: usize) -> Bearings
+    requires { ⌜ at ≤ 592 ⌝ }
     ensures { λ r. ⌜ r ≡ bearingsAt (now (s .entry)) at ⌝ }
 {
     Bearings {
@@ -61,8 +61,8 @@ pub fn bearings_at(s: &[u8; 632], at: usize) -> Bearings
     }
 }
 
-pub fn pose_at(s: &[u8; 632], at: usize) -> Pose
-    requires { ⌜ at ≤ 536 ⌝ }
+pub fn pose_at(s: &[u8; 664], at: usize) -> Pose
+    requires { ⌜ at ≤ 568 ⌝ }
     ensures { λ r. ⌜ r ≡ poseAt (now (s .entry)) at ⌝ }
 {
     let rotation = matrix_at(s, at);

@@ -22,7 +22,7 @@ stageHolds Condition s = conditionHolds s
 
 -- the words that are taken, and those that are given
 abbrev pub stageWords : Stage → ℕ
-stageWords Frame = (9 + 9 + 3 + 3) + (1 + 1 + 1 + 4 * 13)
-stageWords Eig = 9 + (1 + 9 + 3)
+stageWords Frame = (9 + 9 + 3 + 3) + (1 + 1 + 1 + 4 * 14)
+stageWords Eig = 9 + (1 + 9 + 3 + 1)
 stageWords RowCrosses = (9 + 1) + (1 + 3)
 stageWords Condition = (9 + 9) + 1

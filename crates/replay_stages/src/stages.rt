@@ -20,17 +20,17 @@ pub enum Stage {
 
 // The bytes of a record.
 pub fn length(stage: Stage) -> usize
-    ensures { λ r. ⌜ (r ≡ 8 * stageWords stage) × (r ≤ 632) ⌝ }
+    ensures { λ r. ⌜ (r ≡ 8 * stageWords stage) × (r ≤ 664) ⌝ }
 {
     match stage {
-        Stage::Frame => 632,
-        Stage::Eig => 176,
+        Stage::Frame => 664,
+        Stage::Eig => 184,
         Stage::RowCrosses => 112,
         Stage::Condition => 152,
     }
 }
 
-fn condition_holds(s: &[u8; 632]) -> bool
+fn condition_holds(s: &[u8; 664]) -> bool
     ensures { λ r. ⌜ r ≡ conditionHolds (now (s .entry)) ⌝ }
 {
     let world = world_at(s, 0);
@@ -39,7 +39,7 @@ fn condition_holds(s: &[u8; 632]) -> bool
 }
 
 // Whether the function gives the record's answer.
-pub fn holds(stage: Stage, s: &[u8; 632]) -> bool
+pub fn holds(stage: Stage, s: &[u8; 664]) -> bool
     ensures { λ r. ⌜ r ≡ stageHolds stage (now (s .entry)) ⌝ }
 {
     match stage {

@@ -2,7 +2,7 @@
 use borrow.Author.Needs.{needs}
 use native.Mathlib.Omega.{arith}
 use Prim.Native.Nat.{ℕ, _+_}
-use mathlib.Core.Bool.{Bool}
+use mathlib.Core.Bool.{Bool, false}
 use lib.ListN.{getD}
 use Rattle.replay_pieces.specs.PushRecords.{slotHolds, slotsHold}
 use Rattle.replay_pieces.specs.Types.{Pose}
@@ -18,7 +18,8 @@ returns c =
     let first = second .before .before in
     let start = first .before .before in
     let a = start .args in
-    let slot : ℕ → Pose → Bool = λ i pose. slotHolds (a .s .now) (i + 1) pose (getD (a .t3) i 0) in
+    let slot : ℕ → Pose → Bool = λ i pose.
+    slotHolds (a .s .now) (i + 1) pose (getD (a .t3) i 0) (getD (a .t4) i false) in
     let four = start .good .1 .0 .1 .0 .1 in
     rw (
       slot-same (slot 0) (a .t2) 0 _ (omega (arith, four)) (first .slot-holds .ensures),
@@ -29,7 +30,8 @@ returns c =
 
 pub slots-hold-spec : {M : Type 1} → statement M
 slots-hold-spec =
-    tie.close (tie.spec (λ c. search needs) (λ c. search needs) (λ c _. search needs)
-    (λ c. search needs) (λ c. search needs) (λ c _. search needs) (λ c. search needs)
-    (λ c. search needs) (λ c _. search needs) (λ c. search needs) (λ c. search needs)
+    tie.close (tie.spec (λ c. search needs) (λ c. search needs) (λ c. search needs)
+    (λ c _. search needs) (λ c. search needs) (λ c. search needs) (λ c. search needs)
+    (λ c _. search needs) (λ c. search needs) (λ c. search needs) (λ c. search needs)
+    (λ c _. search needs) (λ c. search needs) (λ c. search needs) (λ c. search needs)
     (λ c _. search needs) returns)

@@ -5,7 +5,8 @@ use Rattle.replay_stages.proofs.eigenvectors.pairs_agree.Tie as tie
 
 returns : tie.Need-returns
 returns c =
-    let told = c .before .before .before .before .before .before in
+    let values = c .before .before .before .before in
+    let told = values .before .before .before .before in
     rw (told .pairs .given .1) cc
 
 returns-2 : tie.Need-returns-2
@@ -14,5 +15,5 @@ returns-2 c = rw (c .before .enum-told .given .1) cc
 pub pairs-agree-spec : {M : Type 1} → statement M
 pairs-agree-spec =
     tie.close (tie.spec (λ c. search needs) (λ c _. search needs) (λ c _. search needs)
-    (λ c _. search needs) (λ c _. search needs) (λ c _. search needs) (λ c. search needs)
-    (λ c _. search needs) returns returns-2)
+    (λ c _. search needs) (λ c _. search needs) (λ c _. search needs) (λ c _. search needs)
+    (λ c _. search needs) (λ c. search needs) (λ c _. search needs) returns returns-2)

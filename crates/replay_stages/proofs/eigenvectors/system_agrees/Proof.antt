@@ -4,7 +4,9 @@ use Rattle.replay_stages.proofs.eigenvectors.system_agrees.Statement.{s
 use Rattle.replay_stages.proofs.eigenvectors.system_agrees.Tie as tie
 
 returns : tie.Need-returns
-returns c = let told = c .before .before .before .before in rw (told .system .given .1) cc
+returns c =
+    let told = c .before .before .before .before .before .before in
+    rw (told .system .given .1) cc
 
 returns-2 : tie.Need-returns-2
 returns-2 c = rw (c .before .enum-told .given .1) cc
@@ -12,4 +14,5 @@ returns-2 c = rw (c .before .enum-told .given .1) cc
 pub system-agrees-spec : {M : Type 1} → statement M
 system-agrees-spec =
     tie.close (tie.spec (λ c. search needs) (λ c _. search needs) (λ c _. search needs)
-    (λ c _. search needs) (λ c. search needs) (λ c _. search needs) returns returns-2)
+    (λ c _. search needs) (λ c _. search needs) (λ c _. search needs) (λ c. search needs)
+    (λ c _. search needs) returns returns-2)

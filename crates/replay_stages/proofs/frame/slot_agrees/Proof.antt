@@ -10,4 +10,5 @@ returns c = cc
 
 pub slot-agrees-spec : {M : Type 1} → statement M
 slot-agrees-spec =
-    tie.close (tie.spec (λ c _. search needs) (λ c. search needs) (λ c _. search needs) returns)
+    tie.close (tie.spec (λ c _. search needs) (λ c _. search needs) (λ c. search needs)
+    (λ c _. search needs) (λ c. search needs) (λ c _. search needs) returns)

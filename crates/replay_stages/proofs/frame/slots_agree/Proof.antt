@@ -2,7 +2,7 @@
 use borrow.Author.Needs.{needs}
 use native.Mathlib.Omega.{arith}
 use Prim.Native.Nat.{ℕ, _+_, _*_}
-use mathlib.Core.Bool.{Bool}
+use mathlib.Core.Bool.{Bool, false}
 use lib.ListN.{getD}
 use Rattle.replay_records.proofs.Slots.{slot-same}
 use Rattle.replay_stages.specs.Types.{Pose}
@@ -19,7 +19,7 @@ returns c =
     let start = first .before .before in
     let a = start .args in
     let slot : ℕ → Pose → Bool = λ i pose.
-    slotAgrees pose (getD (a .t2) i 0) (a .s .now) (216 + 104 * i) in
+    slotAgrees pose (getD (a .t2) i 0) (getD (a .t3) i false) (a .s .now) (216 + 112 * i) in
     let four = start .good .0 .1 .0 .1 in
     rw (
       slot-same (slot 0) (a .t1) 0 _ (omega (arith, four)) (first .slot-agrees .ensures),
@@ -30,7 +30,8 @@ returns c =
 
 pub slots-agree-spec : {M : Type 1} → statement M
 slots-agree-spec =
-    tie.close (tie.spec (λ c. search needs) (λ c. search needs) (λ c _. search needs)
-    (λ c. search needs) (λ c. search needs) (λ c _. search needs) (λ c. search needs)
-    (λ c. search needs) (λ c _. search needs) (λ c. search needs) (λ c. search needs)
+    tie.close (tie.spec (λ c. search needs) (λ c. search needs) (λ c. search needs)
+    (λ c _. search needs) (λ c. search needs) (λ c. search needs) (λ c. search needs)
+    (λ c _. search needs) (λ c. search needs) (λ c. search needs) (λ c. search needs)
+    (λ c _. search needs) (λ c. search needs) (λ c. search needs) (λ c. search needs)
     (λ c _. search needs) returns)
