@@ -54,12 +54,14 @@ static void apply(const double pose[12], const double point[3], double camera[3]
                     + pose[9 + i];
 }
 
-/* The poses, and which is the best. */
-static void print_poses(const double poses[48], uint32_t count, uint32_t best)
+/* The poses, which of them are lifted, and which is the best. */
+static void print_poses(const double poses[48], const uint32_t lifted[4], uint32_t count,
+                        uint32_t best)
 {
     for (uint32_t k = 0; k < count; k++) {
         const double *pose = poses + 12 * k;
-        printf("pose %u, rotation by rows and translation\n", k + 1);
+        printf("pose %u%s, rotation by rows and translation\n", k + 1,
+               lifted[k] ? ", lifted" : "");
         for (int i = 0; i < 3; i++)
             printf("%10.6f %9.6f %9.6f %12.6f\n", pose[i], pose[3 + i], pose[6 + i], pose[9 + i]);
     }
@@ -87,7 +89,7 @@ static int confirmed(double score)
 int main(void)
 {
     double input[18], poses[48], bearing[3], camera[3], score;
-    uint32_t updates[4], count, best, refusal;
+    uint32_t updates[4], lifted[4], count, best, refusal;
     for (int k = 0; k < 3; k++) {
         for (int i = 0; i < 3; i++)
             input[3 * k + i] = plate[k][i];
@@ -95,13 +97,16 @@ int main(void)
     }
     normalise(directions[3], bearing);
 
-    refusal = p3p_solve(input, poses, updates, &count); /* one to four poses, or a refusal */
+    /* one to four poses, or a refusal */
+    refusal = p3p_solve(input, poses, updates, lifted, &count);
     if (refusal != 0)
         return refused("solve", refusal);
     refusal = p3p_choose(poses, count, plate[3], bearing, &best, &score);
     if (refusal != 0)
         return refused("choose", refusal);
-    print_poses(poses, count, best);
+    print_poses(poses, lifted, count, best);
+    if (lifted[best - 1])
+        fprintf(stderr, "the pose is lifted: move the camera aside and measure again\n");
     if (!confirmed(score))
         return 1;
     apply(poses + 12 * (best - 1), hole, camera); /* rotation times point plus translation */

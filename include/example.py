@@ -39,15 +39,15 @@ if len(sys.argv) != 2 or sys.argv[1] == "--help":
     sys.exit(__doc__)
 p3p = ctypes.CDLL(sys.argv[1])
 frame, poses, score = (c_double * 24)(), (c_double * 48)(), c_double()
-updates, count, best = (c_uint32 * 4)(), c_uint32(), c_uint32()
+updates, lifted, count, best = (c_uint32 * 4)(), (c_uint32 * 4)(), c_uint32(), c_uint32()
 
 record = sys.stdin.buffer.read(195)
 ask(p3p.p3p_read_record, record, c_size_t(len(record)), frame)
-ask(p3p.p3p_solve, frame, poses, updates, byref(count))
+ask(p3p.p3p_solve, frame, poses, updates, lifted, byref(count))
 target, bearing = (c_double * 3)(*frame[18:21]), (c_double * 3)(*frame[21:24])
 ask(p3p.p3p_choose, poses, count, target, bearing, byref(best), byref(score))
 
-print("best", best.value)
+print(f"best {best.value}" + " (lifted)" * lifted[best.value - 1])
 if not confirmed(score.value):
     sys.exit("not confirmed")
 pose = poses[12 * best.value - 12 : 12 * best.value]

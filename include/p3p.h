@@ -24,10 +24,10 @@
 #include <stddef.h>
 #include <stdint.h>
 
-#define P3P_VERSION "0.2.1"
+#define P3P_VERSION "0.3.0"
 #define P3P_VERSION_MAJOR 0
-#define P3P_VERSION_MINOR 2
-#define P3P_VERSION_PATCH 1
+#define P3P_VERSION_MINOR 3
+#define P3P_VERSION_PATCH 0
 
 #ifdef __cplusplus
 extern "C" {
@@ -67,9 +67,13 @@ enum p3p_refusal {
  * poses    four slots of twelve: the rotation by columns (m00 m10 m20 m01 m11 m21 m02 m12 m22) and
  *          the translation x, y, z, from world to camera. Slots from *count on hold plus zeros.
  * updates  of each slot, how many times its depths were refined: 0 to 5.
+ * lifted   of each slot, 1 where the pose came from a pair of roots whose discriminant was below
+ *          zero, within rounding, and was lifted to zero: two poses have melted into one, which
+ *          stands twice; else 0, and 0 from *count on. What to make of it is in docs/USING.md.
  * count    how many slots hold a pose: 1 to 4.
  * Returns 0, or 1, 2 or 3. */
-uint32_t p3p_solve(const double input[18], double poses[48], uint32_t updates[4], uint32_t *count);
+uint32_t p3p_solve(const double input[18], double poses[48], uint32_t updates[4],
+                   uint32_t lifted[4], uint32_t *count);
 
 /* The pose under which a fourth target lies before the camera and nearest to its bearing. A pose
  * has a score only where camera . bearing, as computed, is above zero: |camera x bearing|^2 /
@@ -107,6 +111,19 @@ uint32_t p3p_read_record(const uint8_t *bytes, size_t length, double frame[24]);
 /* The two real roots of x^2 + b*x + c, not sorted; where the discriminant is zero, or below it by
  * no more than rounding, -b/2 twice. Returns 0, or 4 or 5. */
 uint32_t p3p_quadratic(double b, double c, double *first, double *second);
+
+/* The kind of a quadratic's pair, by its discriminant as computed. */
+enum p3p_kind {
+    /* above zero */
+    P3P_TWO_ROOTS = 0,
+    /* exactly zero: one root, twice */
+    P3P_ZERO_DISCRIMINANT = 1,
+    /* below zero by no more than rounding, and lifted to zero: one root, twice */
+    P3P_LIFTED = 2
+};
+
+/* The same roots, and in *kind one of enum p3p_kind. Returns 0, or 4 or 5. */
+uint32_t p3p_quadratic_kind(double b, double c, double *first, double *second, uint32_t *kind);
 
 /* One real root of x^3 + b*x^2 + c*x + d, polished by Newton's method. Returns 0, or 4 or 6. */
 uint32_t p3p_cubic(double b, double c, double d, double *root);

@@ -12,8 +12,8 @@ static const double degrees = 57.29577951308232;
 static void list_frame(unsigned long number, const double frame[24])
 {
     double poses[48], score;
-    uint32_t updates[4], count, best;
-    uint32_t refusal = p3p_solve(frame, poses, updates, &count);
+    uint32_t updates[4], lifted[4], count, best;
+    uint32_t refusal = p3p_solve(frame, poses, updates, lifted, &count);
     if (refusal != 0) {
         printf("%lu refused %u\n", number, refusal);
         return;
@@ -22,8 +22,8 @@ static void list_frame(unsigned long number, const double frame[24])
     if (refusal != 0)
         printf("%lu poses %u, choice refused %u\n", number, count, refusal);
     else
-        printf("%lu poses %u, best %u, checking target %.6f degrees off its bearing\n", number,
-               count, best, atan(sqrt(score)) * degrees);
+        printf("%lu poses %u, best %u%s, checking target %.6f degrees off its bearing\n", number,
+               count, best, lifted[best - 1] ? " (lifted)" : "", atan(sqrt(score)) * degrees);
 }
 
 /* Lists one record after another; 1 where it has to stop within the input. */

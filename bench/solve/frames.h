@@ -1,10 +1,10 @@
-// The inputs of stored frames: a file of records of 79 big-endian words, of which the first 18 are
+// The inputs of stored frames: a file of records of 83 big-endian words, of which the first 18 are
 // what a solve takes (reference/README.md, frame).
 #include <stdint.h>
 #include <stdio.h>
 #include <string.h>
 
-enum { RECORD = 8 * 79 };
+enum { RECORD = 8 * 83 };
 
 // Reads the next record's input; 0 at the end of the file.
 static int next_input(FILE *file, double input[18]) {

@@ -7,7 +7,7 @@
 
 int main(int argc, char **argv) {
     static double inputs[1000][18], poses[48];
-    uint32_t updates[4], count;
+    uint32_t updates[4], lifted[4], count;
     unsigned long found = 0;
     int frames = 0;
     FILE *file = argc == 3 ? fopen(argv[1], "rb") : NULL;
@@ -19,7 +19,7 @@ int main(int argc, char **argv) {
         frames++;
     for (int turn = atoi(argv[2]); turn > 0; turn--)
         for (int i = 0; i < frames; i++)
-            if (p3p_solve(inputs[i], poses, updates, &count) == 0)
+            if (p3p_solve(inputs[i], poses, updates, lifted, &count) == 0)
                 found += count;
     printf("%lu poses\n", found);
     return 0;

@@ -15,7 +15,7 @@ static const double target[3] = {0.5, 0.375, 0.125}, bearing[3] = {0.0, 0.6, 0.8
 // The first of these poses moves nothing: the target lies before the camera, so it has a score.
 static const double unmoved[48] = {[0] = 1.0, [4] = 1.0, [8] = 1.0};
 static const uint8_t record[P3P_RECORD_SIZE] = {0, 193, 1};
-static uint32_t updates[4], count, best;
+static uint32_t updates[4], lifted[4], count, best;
 static volatile uintptr_t above;
 static volatile double number = 0.3; // unknown to the compiler
 
@@ -24,6 +24,7 @@ static volatile double number = 0.3; // unknown to the compiler
     EACH(choose, p3p_choose(unmoved, 4, target, bearing, &best, &score)) \
     EACH(read_record, p3p_read_record(record, sizeof record, frame))     \
     EACH(quadratic, p3p_quadratic(-3.0, number, &first, &second))        \
+    EACH(quadratic_kind, p3p_quadratic_kind(-3.0, number, &first, &second, &best)) \
     EACH(cubic, p3p_cubic(-3.0, 2.0, number, &first))                    \
     EACH(fast_cbrt, first = p3p_fast_cbrt(number))                       \
     EACH(cbrt, first = p3p_cbrt(number))                                 \
@@ -44,7 +45,7 @@ static volatile double number = 0.3; // unknown to the compiler
 #define ENTRY(name, call) {#name, call_##name},
 
 CALLER(nothing, )
-CALLER(solve, p3p_solve(input, poses, updates, &count))
+CALLER(solve, p3p_solve(input, poses, updates, lifted, &count))
 OTHERS(CALLER)
 
 static const struct {

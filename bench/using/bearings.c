@@ -61,14 +61,14 @@ static struct figures all, sound;
 
 static void try_plate(const struct plate *plate, const struct row *row, uint64_t *state) {
     double input[18], poses[48];
-    uint32_t updates[4], count;
+    uint32_t updates[4], lifted[4], count;
     int thin = is_thin(plate);
     memcpy(input, plate->input, sizeof input);
     for (int i = 0; i < TARGETS; i++)
         row->spoil(input + 9 + 3 * i, row->amount, state);
     all.plates++;
     sound.plates += !thin;
-    if (p3p_solve(input, poses, updates, &count))
+    if (p3p_solve(input, poses, updates, lifted, &count))
         return;
     double error = error_of_pose(plate, poses + 12 * nearest(plate, poses, count));
     note(&all, error);

@@ -42,7 +42,7 @@ static void print(const struct tally *tally) {
 }
 
 struct answer {
-    uint32_t refusal, count, updates[4];
+    uint32_t refusal, count, updates[4], lifted[4];
     double poses[48];
 };
 
@@ -51,7 +51,8 @@ static unsigned solve(const double input[18], unsigned control, struct answer *a
     unsigned before = _mm_getcsr();
     memset(answer, 0, sizeof *answer);
     _mm_setcsr(control & ~(unsigned)FLAGS);
-    answer->refusal = p3p_solve(input, answer->poses, answer->updates, &answer->count);
+    answer->refusal =
+        p3p_solve(input, answer->poses, answer->updates, answer->lifted, &answer->count);
     unsigned raised = _mm_getcsr() & FLAGS;
     _mm_setcsr(before);
     return raised;

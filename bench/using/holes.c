@@ -77,8 +77,8 @@ static void subtract_first(struct plate *plate) {
 
 static void try_plate(const struct plate *plate) {
     double poses[48], camera[3];
-    uint32_t updates[4], count;
-    if (p3p_solve(plate->input, poses, updates, &count))
+    uint32_t updates[4], lifted[4], count;
+    if (p3p_solve(plate->input, poses, updates, lifted, &count))
         return;
     const double *pose = poses + 12 * nearest(plate, poses, count);
     for (int w = 0; w < WAYS; w++) {

@@ -108,9 +108,9 @@ static int tells(const struct plate *plate, const double poses[48], uint32_t cou
 
 static void try_plate(struct plate *plate, mistake *make, struct counts *counts) {
     double poses[48];
-    uint32_t updates[4], count;
+    uint32_t updates[4], lifted[4], count;
     make(plate);
-    uint32_t refusal = p3p_solve(plate->input, poses, updates, &count);
+    uint32_t refusal = p3p_solve(plate->input, poses, updates, lifted, &count);
     counts->plates++;
     counts->refused[refusal]++;
     counts->told += refusal == 0 && tells(plate, poses, count);

@@ -30,8 +30,8 @@ static double least_other(const struct plate *plate, const double poses[48], uin
 // Whether the pose that is taken is the nearest one.
 static int try_plate(const struct plate *plate) {
     double poses[48], score;
-    uint32_t updates[4], count, best;
-    if (p3p_solve(plate->input, poses, updates, &count) ||
+    uint32_t updates[4], lifted[4], count, best;
+    if (p3p_solve(plate->input, poses, updates, lifted, &count) ||
         p3p_choose(poses, count, plate->target, plate->bearing, &best, &score))
         return 0;
     note(&chosen, score);

@@ -38,7 +38,8 @@ def checking_lines(pose, record):
 
 def pose_lines(frame, place, record, centre):
     pose = frame.poses[place - 1]
-    lines = [f"  pose {place}, {pose.updates} updates" + (", best" * (place == frame.best))]
+    marks = ", best" * (place == frame.best) + ", lifted" * pose.lifted
+    lines = [f"  pose {place}, {pose.updates} updates{marks}"]
     lines += [row(label, r) for label, r in zip(("R", "", ""), pose.rows)]
     lines.append(row("t", pose.translation))
     if centre:

@@ -7,7 +7,7 @@ from tool import Fault
 from tool.numbers import double
 from tool.poses import Pose
 
-POSE_LINE = r"updates (\d+)((?: [\da-f]{16}){12})"
+POSE_LINE = r"updates (\d+)((?: [\da-f]{16}){12}) (lifted|plain)"
 
 
 class Frame(NamedTuple):
@@ -61,7 +61,7 @@ def read_pose(lines, number, place):
     _, found = lines.take(rf"{number}\.{place} {POSE_LINE}")
     words = [double(int(word, 16)) for word in found[2].split()]
     rows = [words[i:9:3] for i in range(3)]  # they are listed by columns
-    return Pose(int(found[1]), rows, words[9:])
+    return Pose(int(found[1]), rows, words[9:], found[3] == "lifted")
 
 
 def read_frame(lines, number):

@@ -27,6 +27,8 @@ class Pose(NamedTuple):
     updates: int
     rows: list
     translation: list
+    # whether a pair of roots that it came from was lifted
+    lifted: bool
 
     def camera_point(self, world):
         return [dot(row, world) + t for row, t in zip(self.rows, self.translation)]

@@ -12,7 +12,7 @@ enum { PATTERN = 0xa5 };
 /* All memory that is lent to be written. */
 static struct {
     double poses[48], first, second, root, score, frame[24];
-    uint32_t updates[4], count, best;
+    uint32_t updates[4], lifted[4], count, best, kind;
 } lent;
 
 static uint32_t calls, wrong, added;
@@ -40,7 +40,7 @@ static void expect(const char *call, uint32_t expected, uint32_t number)
 
 static uint32_t solve(const double input[18])
 {
-    return p3p_solve(input, lent.poses, lent.updates, &lent.count);
+    return p3p_solve(input, lent.poses, lent.updates, lent.lifted, &lent.count);
 }
 
 static void solves(void)
@@ -91,6 +91,11 @@ static void choices(void)
     expect("choose, more than four", 0, choose(4000000000u, ahead));
 }
 
+static uint32_t quadratic_kind(double b, double c)
+{
+    return p3p_quadratic_kind(b, c, &lent.first, &lent.second, &lent.kind);
+}
+
 static void roots(void)
 {
     expect("quadratic, a NaN", P3P_COEFFICIENT_NOT_FINITE,
@@ -98,6 +103,9 @@ static void roots(void)
     expect("quadratic, x^2 + 1", P3P_NO_REAL_ROOTS,
            p3p_quadratic(0, 1, &lent.first, &lent.second));
     expect("quadratic, x^2 - 3x + 2", 0, p3p_quadratic(-3, 2, &lent.first, &lent.second));
+    expect("quadratic_kind, an infinity", P3P_COEFFICIENT_NOT_FINITE, quadratic_kind(1, INFINITY));
+    expect("quadratic_kind, x^2 + 1", P3P_NO_REAL_ROOTS, quadratic_kind(0, 1));
+    expect("quadratic_kind, x^2 + 2x + 1", 0, quadratic_kind(2, 1));
     expect("cubic, an infinity", P3P_COEFFICIENT_NOT_FINITE,
            p3p_cubic(0, INFINITY, 0, &lent.root));
     expect("cubic, (x + 1)^3", P3P_NO_ROOT, p3p_cubic(3, 3, 1, &lent.root));

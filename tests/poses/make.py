@@ -8,7 +8,7 @@ crates/poses_runs/args, the argument, and crates/poses_runs/stdout, what is expe
 
 The frames and their answers are the Rust's, of crates/replay/data/rust/frame.bin
 (reference/README.md has its layout), and the listing is put together from these as document 01
-says, "Frame records and their listing". PROGRAM is target/bin/poses. With --all it is given the
+says, "Frame records and their listing", with the last word of document 02, §8. PROGRAM is target/bin/poses. With --all it is given the
 frames by a file, and then by pipes that hand it a few bytes at a time."""
 
 import errno
@@ -28,7 +28,9 @@ NAMED = os.path.join(ROOT, "reference", "inputs", "frames.txt")
 RUNS = os.path.join(ROOT, "crates", "poses_runs")
 LENGTH, VERSION, SIZE = 193, 1, 195
 # the bytes of a stored frame with its answer
-STORED = 632
+STORED = 664
+# the word that a pose's line ends in, by its mark
+MARKS = ["plain", "lifted"]
 # the records that the program's buffer holds
 BUFFER = 64
 
@@ -58,15 +60,15 @@ class Frame(NamedTuple):
         if self.refusal:
             return f"{number} refused {self.refusal}\n"
         poses = [
-            f"{number}.{j + 1} updates {u}{''.join(f' {w:016x}' for w in pose)}\n"
-            for j, (u, *pose) in enumerate(self.slots)
+            f"{number}.{j + 1} updates {u}{''.join(f' {w:016x}' for w in pose)} {MARKS[mark]}\n"
+            for j, (u, mark, *pose) in enumerate(self.slots)
         ]
         return f"{number} poses {self.count} best {self.best}\n" + "".join(poses[: self.count])
 
 
 def stored_frame(stored):
     words = [int.from_bytes(stored[i : i + 8], "big") for i in range(0, len(stored), 8)]
-    return Frame(words[:24], *words[24:27], [words[i : i + 13] for i in range(27, len(words), 13)])
+    return Frame(words[:24], *words[24:27], [words[i : i + 14] for i in range(27, len(words), 14)])
 
 
 def stored_frames():

@@ -44,12 +44,12 @@ class Definition:
 def answer_text(answer):
     """The answer as the reference's command `flags` writes it."""
     words = [str(answer.refusal), str(answer.count)]
-    for pose, updates in zip(answer.poses[: answer.count], answer.updates):
+    for pose, updates, lifted in zip(answer.poses[: answer.count], answer.updates, answer.lifted):
         m, t = pose.rotation, pose.translation
         entries = [
             m.m00, m.m10, m.m20, m.m01, m.m11, m.m21, m.m02, m.m12, m.m22, t.x, t.y, t.z,
         ]  # fmt: skip
-        words += [str(updates)] + [f"{bits(x):016x}" for x in entries]
+        words += [str(updates), str(int(lifted))] + [f"{bits(x):016x}" for x in entries]
     return " ".join(words)
 
 

@@ -42,9 +42,9 @@ def of_kinds(reference, sources, count, path):
 
 
 def stored(root):
-    """The frames of the stored vectors: records of 79 words, the frame first."""
+    """The frames of the stored vectors: records of 83 words, the frame first."""
     with open(os.path.join(root, "crates/replay/data/rust/frame.bin"), "rb") as file:
-        return [record[:18] for record in struct.iter_unpack(">79Q", file.read())]
+        return [record[:18] for record in struct.iter_unpack(">83Q", file.read())]
 
 
 def whole(r, most):

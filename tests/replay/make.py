@@ -11,7 +11,8 @@ Each is made of a stored record, the answer of exact arithmetic (data/exact) or 
     sqrt.bin    as it is stored; with the last bit of the root changed; without its last byte,
                 which is 0, as is what the program's array holds there before it reads
     frame.bin   as it is stored; with the last bit of one entry of slot 1 changed, the last of its
-                rotation; with the last bit of the refusal number changed"""
+                rotation; with the last bit of the refusal number changed; with the mark of slot 1
+                changed"""
 
 import os
 import sys
@@ -20,7 +21,7 @@ DATA = os.path.join(
     os.path.dirname(os.path.abspath(__file__)), "..", "..", "crates", "replay", "data"
 )
 # where the words of a stored frame begin: the refusal number, the count, slot 1
-REFUSAL, COUNT, SLOT_1 = 192, 200, 320
+REFUSAL, COUNT, SLOT_1 = 192, 200, 328
 
 
 def stored(name, size):
@@ -40,10 +41,11 @@ def changed(record, at):
 def files():
     # the first root that ends in a zero byte and is not zero, and the first frame with two poses
     root = next(r for r in stored("exact/sqrt.bin", 16) if word(r, 8) and r[-1] == 0)
-    frame = next(r for r in stored("rust/frame.bin", 632) if word(r, COUNT) == 2)
-    last_entry = SLOT_1 + 8 + 8 * 8
+    frame = next(r for r in stored("rust/frame.bin", 664) if word(r, COUNT) == 2)
+    mark, last_entry = SLOT_1 + 8, SLOT_1 + 16 + 8 * 8
     yield "sqrt.bin", root + changed(root, 8) + root[:-1]
-    yield "frame.bin", frame + changed(frame, last_entry) + changed(frame, REFUSAL)
+    wrong = [changed(frame, at) for at in (last_entry, REFUSAL, mark)]
+    yield "frame.bin", frame + b"".join(wrong)
 
 
 def main(checking):

@@ -61,14 +61,14 @@ def rust(name, size):
 def slot(patterns):
     """The pose of twelve words, the rotation by columns."""
     values = numbers.doubles(patterns)
-    return poses.Pose(0, [values[i:9:3] for i in range(3)], values[9:])
+    return poses.Pose(0, [values[i:9:3] for i in range(3)], values[9:], False)
 
 
 def stored_frames():
     """The stored frames, each as a record and as it is listed."""
-    for number, given in enumerate(rust("frame.bin", 632), 1):
+    for number, given in enumerate(rust("frame.bin", 664), 1):
         refusal, count, best = given[24:27]
-        held = [slot(given[28 + 13 * i : 40 + 13 * i]) for i in range(count)]
+        held = [slot(given[29 + 14 * i : 41 + 14 * i]) for i in range(count)]
         yield records.Record(number, 1, given[:24]), listings.Frame(number, refusal, best, held)
 
 

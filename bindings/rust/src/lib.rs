@@ -37,5 +37,5 @@ pub use bearing::normalise;
 pub use poses::{choose, solve, Choice, Pose, Poses};
 pub use records::{read_record, records, Frame, Records, RECORD_SIZE};
 pub use refusal::Refusal;
-pub use roots::{cubic, fast_cbrt, quadratic};
+pub use roots::{cubic, fast_cbrt, quadratic, quadratic_kind, Kind};
 pub use single::{cbrt, copysign, fma, max, sqrt, total_cmp};

@@ -17,6 +17,10 @@ pub struct Pose {
     pub translation: [f64; 3],
     /// How many times the depths of this pose were refined: 0 to 5.
     pub updates: u32,
+    /// Whether it came from a pair of roots whose discriminant was below zero, within rounding, and
+    /// was lifted to zero: two poses have melted into one, which stands twice. What to make of it
+    /// is in docs/USING.md.
+    pub lifted: bool,
 }
 
 impl Pose {
@@ -33,8 +37,8 @@ impl Pose {
         array::from_fn(|i| self.rotation.map(|column| column[i]))
     }
 
-    fn from_slot([first, second, third, translation]: Slot, updates: u32) -> Self {
-        Self { rotation: [first, second, third], translation, updates }
+    fn from_slot([first, second, third, translation]: Slot, updates: u32, lifted: u32) -> Self {
+        Self { rotation: [first, second, third], translation, updates, lifted: lifted != 0 }
     }
 
     fn to_slot(self) -> Slot {
@@ -46,7 +50,7 @@ impl Pose {
 /// The one to four poses of a solve, in its order: a slice of poses.
 #[derive(Clone, Copy)]
 pub struct Poses {
-    // those from `count` on are plus zeros, and never shown
+    // those from `count` on are plus zeros and not lifted, and never shown
     slots: [Pose; 4],
     count: usize,
 }
@@ -97,11 +101,13 @@ pub fn solve(world: &[[f64; 3]; 3], bearings: &[[f64; 3]; 3]) -> Result<Poses, R
     let [p0, p1, p2] = *world;
     let [f0, f1, f2] = *bearings;
     let input = [p0, p1, p2, f0, f1, f2];
-    let (mut found, mut updates, mut count) = ([Slot::default(); 4], [0; 4], 0);
+    let (mut found, mut count) = ([Slot::default(); 4], 0);
+    let (mut updates, mut lifted) = ([0; 4], [0; 4]);
     // SAFETY: the references are to arrays of this function's own, of the lengths that the C
     // function reads and writes.
-    let number = unsafe { sys::p3p_solve(&input, &mut found, &mut updates, &mut count) };
-    let slots = array::from_fn(|slot| Pose::from_slot(found[slot], updates[slot]));
+    let number =
+        unsafe { sys::p3p_solve(&input, &mut found, &mut updates, &mut lifted, &mut count) };
+    let slots = array::from_fn(|slot| Pose::from_slot(found[slot], updates[slot], lifted[slot]));
     Refusal::unless_zero(number, Poses { slots, count: count as usize })
 }
 

@@ -16,11 +16,19 @@ extern "C" {
     pub fn p3p_fast_cbrt(x: f64) -> f64;
 
     pub fn p3p_quadratic(b: f64, c: f64, first: &mut f64, second: &mut f64) -> u32;
+    pub fn p3p_quadratic_kind(
+        b: f64,
+        c: f64,
+        first: &mut f64,
+        second: &mut f64,
+        kind: &mut u32,
+    ) -> u32;
     pub fn p3p_cubic(b: f64, c: f64, d: f64, root: &mut f64) -> u32;
     pub fn p3p_solve(
         input: &[[f64; 3]; 6],
         poses: &mut [Slot; 4],
         updates: &mut [u32; 4],
+        lifted: &mut [u32; 4],
         count: &mut u32,
     ) -> u32;
     pub fn p3p_choose(

@@ -1,7 +1,7 @@
 //! The root finders, the single operations and the refusals of a solve, on cases whose answers were
 //! worked out by hand.
 
-use p3p::Refusal;
+use p3p::{Kind, Refusal};
 use std::cmp::Ordering;
 
 #[test]
@@ -13,6 +13,17 @@ fn quadratic_gives_two_roots_or_a_refusal() {
     assert_eq!(p3p::quadratic(0.0, 0.0).unwrap().map(f64::to_bits), [1 << 63, 1 << 63]);
     assert_eq!(p3p::quadratic(0.0, 1.0), Err(Refusal::NoRealRoots));
     assert_eq!(p3p::quadratic(f64::NAN, 1.0), Err(Refusal::CoefficientNotFinite));
+}
+
+#[test]
+fn quadratic_tells_its_pair_apart() {
+    // 2^-46 below zero is within the band, and one step of c further is not
+    let within = 1.0 + 64.0 * f64::EPSILON;
+    assert_eq!(p3p::quadratic_kind(-3.0, 2.0), Ok((Kind::TwoRoots, [2.0, 1.0])));
+    assert_eq!(p3p::quadratic_kind(2.0, 1.0), Ok((Kind::ZeroDiscriminant, [-1.0, -1.0])));
+    assert_eq!(p3p::quadratic_kind(2.0, within), Ok((Kind::Lifted, [-1.0, -1.0])));
+    assert_eq!(p3p::quadratic_kind(2.0, within + f64::EPSILON), Err(Refusal::NoRealRoots));
+    assert_eq!(p3p::quadratic_kind(1.0, f64::NAN), Err(Refusal::CoefficientNotFinite));
 }
 
 #[test]

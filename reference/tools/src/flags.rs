@@ -6,7 +6,7 @@ use std::fs;
 use std::io::{self, BufWriter, Write};
 
 /// A line a frame: the flags (copies/flags.rs) in two hexadecimal digits, the refusal number, the
-/// count, and for each pose its updates and twelve words.
+/// count, and for each pose its updates, 1 where it is lifted and twelve words.
 pub fn run(path: &str) -> Result<(), String> {
     let bytes = fs::read(path).map_err(|e| format!("{path}: {e}"))?;
     if bytes.len() % 144 != 0 {
@@ -26,7 +26,7 @@ fn line(out: &mut impl Write, input: &[f64; 18]) -> io::Result<()> {
     let (answer, flags) = copy_flags::flags::solve(input);
     write!(out, "{flags:02x} {} {}", answer.refusal, answer.count)?;
     for slot in 0..answer.count {
-        write!(out, " {}", answer.updates[slot])?;
+        write!(out, " {} {}", answer.updates[slot], answer.lifted[slot] as u32)?;
         for entry in answer.poses[slot] {
             write!(out, " {:016x}", word(entry))?;
         }

@@ -180,7 +180,8 @@ fn summary(name: &str, records: &[Vec<u64>]) -> String {
             let pushed = records.iter().filter(|record| record[takes] > record[takes - 1]).count();
             format!("pushed 0: {}, 1: {pushed}; poses {}", records.len() - pushed, tally(0))
         }
-        "ray_fits" | "near" | "project" | "basis" | "eig" | "row_crosses" => {
+        "eig" => format!("answers {}; lifted {}", tally(0), tally(13)),
+        "ray_fits" | "near" | "project" | "basis" | "row_crosses" => {
             format!("answers {}", tally(0))
         }
         _ => String::new(),

@@ -22,7 +22,7 @@ from interpret.values import Cell, Struct, Variant, held, plain, taken
 from syntax.tokens import Cursor, tokens
 from syntax.types import settled
 
-FRAMES, WORDS = os.path.join("crates", "replay", "data", "rust", "frame.bin"), 79
+FRAMES, WORDS = os.path.join("crates", "replay", "data", "rust", "frame.bin"), 83
 
 
 class Any:

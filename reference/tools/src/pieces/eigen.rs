@@ -50,6 +50,8 @@ pub(super) fn hand_eig() -> Vec<Input> {
         m([1e100, 0.0, 0.0, -1e100, 0.0, 0.0]),
         m([1e80, 1e79, 0.0, -1e80, 1e78, 0.0]),
         m([1e-80, 1e-81, 0.0, -1e-80, 1e-82, 0.0]),
+        // A lifted pair: the discriminant is -2^-46, within the band.
+        m([1.0, 0.0, 0.0, 1.0, 0.0, power(-48)]),
         // Not symmetric, as no frame's matrix is: both eigenvalues zero; a denominator that is not
         // a number.
         words(&[0.0, 1.0, 2.0, 0.0, 0.0, 3.0, 0.0, 0.0, 0.0]),
