@@ -113,6 +113,9 @@ def runs(frames):
     filling = [frame for frame in frames if frame.refusal][:BUFFER]
     # the pose behind is passed over; with the bearing reversed it is taken; then all are behind
     behind = named(frames, ["hand-behind", "hand-behind-turned", "hand-behind-all"])
+    # two poses come together, are one that stands twice, and have changed places
+    cylinder = ["hand-cylinder-outside", "hand-cylinder", "hand-cylinder-inside"]
+    lifted = named(frames, cylinder)
     return [
         ("empty", *whole([])),
         ("lone_byte", *stopped([], b"\0", 9)),
@@ -125,6 +128,7 @@ def runs(frames):
         ("version_2", two.record(version=2) + one.record(), skipped),
         ("answers", *whole(answers)),
         ("behind", *whole(behind)),
+        ("lifted", *whole(lifted)),
         ("buffer", *whole(filling)),
         ("buffer_and_byte", *stopped(filling, b"\0", 9)),
         ("thousand", *whole(frames[-1000:])),

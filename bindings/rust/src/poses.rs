@@ -18,8 +18,8 @@ pub struct Pose {
     /// How many times the depths of this pose were refined: 0 to 5.
     pub updates: u32,
     /// Whether it came from a pair of roots whose discriminant was below zero, within rounding, and
-    /// was lifted to zero: two poses have melted into one, which stands twice. What to make of it
-    /// is in docs/USING.md.
+    /// was lifted to zero: two poses have come together as one, which stands twice. What to make
+    /// of it is in docs/USING.md.
     pub lifted: bool,
 }
 

@@ -59,6 +59,7 @@ fn main() {
     list(b"version_2");
     list(b"answers");
     list(b"behind");
+    list(b"lifted");
     list(b"buffer");
     list(b"buffer_and_byte");
     list(b"thousand");

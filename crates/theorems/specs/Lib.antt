@@ -8,3 +8,4 @@ pub mod PremiseCases
 pub mod Cases
 pub mod Answers
 pub mod BehindCamera
+pub mod LiftedPair
