@@ -130,7 +130,7 @@ static void enter(struct plate *plate, int index, const double world[3], const r
 }
 
 // Points are made in whole steps, of which the world's unit has `steps`.
-static void make_plate(uint64_t *state, int kind, struct plate *plate) {
+static inline void make_plate(uint64_t *state, int kind, struct plate *plate) {
     int counts = kind % 2, grid = kind / 2;
     double per_metre = counts ? 4096 : 10000, steps = counts ? 1 : per_metre;
     double offset[3] = {0, 0, 0};

@@ -1,7 +1,8 @@
 #!/usr/bin/env bash
 # The figures of docs/USING.md: what bearings off unit length do, how far the hole is off by three
-# ways from a pose to it, what scores the checking target has, what mistakes look like, and what
-# flush-to-zero and denormals-are-zero change. Seeds are fixed: the figures are the same each time.
+# ways from a pose to it, what scores the checking target has, what mistakes look like, what a
+# camera near the danger cylinder brings, and what flush-to-zero and denormals-are-zero change.
+# Seeds are fixed: the figures are the same each time.
 #   bench/using/run.sh [LIBRARY]     LIBRARY: what `rt staticlib p3p` writes, if not in target/
 # Needs a C compiler (cc) on x86-64.
 set -euo pipefail
@@ -22,7 +23,7 @@ build() {
     cc "$@" -o "$out/$program" "$out/$program.o" "$library" -lm
 }
 
-for name in bearings holes scores mistakes; do
+for name in bearings holes scores mistakes cylinder; do
     printf '## %s\n\n' "$name"
     build "$name" "$name"
     "$out/$name"

@@ -88,7 +88,8 @@ pub(crate) fn eigenvalues() {
     with(|record| record.lifts.eigenvalues = record.lifts.kind == 2);
 }
 
-pub(crate) fn eigenvalues_lifted() -> bool {
+/// Whether the eigenvalues of the last solve were a lifted pair.
+pub fn eigenvalues_lifted() -> bool {
     with(|record| record.lifts.eigenvalues)
 }
 

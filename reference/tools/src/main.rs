@@ -10,6 +10,7 @@ mod coverage;
 #[cfg(target_arch = "x86_64")]
 mod flags;
 mod frames;
+mod lifts;
 mod orders;
 #[cfg(port)]
 mod peers;
@@ -34,6 +35,7 @@ reference beside [COUNT [SEED]]  the port and both copies on the same random inp
 reference pieces COUNT FUNCTION..  the same on COUNT random inputs of each function named
 reference choices COUNT [SEED]   how many choices document 02, §2, changes, of COUNT random frames
                                  of each kind
+reference lifts COUNT [SEED]     how many poses are lifted, of COUNT random frames of each kind
 reference bench [COUNT]          how long a solve takes, the port beside the unchanged copy and,
                                  where P3P_PEERS was set, other solvers (COUNT frames of a sort)
 reference frames COUNT FILE      COUNT random frames of each kind but the last, eighteen words a
@@ -63,6 +65,10 @@ fn main() {
         ["choices", count] => number(count).and_then(|count| choices::run(count, vectors::SEED)),
         ["choices", count, seed] => {
             number(count).and_then(|count| number(seed).and_then(|seed| choices::run(count, seed)))
+        }
+        ["lifts", count] => number(count).and_then(|count| lifts::run(count, vectors::SEED)),
+        ["lifts", count, seed] => {
+            number(count).and_then(|count| number(seed).and_then(|seed| lifts::run(count, seed)))
         }
         #[cfg(port)]
         ["bench"] => bench::run(4096, vectors::SEED),
