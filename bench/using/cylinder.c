@@ -1,14 +1,17 @@
 // What a camera on or near the danger cylinder brings, the upright cylinder through the circle of
-// the plate's three targets: how often the chosen pose is lifted, and how far it puts the hole off,
-// with bearings as exact as doubles are and with bearings that are off in direction by up to 10^-5
-// along each axis. Plates in metres, the three targets in a plane and no thin triangle; the camera
+// the plate's three targets: how often the chosen pose is lifted, how far it puts the hole off, and
+// how often the score does not tell; with bearings as exact as doubles are, and with bearings that
+// are off in direction by up to 10^-5 along each axis. Plates in metres, the three targets in a plane and no thin triangle; the camera
 // half a metre to six metres off the plane, so far from the cylinder, inside or outside.
 #include "measure.h"
 
 enum { FRAMES = 20000 };
 static const double NOISE = 1e-5;
+// A hole that is far off, in millimetres, and a limit of the score: 0.5 mm at 2 m.
+static const double FAR = 10, LIMIT = 6.25e-8;
 
 static struct figures errors;
+static long lifted_count, far_count, untold_count;
 
 // The centre and the radius of the circle through three points of the plane z = 0.
 static real circle(const double input[18], real centre[2]) {
@@ -60,22 +63,24 @@ static void disturb(double f[3], uint64_t *state) {
     normalise(f);
 }
 
-// Notes how far the chosen pose puts the hole off. Returns whether that pose is lifted.
-static int try_frame(const struct plate *plate) {
+// Notes how far the chosen pose puts the hole off, and whether it is lifted.
+static void try_frame(const struct plate *plate) {
     double poses[48], score;
     uint32_t updates[4], lifted[4], count, best;
     if (p3p_solve(plate->input, poses, updates, lifted, &count) ||
         p3p_choose(poses, count, plate->target, plate->bearing, &best, &score))
-        return 0;
-    note(&errors, error_of_pose(plate, poses + 12 * (best - 1)));
-    return lifted[best - 1] != 0;
+        return;
+    double error = error_of_pose(plate, poses + 12 * (best - 1));
+    note(&errors, error);
+    lifted_count += lifted[best - 1] != 0;
+    far_count += error > FAR;
+    untold_count += error > FAR && score < LIMIT;
 }
 
-// The cells of one sort of bearings: lifted, without a pose, and the hole's error.
-static void print_cells(double distance, int noisy) {
+static void print_row(double distance, int noisy) {
     uint64_t state = SEED, noise = SEED + 1;
-    long lifted = 0;
     clear(&errors);
+    lifted_count = far_count = untold_count = 0;
     for (long n = 0; n < FRAMES; n++) {
         struct plate plate;
         make_frame(&state, distance, &plate);
@@ -83,25 +88,28 @@ static void print_cells(double distance, int noisy) {
             disturb(plate.input + 9 + 3 * i, &noise);
         if (noisy)
             disturb(plate.bearing, &noise);
-        lifted += try_frame(&plate);
+        try_frame(&plate);
     }
     sort(&errors);
-    print_share(lifted, FRAMES);
+    printf("| %g |", distance * 1000);
     print_share(FRAMES - errors.count, FRAMES);
+    print_share(lifted_count, FRAMES);
     print_quantile(&errors, 0.5);
     print_quantile(&errors, 0.99);
+    print_share(far_count, FRAMES);
+    print_share(untold_count, FRAMES);
+    printf("\n");
 }
 
 int main(void) {
     static const double distances[] = {0.1, 0.01, 1e-3, 1e-4, 1e-6, 1e-8, 1e-10, 0};
-    printf("| off the cylinder, mm | lifted | no pose | hole off, mm: median | 99%% | bearings off: "
-           "lifted | no pose | hole off, mm: median | 99%% |\n"
-           "|---:|---:|---:|---:|---:|---:|---:|---:|---:|\n");
-    for (size_t i = 0; i < sizeof distances / sizeof *distances; i++) {
-        printf("| %g |", distances[i] * 1000);
-        print_cells(distances[i], 0);
-        print_cells(distances[i], 1);
-        printf("\n");
+    for (int noisy = 0; noisy < 2; noisy++) {
+        printf("%sBearings %s:\n\n"
+               "| off the cylinder, mm | no pose | lifted | hole off, mm: median | 99%% | more than "
+               "10 | .. with a score below %g |\n|---:|---:|---:|---:|---:|---:|---:|\n",
+               noisy ? "\n" : "", noisy ? "off" : "exact", LIMIT);
+        for (size_t i = 0; i < sizeof distances / sizeof *distances; i++)
+            print_row(distances[i], noisy);
     }
     return 0;
 }

@@ -20,7 +20,8 @@ const LIMIT: f64 = 0.01;
 
 fn print_poses(poses: &[Pose], best: usize) {
     for (k, pose) in poses.iter().enumerate() {
-        println!("pose {}, rotation by rows and translation", k + 1);
+        let lifted = if pose.lifted { ", lifted" } else { "" };
+        println!("pose {}{lifted}, rotation by rows and translation", k + 1);
         for ([a, b, c], t) in pose.rows().iter().zip(&pose.translation) {
             println!("{a:10.6} {b:9.6} {c:9.6} {t:12.6}");
         }
@@ -42,6 +43,9 @@ fn find_hole() -> Result<(), Box<dyn Error>> {
     let poses = p3p::solve(&[p0, p1, p2], &[f0, f1, f2])?; // one to four, or the refusal
     let choice = p3p::choose(&poses, &target, &bearing)?; // by the fourth target
     print_poses(&poses, choice.index);
+    if poses[choice.index].lifted {
+        eprintln!("the pose is lifted: move the camera aside and measure again");
+    }
     if !confirmed(choice.score) {
         return Err("not confirmed".into());
     }

@@ -13,7 +13,8 @@ fn listed(frame: &Frame) -> Result<String, Refusal> {
     let choice = match p3p::choose(&poses, &frame.target, &frame.bearing) {
         Ok(Choice { index, score }) => {
             let angle = score.sqrt().atan().to_degrees();
-            format!("best {}, checking target {angle:.6} degrees off its bearing", index + 1)
+            let lifted = if poses[index].lifted { " (lifted)" } else { "" };
+            format!("best {}{lifted}, checking target {angle:.6} degrees off its bearing", index + 1)
         }
         Err(refusal) => format!("choice refused {}", refusal.number()),
     };

@@ -138,9 +138,9 @@ fn scaled_exactly() -> Result<usize, String> {
 /// What the answers are, in a few words.
 fn summary(name: &str, records: &[Vec<u64>]) -> String {
     let takes = table::find(name).takes;
-    let tally = |at: usize| {
+    let tally_where = |at: usize, counted: fn(&[u64]) -> bool| {
         let mut counts = std::collections::BTreeMap::<u64, usize>::new();
-        for record in records {
+        for record in records.iter().filter(|record| counted(&record[takes..])) {
             *counts.entry(record[takes + at]).or_default() += 1;
         }
         counts
@@ -149,6 +149,7 @@ fn summary(name: &str, records: &[Vec<u64>]) -> String {
             .collect::<Vec<_>>()
             .join(", ")
     };
+    let tally = |at: usize| tally_where(at, |_| true);
     match name {
         "frame" => {
             let mut updates = [0; 6];
@@ -172,7 +173,10 @@ fn summary(name: &str, records: &[Vec<u64>]) -> String {
                 updates.join(", ")
             )
         }
-        "quadratic" => format!("numbers {}; kinds {}", tally(0), tally(1)),
+        "quadratic" => {
+            let kinds = tally_where(1, |answer| answer[0] == 0);
+            format!("numbers {}; kinds {kinds}", tally(0))
+        }
         "cubic" => format!("numbers {}", tally(0)),
         "refine" => format!("updates {}", tally(0)),
         "choice" => format!("numbers {}; best {}", tally(0), tally(1)),
