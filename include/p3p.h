@@ -68,8 +68,9 @@ enum p3p_refusal {
  *          the translation x, y, z, from world to camera. Slots from *count on hold plus zeros.
  * updates  of each slot, how many times its depths were refined: 0 to 5.
  * lifted   of each slot, 1 where the pose came from a pair of roots whose discriminant was below
- *          zero, within rounding, and was lifted to zero: two poses have come together as
- *          one, which stands twice; else 0, and 0 from *count on. What to make of it is in docs/USING.md.
+ *          zero, within rounding, and was lifted to zero: two poses have come together as one,
+ *          which stands twice; else 0, and 0 from *count on. What to make of it is in
+ *          docs/USING.md.
  * count    how many slots hold a pose: 1 to 4.
  * Returns 0, or 1, 2 or 3. */
 uint32_t p3p_solve(const double input[18], double poses[48], uint32_t updates[4],

@@ -1,8 +1,9 @@
 // What a camera on or near the danger cylinder brings, the upright cylinder through the circle of
 // the plate's three targets: how often the chosen pose is lifted, how far it puts the hole off, and
 // how often the score does not tell; with bearings as exact as doubles are, and with bearings that
-// are off in direction by up to 10^-5 along each axis. Plates in metres, the three targets in a plane and no thin triangle; the camera
-// half a metre to six metres off the plane, so far from the cylinder, inside or outside.
+// are off in direction by up to 10^-5 along each axis. Plates in metres, the three targets in a
+// plane and no thin triangle; the camera half a metre to six metres off the plane, so far from the
+// cylinder, inside or outside.
 #include "measure.h"
 
 enum { FRAMES = 20000 };

@@ -1,6 +1,6 @@
 -- The slots that a solve fills, as the code lends them from stage to stage: for each of four poses
--- its twelve entries, its updates, and its mark. What they hold is a `Solutions` (SolverP3pSolutions of
--- common.rs), and at the end the definition's answer.
+-- its twelve entries, its updates, and its mark. What they hold is a `Solutions`
+-- (SolverP3pSolutions of common.rs), and at the end the definition's answer.
 use Prim.Native.Nat.{ℕ, _≤_}
 use mathlib.Core.Path.{_≡_}
 use mathlib.Core.Bool.{Bool, false}

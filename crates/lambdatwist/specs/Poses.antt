@@ -1,6 +1,6 @@
 -- From depth candidates to poses: the end of `solve_ordered` (lambdatwist.rs). Each candidate is
--- refined, and where its depths are positive a pose is made of it and goes to the gate. The pose has
--- its candidate's mark (document 02, §8).
+-- refined, and where its depths are positive a pose is made of it and goes to the gate. The pose
+-- has its candidate's mark (document 02, §8).
 use mathlib.Core.Bool.{Bool, _&&_, not}
 use mathlib.Core.List.{List, [], _∷_}
 use lib.ListN.{take}

@@ -1,6 +1,6 @@
-// The slots that a solve fills: for each of four poses its twelve entries, its updates, and whether a
-// pair of roots that it came from was lifted. Arrays of numbers can be lent to the stages, and a struct of poses cannot; what is lent is not copied
-// from stage to stage.
+// The slots that a solve fills: for each of four poses its twelve entries, its updates, and whether
+// a pair of roots that it came from was lifted. Arrays of numbers can be lent to the stages, and a
+// struct of poses cannot; what is lent is not copied from stage to stage.
 ghost use mathlib.Core.Path.{_≡_};
 ghost use Prim.Native.Nat.{_+_, _≤_, _<_};
 ghost use Rattle.lambdatwist.specs.LentSlots.{entries, poseOf, held, turned};

@@ -1,6 +1,6 @@
 -- How many roots an answer has that is not refused, said of the case that it is (`count-at`), and
--- that a refusal leaves the lent doubles and the kind as they were (`as-held`, `kind-held`); and that a
--- cubic's answer is no pair (`no-cubic-pair`). Assumes nothing.
+-- that a refusal leaves the lent doubles and the kind as they were (`as-held`, `kind-held`); and
+-- that a cubic's answer is no pair (`no-cubic-pair`). Assumes nothing.
 use Prim.Native.Nat.{ℕ}
 use mathlib.Core.Path.{_≡_, refl, subst}
 use mathlib.Core.List.{List, [], _∷_}

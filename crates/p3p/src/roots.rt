@@ -8,8 +8,8 @@ ghost use Rattle.polynomial.specs.Quadratic.{quadraticRealMonic};
 ghost use Rattle.p3p.specs.RootsLent.{rootsAfter, kindAfter};
 use polynomial::Roots;
 
-// The two roots of x^2 + b*x + c, not sorted, and their kind: 0 for two roots, 1 for a discriminant of
-// zero, 2 for one that was lifted to zero.
+// The two roots of x^2 + b*x + c, not sorted, and their kind: 0 for two roots, 1 for a discriminant
+// of zero, 2 for one that was lifted to zero.
 #[no_mangle]
 pub extern "C" fn p3p_quadratic_kind(
     b: f64,

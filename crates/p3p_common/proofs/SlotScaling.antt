@@ -1,5 +1,5 @@
--- Solutions of two runs stay alike as a pose is pushed: the same count, updates and marks, the poses
--- at their degrees. Assumes nothing.
+-- Solutions of two runs stay alike as a pose is pushed: the same count, updates and marks, the
+-- poses at their degrees. Assumes nothing.
 use mathlib.Core.Path.{refl, ap}
 use mathlib.Core.Bool.{Bool}
 use Prim.Native.Nat.{ℕ, _+_}

@@ -38,8 +38,8 @@ values (Lifted x) = x ∷ x ∷ []
 values (One x) = x ∷ []
 values (Refused n) = []
 
--- ---- the kind of a quadratic's pair: 0 for two roots, 1 for a discriminant of zero, 2 for one that
---      was lifted to zero. Any other answer has 0.
+-- ---- the kind of a quadratic's pair: 0 for two roots, 1 for a discriminant of zero, 2 for one
+--      that was lifted to zero. Any other answer has 0.
 abbrev pub kind : Roots → ℕ
 kind (Two x y) = 0
 kind (Double x) = 1
@@ -55,8 +55,8 @@ pairOf (Lifted x) = Present x x true
 pairOf (One x) = Absent
 pairOf (Refused n) = Absent
 
--- ---- what follows a root finder: what `k` makes of the one root, or of a pair's two in their order
---      and whether they were lifted, and `none` for any other answer
+-- ---- what follows a root finder: what `k` makes of the one root, or of a pair's two in their
+--      order and whether they were lifted, and `none` for any other answer
 abbrev pub withRoot : {A : Type 0} → Roots → Traced A → (Float → Traced A) → Traced A
 withRoot (Two x y) none k = none
 withRoot (Double x) none k = none

@@ -30,8 +30,8 @@ pub record TwoRoots (answer : Roots) : Type 0 where
   pub not-refused : number answer ≡ 0
   pub roots : values answer ≡ first ∷ second ∷ []
 
--- the kind of two roots, by the discriminant as computed: it is above zero, is zero (minus zero too)
--- or is below zero
+-- the kind of two roots, by the discriminant as computed: it is above zero, is zero (minus zero
+-- too) or is below zero
 pub data PairKind (discriminant : Float) (answer : Roots) : Type 0 where
   above-zero : T (lt plusZero discriminant) → kind answer ≡ 0 → PairKind discriminant answer
   at-zero : T (eq discriminant plusZero) → kind answer ≡ 1 → PairKind discriminant answer

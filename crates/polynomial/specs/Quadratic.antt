@@ -25,8 +25,8 @@ bandOf b cScale = do
   -- let tolerance = 32.0 * f64::EPSILON * discriminant_scale.max(f64::MIN_POSITIVE);
   ! thirtyTwo ⊗ ! epsilon ⊗ ! (max discriminantScale minPositive)
 
--- not in the Rust: a root that counts twice tells whether the discriminant as computed was lifted to
--- zero. Minus zero is not below zero. Document 02, §8.
+-- not in the Rust: a root that counts twice tells whether the discriminant as computed was lifted
+-- to zero. Minus zero is not below zero. Document 02, §8.
 unfoldable pub doubleRoot : Float → Float → Roots
 doubleRoot root computed = if lt computed plusZero then Lifted root else Double root
 

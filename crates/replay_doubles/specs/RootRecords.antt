@@ -1,6 +1,6 @@
--- Records of the root finders: the arguments, then the refusal number, 0 where nothing is refused, of
--- a quadratic the kind of its pair, and the roots; of the cube root, only the root. Whether a record has the answer of the finder's
--- definition, and how many words it is long.
+-- Records of the root finders: the arguments, then the refusal number, 0 where nothing is refused,
+-- of a quadratic the kind of its pair, and the roots; of the cube root, only the root. Whether a
+-- record has the answer of the finder's definition, and how many words it is long.
 use Prim.Native.Nat.{ℕ, _+_}
 use mathlib.Core.Bool.{Bool, false, _&&_}
 use mathlib.Core.List.{List}

@@ -1,6 +1,6 @@
 -- Records of the eigenvectors: the matrix, for one vector its eigenvalue too, then whether there
--- are any, the vectors, and for the whole system the values and whether the pair of them was lifted.
--- Whether a record has the answer of the definition.
+-- are any, the vectors, and for the whole system the values and whether the pair of them was
+-- lifted. Whether a record has the answer of the definition.
 use Prim.Native.Nat.{ℕ}
 use mathlib.Core.Bool.{Bool, _&&_}
 use mathlib.Core.List.{List}

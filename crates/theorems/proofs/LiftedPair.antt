@@ -1,5 +1,5 @@
--- The answer of the frame of specs/LiftedPair: three poses, of which the last two are one, and marked.
--- It computes. Assumes nothing.
+-- The answer of the frame of specs/LiftedPair: three poses, of which the last two are one, and
+-- marked. It computes. Assumes nothing.
 use mathlib.Core.Path.{_≡_, refl}
 use Rattle.frames.specs.Lent.{vectorAt, poseAt}
 use Rattle.lambdatwist.specs.Solve.{solve}

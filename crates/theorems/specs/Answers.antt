@@ -1,7 +1,7 @@
--- Whole answers of real plates, every bit of every pose, its count and its mark, as the Rust gives them
--- (reference/inputs/theorems.txt): of the plate in metres, and of the far plate, whose poses take
--- three updates each; and the refinement of document 01's case from (2, 2, 2) with five updates
--- allowed, in place of one. That they are given is proofs/Answers.
+-- Whole answers of real plates, every bit of every pose, its count and its mark, as the Rust gives
+-- them (reference/inputs/theorems.txt): of the plate in metres, and of the far plate, whose poses
+-- take three updates each; and the refinement of document 01's case from (2, 2, 2) with five
+-- updates allowed, in place of one. That they are given is proofs/Answers.
 use Prim.Native.Nat.{ℕ}
 use mathlib.Core.Bool.{false}
 use mathlib.Core.List.{List, [], _∷_, map}

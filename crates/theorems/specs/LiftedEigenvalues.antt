@@ -1,5 +1,5 @@
--- No pose has its mark from the eigenvalues (document 02, §8): where the pair of them was lifted, the
--- solve of that ordering ends in number 3. That it does is `lifted-stops` in the proofs.
+-- No pose has its mark from the eigenvalues (document 02, §8): where the pair of them was lifted,
+-- the solve of that ordering ends in number 3. That it does is `lifted-stops` in the proofs.
 use mathlib.Core.Path.{_≡_}
 use mathlib.Core.Bool.{Bool, false}
 use lib.Dec.{T}

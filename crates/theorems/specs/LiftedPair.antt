@@ -1,8 +1,8 @@
 -- A frame whose camera stands on the danger cylinder, over the circle through the plate's targets:
 -- two of its poses have come together as one, which the answer holds twice, both times marked
--- (document 02, §8). The targets lie on the circle of radius 5 about the origin, the camera 8 before it at
--- (-3, -4). The answer is the Rust's with its marks (reference/inputs/theorems.txt). That it is
--- given is proofs/LiftedPair.
+-- (document 02, §8). The targets lie on the circle of radius 5 about the origin, the camera 8
+-- before it at (-3, -4). The answer is the Rust's with its marks (reference/inputs/theorems.txt).
+-- That it is given is proofs/LiftedPair.
 use mathlib.Core.Bool.{true, false}
 use mathlib.Core.List.{[], _∷_}
 use Rattle.ieee754.specs.Literal.{double}

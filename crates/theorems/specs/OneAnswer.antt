@@ -1,6 +1,6 @@
 -- Demand 1 of the mission, for the solve: the answer to eighteen doubles, finite or not, is one to
--- four poses or number 1, 2 or 3; a refusal holds no pose, plus zero in every slot and no mark. That
--- it holds of every input and the answer of `solve` to it is `one-answer` in the proofs.
+-- four poses or number 1, 2 or 3; a refusal holds no pose, plus zero in every slot and no mark.
+-- That it holds of every input and the answer of `solve` to it is `one-answer` in the proofs.
 use mathlib.Core.Path.{_≡_}
 use mathlib.Core.Bool.{Bool, false, not, _&&_, _||_}
 use mathlib.Core.List.{[], _∷_}

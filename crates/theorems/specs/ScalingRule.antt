@@ -42,8 +42,8 @@ pub record AlikePose (k : ℤ) (p p' : Pose) : Type 0 where
   pub translation : TimesVector k (p .translation) (p' .translation)
 
 -- the same refusal number or none, the same count of poses, and in each place poses that are alike,
--- the same update count and the same mark. The library's `Forall₂ R` says of two lists that they are of one
--- length and that R holds of their entries in each place.
+-- the same update count and the same mark. The library's `Forall₂ R` says of two lists that they
+-- are of one length and that R holds of their entries in each place.
 pub record Alike (k : ℤ) (a a' : Answer) : Type 0 where
   pub refusal : a .refusal ≡ a' .refusal
   pub count : a .count ≡ a' .count

@@ -1,5 +1,5 @@
--- `p3p::roots::p3p_quadratic_kind` meets its contract: the arms of a pair and of a refusal leave what
--- the definition says, and the arm of one root is never reached. Assumes nothing.
+-- `p3p::roots::p3p_quadratic_kind` meets its contract: the arms of a pair and of a refusal leave
+-- what the definition says, and the arm of one root is never reached. Assumes nothing.
 use borrow.Author.Needs.{needs}
 use mathlib.Core.Path.{refl, sym, _∙_}
 use native.Mathlib.Omega.{arith}
