@@ -14,7 +14,10 @@ fn listed(frame: &Frame) -> Result<String, Refusal> {
         Ok(Choice { index, score }) => {
             let angle = score.sqrt().atan().to_degrees();
             let lifted = if poses[index].lifted { " (lifted)" } else { "" };
-            format!("best {}{lifted}, checking target {angle:.6} degrees off its bearing", index + 1)
+            format!(
+                "best {}{lifted}, checking target {angle:.6} degrees off its bearing",
+                index + 1
+            )
         }
         Err(refusal) => format!("choice refused {}", refusal.number()),
     };

@@ -8,6 +8,7 @@ const TRUE_POSE: Pose = Pose {
     rotation: [[0.96, 0.0, -0.28], [0.0, 1.0, 0.0], [0.28, 0.0, 0.96]],
     translation: [0.3, -0.2, 2.5],
     updates: 0,
+    lifted: false,
 };
 
 fn seen(point: [f64; 3]) -> [f64; 3] {
@@ -75,6 +76,23 @@ fn a_pose_that_puts_the_target_behind_the_camera_is_not_chosen() {
     assert_eq!(choose(world[0], reversed(bearings[0])), Err(Refusal::NoFiniteScore));
 }
 
+/// A camera over the circle of the plate's targets: of three poses the last two are one, and marked.
+#[test]
+fn a_lifted_pair_is_marked() {
+    let world = [[-5.0, 0.0, 0.0], [-4.0, -3.0, 0.0], [-4.0, 3.0, 0.0]];
+    let seen_from = |radius: f64| {
+        world.map(|[x, y, z]| {
+            p3p::normalise(&[x + 0.6 * radius, y + 0.8 * radius, z + 8.0]).unwrap()
+        })
+    };
+    let poses = p3p::solve(&world, &seen_from(5.0)).unwrap();
+    assert_eq!(poses.iter().map(|pose| pose.lifted).collect::<Vec<_>>(), [false, true, true]);
+    assert_eq!(poses[1], poses[2]);
+    // farther out they are two
+    let poses = p3p::solve(&world, &seen_from(5.01)).unwrap();
+    assert!(poses.iter().all(|pose| !pose.lifted) && poses[1] != poses[2]);
+}
+
 #[test]
 fn poses_are_iterated_compared_and_shown_up_to_their_count() {
     let poses = solved();
@@ -132,7 +150,7 @@ fn apply_has_the_bits_of_the_librarys_camera_point() {
     let (mut numbers, mut differ) = (Numbers(1), 0);
     for _ in 0..1000 {
         let rotation = [numbers.vector(), numbers.vector(), numbers.vector()];
-        let pose = Pose { rotation, translation: numbers.vector(), updates: 0 };
+        let pose = Pose { rotation, translation: numbers.vector(), updates: 0, lifted: false };
         let (target, mut bearing) = (numbers.vector(), numbers.vector());
         // A target behind the camera has no score: then the bearing is reversed.
         let choice = p3p::choose(&[pose], &target, &bearing).unwrap_or_else(|_| {
