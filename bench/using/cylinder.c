@@ -106,8 +106,9 @@ int main(void) {
     static const double distances[] = {0.1, 0.01, 1e-3, 1e-4, 1e-6, 1e-8, 1e-10, 0};
     for (int noisy = 0; noisy < 2; noisy++) {
         printf("%sBearings %s:\n\n"
-               "| off the cylinder, mm | no pose | lifted | hole off, mm: median | 99%% | more than "
-               "10 | .. with a score below %g |\n|---:|---:|---:|---:|---:|---:|---:|\n",
+               "| off the cylinder, mm | no pose | lifted | hole off, mm: median | 99%% "
+               "| more than 10 | .. with a score below %g |\n"
+               "|---:|---:|---:|---:|---:|---:|---:|\n",
                noisy ? "\n" : "", noisy ? "off" : "exact", LIMIT);
         for (size_t i = 0; i < sizeof distances / sizeof *distances; i++)
             print_row(distances[i], noisy);

@@ -8,6 +8,12 @@ RECORD_SIZE = 195
 # what is listed of the sample's first record, and where its checking bearing is reversed
 LISTED = "poses 2, best 2, checking target 0.000000 degrees off its bearing\n"
 LISTED_BEHIND = "poses 2, choice refused 10\n"
+# what is listed of the stored run `lifted`
+LIFTED = """\
+1 poses 3, best 3, checking target 0.000000 degrees off its bearing
+2 poses 3, best 2 (lifted), checking target 0.000000 degrees off its bearing
+3 poses 3, best 2, checking target 0.000001 degrees off its bearing
+"""
 NO_READ = "records: cannot read the input: Is a directory\n"
 NO_WRITE = "records: cannot write the listing: No space left on device\n"
 
@@ -49,6 +55,7 @@ def runs():
         Run("cut short", good + good[:-1], first + "2 refused 9\n", 1),
         Run("a byte more", good + good[:1], first + "2 refused 9\n", 1),
         Run("behind the camera", good + behind(good), first + "2 " + LISTED_BEHIND),
+        Run("a lifted pose", read("crates/poses_runs/data/lifted"), LIFTED),
         Run("a folder", b"", NO_READ, 1, "< /"),
         Run("a full output", sample, NO_WRITE, 1, "> /dev/full"),
     ]

@@ -58,17 +58,17 @@ def rust(name, size):
         yield [int.from_bytes(record[i : i + 8], "big") for i in range(0, size, 8)]
 
 
-def slot(patterns):
-    """The pose of twelve words, the rotation by columns."""
+def slot(patterns, lifted=0):
+    """The pose of twelve words, the rotation by columns, and of its mark."""
     values = numbers.doubles(patterns)
-    return poses.Pose(0, [values[i:9:3] for i in range(3)], values[9:], False)
+    return poses.Pose(0, [values[i:9:3] for i in range(3)], values[9:], bool(lifted))
 
 
 def stored_frames():
     """The stored frames, each as a record and as it is listed."""
     for number, given in enumerate(rust("frame.bin", 664), 1):
         refusal, count, best = given[24:27]
-        held = [slot(given[29 + 14 * i : 41 + 14 * i]) for i in range(count)]
+        held = [slot(given[29 + 14 * i : 41 + 14 * i], given[28 + 14 * i]) for i in range(count)]
         yield records.Record(number, 1, given[:24]), listings.Frame(number, refusal, best, held)
 
 
@@ -226,6 +226,8 @@ class Listing(unittest.TestCase):
                 expected = "end: " if last[0] == "end" else f"stop {last[1]} at record {last[3]}\n"
                 self.assertEqual((status, error), (int(last[0] == "stop"), ""), name)
                 self.assertIn(f"\n{expected}", out.decode())
+                self.assertEqual(out.count(b", lifted\n"), text.count(" lifted\n"), name)
+            self.assertIn(" lifted\n", "".join(text for _, _, text in stored_listings()))
 
     def test_a_listing_alone(self):
         status, out, _ = tool("listing", path("listing.txt"))

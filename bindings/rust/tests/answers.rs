@@ -17,7 +17,7 @@ fn quadratic_gives_two_roots_or_a_refusal() {
 
 #[test]
 fn quadratic_tells_its_pair_apart() {
-    // 2^-46 below zero is within the band, and one step of c further is not
+    // with c = 1 + 2^-46 the discriminant, -2^-44, is just within the band; one step further not
     let within = 1.0 + 64.0 * f64::EPSILON;
     assert_eq!(p3p::quadratic_kind(-3.0, 2.0), Ok((Kind::TwoRoots, [2.0, 1.0])));
     assert_eq!(p3p::quadratic_kind(2.0, 1.0), Ok((Kind::ZeroDiscriminant, [-1.0, -1.0])));

@@ -76,7 +76,8 @@ fn a_pose_that_puts_the_target_behind_the_camera_is_not_chosen() {
     assert_eq!(choose(world[0], reversed(bearings[0])), Err(Refusal::NoFiniteScore));
 }
 
-/// A camera over the circle of the plate's targets: of three poses the last two are one, and marked.
+/// A camera over the circle of the plate's targets: of three poses the last two are one, and
+/// marked.
 #[test]
 fn a_lifted_pair_is_marked() {
     let world = [[-5.0, 0.0, 0.0], [-4.0, -3.0, 0.0], [-4.0, 3.0, 0.0]];

@@ -1,5 +1,5 @@
--- The depth candidates of either sign of the ratio are at degree 1, as many in both runs. Assumes
--- nothing.
+-- The depth candidates of either sign of the ratio are at degree 1, as many in both runs and with
+-- the same marks. Assumes nothing.
 use mathlib.Core.Bool.{Bool}
 use lib.IntN.{ℤ}
 use lib.Ieee.{Float, neg}

@@ -4,5 +4,5 @@ pub mod EigenvectorScaling
 pub mod EigenvalueScaling
 pub mod SystemScaling
 pub mod EigenpairsRead
-pub mod LiftedPair
+pub mod EqualEigenvalues
 pub mod Evaluated

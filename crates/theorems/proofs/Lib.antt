@@ -1,7 +1,7 @@
 -- The answer to eighteen doubles, why one retry is enough, why no pose has its mark from the
 -- eigenvalues, the scaling rule with plates to which it applies and one to which it does not, the
--- marked cases, whole answers, the choices in a frame one of whose poses puts the checking target
--- behind the camera, and the answer of a frame with a lifted pair.
+-- cases of document 01, whole answers, the choices in a frame one of whose poses puts the checking
+-- target behind the camera, and the answer of a frame with a lifted pair.
 pub mod OneAnswer
 pub mod OneRetry
 pub mod LiftedEigenvalues

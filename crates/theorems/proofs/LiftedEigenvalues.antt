@@ -6,7 +6,7 @@ use lib.Dec.{T}
 use lib.Ieee.{Float}
 use Rattle.ieee754.specs.Traced.{Traced, _>>=_}
 use Rattle.eigen.specs.KnownZero.{withSystem, eigWithKnownZero}
-use Rattle.eigen.proofs.LiftedPair.{EqualValues, lifted-equal}
+use Rattle.eigen.proofs.EqualEigenvalues.{EqualValues, lifted-equal}
 use Rattle.depths.specs.Matrix.{singularMatrix}
 use Rattle.depths.specs.RatioOf.{withRatio, ratioOf}
 use Rattle.depths.specs.Signs.{candidates}

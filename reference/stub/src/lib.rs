@@ -1,7 +1,7 @@
-//! The second copy behind the port's C interface: it stands in for the port to try the
-//! comparison itself. With a feature it is wrong in a last bit now and then, scores a target
-//! behind the camera, takes a discriminant of zero for a
-//! lifted one, or marks a pose because it stands twice, which must be found.
+//! The second copy behind the port's C interface: it stands in for the port to try the comparison
+//! itself. With a feature it is wrong in a last bit now and then, scores a target behind the
+//! camera, takes a discriminant of zero for a lifted one, or marks a pose because it stands twice,
+//! which must be found.
 
 #[path = "../../tools/src/choice.rs"]
 mod choice;

@@ -104,6 +104,7 @@ fn parse_answer(name: &str, answer: &str) -> Vec<u64> {
         ("cubic", _) => std::iter::once(0).chain(words(1)).collect(),
         ("refine", _) => std::iter::once(number(1)).chain(words(2)).collect(),
         ("ray_fits" | "near", _) => vec![number(1)],
+        // A text of `eig` has no mark: it stands for one that is not lifted.
         ("project" | "basis" | "eig" | "row_crosses", _) => {
             std::iter::once(1).chain(words(0)).collect()
         }

@@ -23,7 +23,8 @@ impl Row {
         }
         let marked = (0..answer.count).filter(|&slot| answer.lifted[slot]);
         let twice = |slot: usize| {
-            let same = |other: &&[f64; 12]| **other == answer.poses[slot];
+            let bits = answer.poses[slot].map(f64::to_bits);
+            let same = |other: &&[f64; 12]| other.map(f64::to_bits) == bits;
             answer.poses[..answer.count].iter().filter(same).count() > 1
         };
         self.solved += (answer.count != 0) as u64;
@@ -36,9 +37,8 @@ impl Row {
 
 pub fn run(count: u64, seed: u64) -> Result<(), String> {
     println!("seed {seed}, {count} frames of each kind\n");
-    println!(
-        "| kind | solved | with a lifted pose | lifted poses | .. that stand twice | eigenvalues lifted |"
-    );
+    let columns = ["solved", "with a lifted pose", "lifted poses", ".. that stand twice"];
+    println!("| kind | {} | eigenvalues lifted |", columns.join(" | "));
     println!("|---|---:|---:|---:|---:|---:|");
     let mut seeds = Random::new(seed);
     for (kind, _, make) in frames::KINDS {

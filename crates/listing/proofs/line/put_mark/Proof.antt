@@ -9,7 +9,8 @@ returns : tie.Need-returns
 unfolding markText
 returns c =
     let put = c .before .before in
-    let tested = put .before .before .before in
+    let text = put .before .before in
+    let tested = text .before in
     rw (tested .if1 .taken)
     (put .put-text .ensures, omega (arith, put .put-text .ensures .next-at))
 
@@ -17,7 +18,8 @@ returns-2 : tie.Need-returns-2
 unfolding markText
 returns-2 c =
     let put = c .before .before in
-    let tested = put .before .before .before in
+    let text = put .before .before in
+    let tested = text .before in
     rw (tested .if1 .left)
     (put .put-text2 .ensures, omega (arith, put .put-text2 .ensures .next-at))
 

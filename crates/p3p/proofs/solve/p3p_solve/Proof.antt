@@ -33,7 +33,9 @@ returns-2 : tie.Need-returns-2
 unfolding posesAfter updatesAfter liftedAfter countAfter
 returns-2 c =
     let filled = c .before .before in
-    let accepted = filled .before .before .before .before .before .before .before in
+    let last = filled .before .before in
+    let second = last .before .before in
+    let accepted = second .before .before .before in
     let answer = accepted .before .solve in
     let zero = accepted .if1 .left in
     let four = four-poses (answer .result) (answer .ok) in

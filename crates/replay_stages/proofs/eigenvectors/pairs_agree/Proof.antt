@@ -5,8 +5,10 @@ use Rattle.replay_stages.proofs.eigenvectors.pairs_agree.Tie as tie
 
 returns : tie.Need-returns
 returns c =
-    let values = c .before .before .before .before in
-    let told = values .before .before .before .before in
+    let second = c .before .before in
+    let first = second .before .before in
+    let vectors = first .before .before in
+    let told = vectors .before .before in
     rw (told .pairs .given .1) cc
 
 returns-2 : tie.Need-returns-2

@@ -5,7 +5,9 @@ use Rattle.replay_stages.proofs.eigenvectors.system_agrees.Tie as tie
 
 returns : tie.Need-returns
 returns c =
-    let told = c .before .before .before .before .before .before in
+    let values = c .before .before in
+    let vectors = values .before .before in
+    let told = vectors .before .before in
     rw (told .system .given .1) cc
 
 returns-2 : tie.Need-returns-2
