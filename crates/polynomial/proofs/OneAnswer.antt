@@ -1,7 +1,7 @@
 -- Demand 1 of the mission for the root finders, as specs/OneAnswer.antt states it: the quadratic
 -- answers with two roots of their kind, 4 or 5 (`quadratic-answer`), the cubic with one root, 4 or
--- 6 (`cubic-answer`). So a quadratic that is not refused has two roots (`quadratic-two`), and such a
--- cubic has one (`cubic-one`). Assumes nothing.
+-- 6 (`cubic-answer`). So a quadratic that is not refused has two roots (`quadratic-two`), and such
+-- a cubic has one (`cubic-one`). Assumes nothing.
 use mathlib.Core.Path.{_≡_, refl, ap, subst}
 use mathlib.Core.Bool.{Bool, true, false, not, _&&_, _||_}
 use Prim.Native.Nat.{ℕ}

@@ -72,8 +72,8 @@ fn is_marker(pose: Pose, bits: u64) -> bool
         & vector_is(pose.translation, bits)
 }
 
-// Whether slot `mark - 1` holds the pose that the record says was pushed there, lifted; else whether
-// it is as it was.
+// Whether slot `mark - 1` holds the pose that the record says was pushed there, lifted; else
+// whether it is as it was.
 fn slot_holds(s: &[u8; 664], mark: u64, pose: Pose, updates: u32, lifted: bool) -> bool
     ensures { λ r. ⌜ r ≡ slotHolds (now (s .entry)) mark pose updates lifted ⌝ }
 {
