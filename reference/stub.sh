@@ -7,7 +7,11 @@ set -euo pipefail
 here=$(cd "$(dirname "$0")" && pwd)
 sources=$(realpath "${1:?usage: stub.sh SOURCES}")
 build() {
-  (cd "$here" && P3P_SOURCES=$sources cargo build --quiet --release --offline -p stub --target-dir "target/$1" ${2:-})
+  (
+    cd "$here"
+    export P3P_SOURCES=$sources
+    cargo build --quiet --release --offline -p stub --target-dir "target/$1" ${2:-}
+  )
 }
 compare() { # STAND-IN COMMAND..
   P3P_PORT=$here/target/$1/release/libstub.a "$here/run" "$sources" "${@:2}"

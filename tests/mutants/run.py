@@ -13,6 +13,8 @@ proofs/ stay as they are.
   tests/mutants/run.py --list CRATE  print the mutants and try none
   tests/mutants/run.py --edits       see that each must-fail edit changes an answer, at the input
                                      that its comment names (check/edits.py)
+  tests/mutants/run.py --refusals    see that each was refused for a fact, by the logs of the last
+                                     `rt must-fail` or `rt ci` (check/refusals.py)
 
 Run it at the repository's root, after `rt check`. `RT` in the environment is the command for rt.
 
@@ -42,6 +44,7 @@ from change.bodies import functions_of
 from change.mutants import mutants_of
 from check.crates import CRATES
 from check.edits import try_edits
+from check.refusals import read_refusals
 from check.results import add_witness
 from check.rounds import try_crate
 from check.table import write_table
@@ -67,6 +70,8 @@ def main():
         write_table(root)
     elif "--edits" in sys.argv:
         sys.exit(0 if try_edits() else 1)
+    elif "--refusals" in sys.argv:
+        sys.exit(0 if read_refusals() else 1)
     elif "--table" in sys.argv:
         write_table(root)
     else:

@@ -15,14 +15,17 @@ WORDS = [
         "a goal is not proved",
         r"no proof of|does not follow|it is not proved|`cc`|what it leaves must be a path",
     ),
-    ("an equation of the proof is not in the goal", r"no occurrence of the path"),
+    (
+        "an equation of the proof is not in the goal",
+        r"no occurrence of the path|no part of the goal",
+    ),
 ]
 WAITS = "was not admitted (it has holes or undetermined implicits, or was rejected)"
 
 
 def read(said, mutants, crate):
     """Gives each mutant its verdict, or None where another run must tell."""
-    errors = errors_by_file(said, crate)
+    errors = errors_by_file(said, f"crates/{crate}")
     status = dict(re.findall(r"^fn (\S+): (.*)$", said, re.M))
     for m in mutants:
         f, state = m.function, status.get(m.function.path, "")
@@ -39,11 +42,11 @@ def read(said, mutants, crate):
             m.verdict, m.said = "no verdict", state
 
 
-def errors_by_file(said, crate):
-    """The words of the errors, with the lines that go on with them."""
+def errors_by_file(said, folder):
+    """The words of the errors in a crate's folder, with the lines that go on with them."""
     errors, at = {}, None
     for line in said.splitlines():
-        m = re.match(r"\S*/crates/" + crate + r"/(\S+?):\d+:\d+: error: (.*)", line)
+        m = re.match(r"\S*/" + folder + r"/(\S+?):\d+:\d+: error: (.*)", line)
         if m:
             at = errors.setdefault(m.group(1), [])
             at.append(m.group(2))

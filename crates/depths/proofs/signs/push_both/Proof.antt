@@ -4,7 +4,11 @@ use Rattle.depths.proofs.signs.push_both.Statement.{statement}
 use Rattle.depths.proofs.signs.push_both.Tie as tie
 
 returns : tie.Need-returns
-returns c = cc
+returns c =
+    rw (
+      c .push2 .ensures,
+      c .before .push .ensures,
+    )
 
 pub push-both-spec : {M : Type 1} → statement M
 push-both-spec = tie.close (tie.spec (λ c _. search needs) (λ c _. search needs) returns)
