@@ -9,6 +9,7 @@ pub mod Degrees
 pub mod RegularNormal
 pub mod MinPositive
 pub mod Finite
+pub mod SubLaws
 pub mod Fitting
 pub mod RootRegular
 pub mod RootNearest

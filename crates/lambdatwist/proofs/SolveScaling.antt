@@ -62,7 +62,7 @@ module _ {k : ℤ} where
     lifted = s .lifted;
   }
 
-  refused-alike : (number : ℕ) → AtAnswer k (refused number) (refused number)
+  pub refused-alike : (number : ℕ) → AtAnswer k (refused number) (refused number)
   unfolding refused
   refused-alike number = answered-at number empty-scales
 
@@ -181,7 +181,7 @@ module _ {k : ℤ} where
         orderedOr-scales same-input f h (bestOr (solveOrdered n))
         (retry-scales n (solveOrdered-scales n))
 
-    inputFinite-same : inputFinite given ≡ inputFinite given'
+    pub inputFinite-same : inputFinite given ≡ inputFinite given'
     unfolding inputFinite
     inputFinite-same = λ i.
         allFinite-same (W .p0) i && allFinite-same (W .p1) i && allFinite-same (W .p2) i

@@ -59,7 +59,7 @@ fn answered(number: u32, solutions: Solutions) -> Answer
     }
 }
 
-fn refused(number: u32) -> Answer
+pub fn refused(number: u32) -> Answer
     ensures { λ r. ⌜ r ≡ Solve.refused number ⌝ }
 {
     answered(number, Solutions::empty())

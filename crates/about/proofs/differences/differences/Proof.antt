@@ -1,0 +1,13 @@
+-- `about::differences::differences` meets its contract. Assumes nothing.
+use borrow.Author.Needs.{needs}
+use Rattle.about.specs.Differences.{differences}
+use Rattle.about.proofs.differences.differences.Statement.{statement}
+use Rattle.about.proofs.differences.differences.Tie as tie
+
+returns : tie.Need-returns
+unfolding differences
+returns c = cc
+
+pub differences-spec : {M : Type 1} → statement M
+differences-spec =
+    tie.close (tie.spec (λ c _. search needs) (λ c _. search needs) (λ c _. search needs) returns)

@@ -1,0 +1,30 @@
+-- The solve about the first target: document 02, §1. Question 1 of document 01, then the
+-- differences; "number 1 is also given where a difference is not finite, right after the present
+-- first question"; then the present solve of the differences.
+use Prim.Native.Nat.{ℕ}
+use mathlib.Core.Bool.{not}
+use lib.Dec.{eqb}
+use Rattle.ieee754.specs.Traced.{Traced, pure, _>>=_, if_then_else_}
+use Rattle.linalg.specs.Vectors.{zeros}
+use Rattle.p3p_common.specs.Input.{inputFinite}
+use Rattle.lambdatwist.specs.Solve.{refused, solve}
+use Rattle.about.specs.Differences.{differences, worldFinite}
+use Rattle.about.specs.Types.{Vector3, World, Bearings, P3pInput, Answer, AnswerAbout}
+
+unfoldable pub refusedAbout : ℕ → AnswerAbout
+refusedAbout number = record { answer = refused number; origin = zeros }
+
+-- "the answer carries the subtracted point beside the poses (plus zeros if refused)"
+unfoldable pub withOrigin : Vector3 → Answer → AnswerAbout
+withOrigin origin answer =
+    if not (eqb (answer .refusal) 0) then record { answer = answer; origin = zeros }
+    else record { answer = answer; origin = origin }
+
+unfoldable pub solveAbout : World → Bearings → Traced AnswerAbout
+solveAbout world bearings =
+    let input : P3pInput = record { world = world; bearings = bearings } in
+    if not (inputFinite input) then pure (refusedAbout 1) else (do
+      moved ← differences world
+      if not (worldFinite moved) then pure (refusedAbout 1) else (do
+        answer ← solve moved bearings
+        pure (withOrigin (world .p0) answer)))
