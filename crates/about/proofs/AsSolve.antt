@@ -1,13 +1,13 @@
 -- Whatever the eighteen numbers are, the answer about the first target is the solve's of the
 -- differences, with the point that was subtracted (`about-solves`): both of the questions before it
 -- end as the solve's own first question would. Document 02, §1. Assumes nothing.
-use mathlib.Core.Path.{_≡_, refl, sym, _∙_}
-use mathlib.Core.Bool.{not, _&&_}
+use mathlib.Core.Path.{_≡_, refl}
+use mathlib.Core.Bool.{Bool, not, _&&_}
 use lib.Dec.{T, T-not}
 use lib.Ieee.Fits.{and-i, and-l, and-r}
 use mir.Facts.{T-not-not}
 use Rattle.ieee754.specs.Traced.{Traced}
-use Rattle.ieee754.proofs.Tests.{either-way}
+use Rattle.ieee754.proofs.Tests.{three, all-three, either-way}
 use Rattle.linalg.specs.Vectors.{allFinite}
 use Rattle.p3p_common.specs.Input.{inputFinite}
 use Rattle.lambdatwist.specs.Solve.{answered, refused, solve}
@@ -16,43 +16,61 @@ use Rattle.about.specs.SolveAbout.{refusedAbout, withOrigin, solveAbout}
 use Rattle.about.specs.Types.{World, Bearings, P3pInput, Answer, AnswerAbout}
 use Rattle.about.proofs.DifferenceLaws.{points-finite}
 
-module _ (world : World) (bearings : Bearings) where
-  abbrev given : P3pInput
-  given = record { world = world; bearings = bearings }
+-- ---- an input is finite where its points and its bearings are
+module _ (w : World) (f : Bearings) where
+  abbrev raysFinite : Bool
+  raysFinite = allFinite (f .f0) && allFinite (f .f1) && allFinite (f .f2)
 
+  abbrev input : P3pInput
+  input = record { world = w; bearings = f }
+
+  pub parts-finite : T (inputFinite input) → T (worldFinite w) × T raysFinite
+  unfolding inputFinite worldFinite
+  parts-finite h =
+      let f0 = allFinite (f .f0) in
+      let f1 = allFinite (f .f1) in
+      let f2 = allFinite (f .f2) in
+      let s = three (worldFinite w && f0) f1 f2 h in
+      (
+        and-l (worldFinite w) f0 (s .0),
+        all-three f0 f1 f2 (and-r (worldFinite w) f0 (s .0)) (s .1) (s .2),
+      )
+
+  both-finite : T (worldFinite w) → T raysFinite → T (inputFinite input)
+  unfolding inputFinite worldFinite
+  both-finite p r =
+      let f0 = allFinite (f .f0) in
+      let f1 = allFinite (f .f1) in
+      let f2 = allFinite (f .f2) in
+      let s = three f0 f1 f2 r in
+      all-three (worldFinite w && f0) f1 f2 (and-i (worldFinite w) f0 p (s .0)) (s .1) (s .2)
+
+module _ (world : World) (bearings : Bearings) where
   abbrev moved : World
   moved = differences world .value
 
-  abbrev solved : P3pInput
-  solved = record { world = moved; bearings = bearings }
-
-  -- the solve's input is finite only where the differences and what was given are
-  moved-finite : T (inputFinite solved) → T (worldFinite moved) × T (inputFinite given)
-  unfolding inputFinite worldFinite
+  -- the solve's input is finite exactly where the differences and what was given are
+  pub moved-finite : T (inputFinite (input moved bearings))
+      → T (inputFinite (input world bearings)) × T (worldFinite moved)
   moved-finite h =
-      let f0 = allFinite (bearings .f0) in
-      let f1 = allFinite (bearings .f1) in
-      let f2 = allFinite (bearings .f2) in
-      let w = worldFinite moved in
-      let second = and-l (w && f0 && f1) f2 h in
-      let first = and-l (w && f0) f1 second in
-      let finite = and-l w f0 first in
-      let points = points-finite world finite in
-      let v = worldFinite world in (
-        finite,
-        and-i (v && f0 && f1) f2
-            (and-i (v && f0) f1 (and-i v f0 points (and-r w f0 first)) (and-r (w && f0) f1 second))
-            (and-r (w && f0 && f1) f2 h),
-      )
+      let parts = parts-finite moved bearings h in
+      (both-finite world bearings (points-finite world (parts .0)) (parts .1), parts .0)
+
+  pub solved-finite : T (inputFinite (input world bearings))
+      → T (worldFinite moved)
+      → T (inputFinite (input moved bearings))
+  solved-finite h m = both-finite moved bearings m (parts-finite world bearings h .1)
 
   -- where it is not, the solve refuses with 1
-  solve-refuses : (T (inputFinite solved) → ⊥) → solve moved bearings .value ≡ refused 1
+  solve-refuses : (T (inputFinite (input moved bearings)) → ⊥)
+      → solve moved bearings .value ≡ refused 1
   unfolding solve
   solve-refuses infinite =
-      either-way (λ (m : Traced Answer). m .value ≡ refused 1) (not (inputFinite solved)) (λ _. refl)
-      (λ f. absurd (infinite (T-not-not (inputFinite solved) f)))
+      let finite = inputFinite (input moved bearings) in
+      either-way (λ (m : Traced Answer). m .value ≡ refused 1) (not finite) (λ _. refl)
+      (λ f. absurd (infinite (T-not-not finite f)))
 
-  refuses : (T (inputFinite solved) → ⊥)
+  refuses : (T (inputFinite (input moved bearings)) → ⊥)
       → refusedAbout 1 ≡ withOrigin (world .p0) (solve moved bearings .value)
   unfolding refusedAbout withOrigin refused answered
   refuses infinite = rw (solve-refuses infinite)
@@ -61,9 +79,9 @@ module _ (world : World) (bearings : Bearings) where
       solveAbout world bearings .value ≡ withOrigin (world .p0) (solve moved bearings .value)
   unfolding solveAbout
   about-solves =
+      let given = inputFinite (input world bearings) in
       let Solves : Traced AnswerAbout → Type 0 =
       λ m. m .value ≡ withOrigin (world .p0) (solve moved bearings .value) in
-      either-way Solves (not (inputFinite given))
-      (λ n. refuses (λ h. T-not (inputFinite given) n (moved-finite h .1)))
+      either-way Solves (not given) (λ n. refuses (λ h. T-not given n (moved-finite h .0)))
       (λ _. either-way Solves (not (worldFinite moved))
-      (λ n. refuses (λ h. T-not (worldFinite moved) n (moved-finite h .0))) (λ _. refl))
+      (λ n. refuses (λ h. T-not (worldFinite moved) n (moved-finite h .1))) (λ _. refl))

@@ -3,11 +3,13 @@
 -- cases of document 01, whole answers, the choices in a frame one of whose poses puts the checking
 -- target behind the camera, and the answer of a frame with a lifted pair.
 pub mod OneAnswer
+pub mod OneAnswerAbout
 pub mod OneRetry
 pub mod LiftedEigenvalues
 mod TimesPower
 mod FiniteTranslation
 pub mod ScalingRule
+pub mod ScalingRuleAbout
 pub mod ScalingExamples
 pub mod PremiseCases
 pub mod MarkedCases

@@ -5,13 +5,15 @@ use mathlib.Core.List.{List, Forall₂, Forall₂·nil, Forall₂·cons}
 use Prim.Native.Nat.{suc}
 use lib.IntN.{ℤ, pos}
 use lib.Dec.{T}
+use Rattle.ieee754.specs.Traced.{Traced}
+use Rattle.ieee754.specs.Scaling.{Both}
 use Rattle.linalg.specs.Vectors.{allFinite}
 use Rattle.linalg.specs.Doubles.{Doubles}
 use Rattle.linalg.specs.VectorScaling.{AtVector}
 use Rattle.linalg.proofs.Finite.{entries-finite}
 use Rattle.frames.specs.FrameScaling.{AtWorld, AtPose}
 use Rattle.theorems.specs.ScalingRule as rule
-use Rattle.theorems.specs.ScalingRule.{ScalingRule}
+use Rattle.theorems.specs.ScalingRule.{ScalingRuleOf, ScalingRule}
 use Rattle.lambdatwist.specs.Solve.{solve}
 use Rattle.theorems.specs.Types.{Vector3, Pose, World, Bearings, Answer}
 use Rattle.theorems.proofs.TimesPower.{times-at, at-times}
@@ -43,7 +45,7 @@ module _ (k : ℤ) where
   }
 
   -- ---- and back: a finite entry at degree 1 is 2 ^ k times the first run's
-  vector-times : {v v' : Vector3}
+  pub vector-times : {v v' : Vector3}
       → T (allFinite v)
       → AtVector k (pos 1) v v'
       → rule.TimesVector k v v'
@@ -65,7 +67,7 @@ module _ (k : ℤ) where
       (record { rotation = h .rotation; translation = vector-times (f 0) (h .translation) })
       (poses-alike (λ i. f (suc i)) hs)
 
-  answer-alike : {a a' : Answer}
+  pub answer-alike : {a a' : Answer}
       → FiniteTranslations (a .poses)
       → AtAnswer k a a'
       → rule.Alike k a a'
@@ -77,14 +79,29 @@ module _ (k : ℤ) where
     lifted = h .lifted;
   }
 
+-- ---- a solve whose answers scale by the calculus of degrees, and of whose answers that is as much
+--      as to be alike, meets the rule
+pub rule-of : {A : Type 0} (At Alike : ℤ → A → A → Type 0) (solver : World → Bearings → Traced A)
+    → ((k : ℤ) (w w' : World) (f : Bearings)
+    → AtWorld k w w'
+    → Both (At k) (solver w f) (solver w' f))
+    → ((k : ℤ) (w : World) (f : Bearings) (a' : A)
+    → At k (solver w f .value) a'
+    → Alike k (solver w f .value) a')
+    → ScalingRuleOf Alike solver
+unfolding ScalingRuleOf
+rule-of At Alike solver scales alike k world world' bearings bearings' d d' times same r r' =
+    subst (λ (seen : Bearings).
+    T (solver world' seen .regular) →
+    Alike k (solver world bearings .value) (solver world' seen .value))
+    same
+    (λ (s : T (solver world' bearings .regular)).
+    alike k world bearings _
+    (scales k world world' bearings (world-at k d d' times) .results r s))
+    r'
+
 pub scaling-rule : ScalingRule
 unfolding ScalingRule
-scaling-rule k world world' bearings bearings' d d' times same r r' =
-    subst (λ (seen : Bearings).
-    T (solve world' seen .regular) →
-    rule.Alike k (solve world bearings .value) (solve world' seen .value))
-    same
-    (λ (s : T (solve world' bearings .regular)).
-    answer-alike k (solve-finite world bearings)
-    (solve-scales bearings (world-at k d d' times) .results r s))
-    r'
+scaling-rule =
+    rule-of AtAnswer rule.Alike solve (λ _ _ _ bearings. solve-scales bearings)
+    (λ k world bearings _. answer-alike k (solve-finite world bearings))

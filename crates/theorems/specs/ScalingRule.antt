@@ -1,11 +1,12 @@
--- Demand 3 of the mission, the scaling rule: a single claim about two whole answers of `solve`. Its
--- proof is `scaling-rule` in the proofs.
+-- Demand 3 of the mission, the scaling rule: a single claim about two whole answers of `solve`, as
+-- an instance of what it says of any solve. Its proof is `scaling-rule` in the proofs.
 use mathlib.Core.Path.{_≡_}
 use mathlib.Core.List.{Forall₂}
 use Prim.Native.Nat.{_*_}
 use lib.IntN.{ℤ}
 use lib.Dec.{T}
 use lib.Ieee.{Float, nan, inf, fin, up, down}
+use Rattle.ieee754.specs.Traced.{Traced}
 use Rattle.linalg.specs.Doubles.{Doubles}
 use Rattle.lambdatwist.specs.Solve.{solve}
 use Rattle.theorems.specs.Types.{Vector3, Pose, World, Bearings, Answer}
@@ -51,14 +52,21 @@ pub record Alike (k : ℤ) (a a' : Answer) : Type 0 where
   pub updates : a .updates ≡ a' .updates
   pub lifted : a .lifted ≡ a' .lifted
 
--- for every whole number k, and where every operation that either solve reaches and that can round
--- meets the premise
-unfoldable pub ScalingRule : Type 0
-ScalingRule = (k : ℤ) (world world' : World) (bearings bearings' : Bearings)
+-- The rule of any solve of points and bearings, with what it calls alike: for every whole number k,
+-- and where every operation that either solve reaches and that can round meets the premise.
+unfoldable pub ScalingRuleOf : {A : Type 0}
+    → (ℤ → A → A → Type 0)
+    → (World → Bearings → Traced A)
+    → Type 0
+ScalingRuleOf alike solver = (k : ℤ) (world world' : World) (bearings bearings' : Bearings)
     → DoubleWorld world
     → DoubleWorld world'
     → TimesWorld k world world'
     → bearings ≡ bearings'
-    → T (solve world bearings .regular)
-    → T (solve world' bearings' .regular)
-    → Alike k (solve world bearings .value) (solve world' bearings' .value)
+    → T (solver world bearings .regular)
+    → T (solver world' bearings' .regular)
+    → alike k (solver world bearings .value) (solver world' bearings' .value)
+
+-- demand 3
+unfoldable pub ScalingRule : Type 0
+ScalingRule = ScalingRuleOf Alike solve

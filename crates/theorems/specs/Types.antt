@@ -22,3 +22,4 @@ pub use Rattle.choice.specs.declared.score.Scored.{Scored}
 pub use Rattle.choice.specs.declared.score.Scored.the-variants.{Score}
 pub use Rattle.choice.specs.declared.choose.Choice.{Choice}
 pub use Rattle.choice.specs.declared.choose.Choice.the-variants.{Best}
+pub use Rattle.about.specs.declared.solve_about.AnswerAbout.{AnswerAbout}
