@@ -30,8 +30,7 @@ module _ (w : World) (f : Bearings) where
       let f0 = allFinite (f .f0) in
       let f1 = allFinite (f .f1) in
       let f2 = allFinite (f .f2) in
-      let s = three (worldFinite w && f0) f1 f2 h in
-      (
+      let s = three (worldFinite w && f0) f1 f2 h in (
         and-l (worldFinite w) f0 (s .0),
         all-three f0 f1 f2 (and-r (worldFinite w) f0 (s .0)) (s .1) (s .2),
       )

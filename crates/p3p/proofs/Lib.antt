@@ -1,4 +1,3 @@
 -- What the proofs of several functions use.
 mod RootsLent
-mod SolveLent
-mod ChooseLent
+mod AsRead

@@ -14,7 +14,7 @@ use Rattle.polynomial.specs.declared.Roots.the-variants.{Two, Double, Lifted, O
 use Rattle.polynomial.proofs.Roots.{the-type}
 use Rattle.p3p.specs.Types.{Roots, Refused}
 use Rattle.p3p.specs.RootsLent.{rootsAfter, kindAfter}
-use Rattle.p3p.proofs.SolveLent.{when-refused}
+use Rattle.lent_answers.proofs.WriteLaws.{when-refused}
 
 module _ {answer : Roots} {k : ℕ} (count : number answer ≡ 0 → length (values answer) ≡ k) where
   pub count-at : {r : Roots} → answer ≡ r → number r ≡ 0 → length (values r) ≡ k

@@ -4,4 +4,5 @@ pub mod Answer
 pub mod RootsLent
 pub mod SolveLent
 pub mod ChooseLent
+pub mod AboutLent
 pub mod RecordLent

@@ -1,10 +1,11 @@
 // The choice of a pose by a fourth target, over lent arrays.
 ghost use mathlib.Core.Path.{_≡_};
-ghost use Rattle.p3p.specs.ChooseLent.{chosen, bestAfter, scoreAfter};
 ghost use Rattle.choice.specs.Answer.{number};
-use choice::choose::Choice;
-use frames::lent::pose_at;
+ghost use Rattle.lent_answers.specs.Chosen.{bestAfter, scoreAfter};
+ghost use Rattle.p3p.specs.ChooseLent.{chosen};
 use frames::lent::vector_at;
+use lent_answers::chosen::poses_in;
+use lent_answers::chosen::write_choice;
 
 // The number from 1 of the pose under which the target lies before the camera and nearest to its
 // bearing, and its score. Returns 0, or the refusal number with nothing written.
@@ -30,19 +31,8 @@ pub extern "C" fn p3p_choose(
         ≡ scoreAfter (chosen (now (poses .entry)) count (now (target .entry)) (now (bearing .entry)))
         (now (score .entry)) ⌝ }
 {
-    let p0 = pose_at(poses, 0);
-    let p1 = pose_at(poses, 12);
-    let p2 = pose_at(poses, 24);
-    let p3 = pose_at(poses, 36);
+    let slots = poses_in(poses);
     let seen = vector_at(target, 0);
     let ray = vector_at(bearing, 0);
-    let choice = choice::choose::choose([p0, p1, p2, p3], count, seen, ray);
-    match choice {
-        Choice::Best(place, value) => {
-            *best = place;
-            *score = value;
-            0
-        }
-        Choice::Refused(refusal) => refusal,
-    }
+    write_choice(choice::choose::choose(slots, count, seen, ray), best, score)
 }

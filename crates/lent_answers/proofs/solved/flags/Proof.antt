@@ -1,4 +1,4 @@
--- `p3p::solve::flags` meets its contract: four marks are all there are. Assumes nothing.
+-- `lent_answers::solved::flags` meets its contract: four marks are all there are. Assumes nothing.
 use borrow.Author.Needs.{needs}
 use mathlib.Core.Path.{_≡_, refl, ap}
 use mathlib.Core.Bool.{Bool, true, false}
@@ -6,9 +6,9 @@ use mathlib.Core.List.{map}
 use lib.ListN.{getD}
 use mir.Val.{boolByte}
 use Rattle.frames.proofs.Entries.{list-of-four}
-use Rattle.p3p.specs.SolveLent.{flag}
-use Rattle.p3p.proofs.solve.flags.Statement.{statement}
-use Rattle.p3p.proofs.solve.flags.Tie as tie
+use Rattle.lent_answers.specs.Solved.{flag}
+use Rattle.lent_answers.proofs.solved.flags.Statement.{statement}
+use Rattle.lent_answers.proofs.solved.flags.Tie as tie
 
 as-flag : (b : Bool) → boolByte b ≡ flag b
 as-flag true = refl

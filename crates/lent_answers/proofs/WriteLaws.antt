@@ -1,27 +1,17 @@
--- The solve over lent arrays: its answer, what is held where it refuses and where it does not, and
--- the four slots one after another. Assumes nothing.
+-- What is held where an answer is refused and where it is not, and the four slots one after
+-- another. Assumes nothing.
 use Prim.Native.Nat.{ℕ}
 use mathlib.Core.Path.{_≡_, sym, ap}
 use mathlib.Core.Bool.{Bool}
 use mathlib.Core.List.{List, _++_}
 use borrow.Author.Tests.{eq-eqb, ne-eqb}
 use lib.Dec.{eqb}
-use lib.Ieee.{Float}
 use lib.ListN.{length, getD}
 use Rattle.ieee754.specs.Traced.{if_then_else_}
-use Rattle.frames.specs.Lent.{worldAt, bearingsAt}
 use Rattle.frames.proofs.Entries.{list-of-four}
-use Rattle.lambdatwist.specs.Solve.{solve}
-use Rattle.p3p.specs.Types.{Pose, World, Bearings, Answer}
-use Rattle.p3p.specs.SolveLent.{solved, entries, allEntries}
-
-pub as-solved : (input : List Float) {world : World} {bearings : Bearings} {answer : Answer}
-    → world ≡ worldAt input 0
-    → bearings ≡ bearingsAt input 9
-    → answer ≡ solve world bearings .value
-    → answer ≡ solved input
-unfolding solved
-as-solved input p q r = rw (p, q) at r
+use Rattle.lambdatwist.specs.LentSlots.{entries}
+use Rattle.lent_answers.specs.Types.{Pose}
+use Rattle.lent_answers.specs.Solved.{allEntries}
 
 -- ---- by the refusal number
 module _ {A : Type 0} {n : ℕ} (new held : A) where
