@@ -142,13 +142,19 @@ pub fn write(folder: &Path) -> Result<(), String> {
     }
     println!("\n- seed 0x{SEED:016x}");
     println!("- scaled frames: {}, each answer exactly scaled", scaled_exactly()?);
-    kinds("kind", frames().iter().map(|(kind, frame)| (kind, table::second::frame(frame).0)));
+    all_kinds();
+    Ok(())
+}
+
+/// The kinds of stored frames, then of those that are solved about their first point.
+fn all_kinds() {
+    let list = frames();
+    kinds("kind", list.iter().map(|(kind, frame)| (kind, table::second::frame(frame).0)));
     let about = |input: &Vec<u64>| {
         table::second::about(&std::array::from_fn(|index| f64::from_bits(input[index]))).0
     };
     let list = frames_about();
     kinds("about the first point", list.iter().map(|(kind, input)| (kind, about(input))));
-    Ok(())
 }
 
 /// Requires of each scaled frame the answer of its frame, the translation times 2^k.

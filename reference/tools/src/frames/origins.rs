@@ -41,10 +41,10 @@ fn viewed(r: &mut Random, points: [Vector; 4], away: f64) -> Frame {
 /// Zeros of both signs in the first point, and here and there in the others.
 pub(super) fn origin_zeros(r: &mut Random) -> Frame {
     let mut points: [Vector; 4] = std::array::from_fn(|_| r.cube());
-    for index in 0..4 {
-        for at in 0..3 {
+    for (index, point) in points.iter_mut().enumerate() {
+        for x in point {
             if r.chance(if index == 0 { 2 } else { 4 }) {
-                points[index][at] = 0.0 * r.sign();
+                *x = 0.0 * r.sign();
             }
         }
     }
@@ -57,10 +57,10 @@ pub(super) fn origin_subnormal(r: &mut Random) -> Frame {
     let all = r.chance(4);
     let subnormal = |r: &mut Random| f64::from_bits(r.word() >> r.between(12, 63)) * r.sign();
     let mut points: [Vector; 4] = std::array::from_fn(|_| r.cube());
-    for index in 0..4 {
-        for at in 0..3 {
+    for (index, point) in points.iter_mut().enumerate() {
+        for x in point {
             if index == 0 && !r.chance(4) || all {
-                points[index][at] = subnormal(r);
+                *x = subnormal(r);
             }
         }
     }
