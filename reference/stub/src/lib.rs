@@ -94,7 +94,19 @@ extern "C" fn p3p_solve(
     lifted: &mut [u32; 4],
     count: &mut u32,
 ) -> u32 {
-    write(&copy_second::solve(input), poses, updates, lifted, count)
+    let answer = copy_second::solve(input);
+    let number = write(&answer, poses, updates, lifted, count);
+    if cfg!(feature = "wrong-mark") && number == 0 {
+        *lifted = std::array::from_fn(|slot| {
+            let pose = answer.poses[slot];
+            let twice = answer.poses.iter().filter(|other| **other == pose).count() > 1;
+            (slot < answer.count && twice) as u32
+        });
+    }
+    if cfg!(feature = "wrong-pose") && answer.count == 3 && answer.updates[2] == 5 {
+        change_last_bit(&mut poses[24]);
+    }
+    number
 }
 
 #[unsafe(no_mangle)]
@@ -134,17 +146,7 @@ fn write(
     *poses = std::array::from_fn(|index| answer.poses[index / 12][index % 12]);
     *updates = answer.updates;
     *lifted = answer.lifted.map(u32::from);
-    if cfg!(feature = "wrong-mark") {
-        *lifted = std::array::from_fn(|slot| {
-            let pose = answer.poses[slot];
-            let twice = answer.poses.iter().filter(|other| **other == pose).count() > 1;
-            (slot < answer.count && twice) as u32
-        });
-    }
     *count = answer.count as u32;
-    if cfg!(feature = "wrong-pose") && answer.count == 3 && answer.updates[2] == 5 {
-        change_last_bit(&mut poses[24]);
-    }
     0
 }
 
