@@ -113,6 +113,8 @@ fn parse_poses(tokens: &[&str]) -> Vec<u64> {
 fn parse_about(tokens: &[&str], gives: usize) -> Vec<u64> {
     let number = |index: usize| tokens[index].parse::<u64>().unwrap();
     let with_best = gives > table::find("about").gives;
+    let solved = tokens[4] == "poses";
+    assert_eq!((tokens[0], tokens[6..].contains(&"best")), ("about", solved && with_best));
     let (head, best, poses) = match tokens[4] {
         "refused" => ([number(5), 0], 0, vec![]),
         _ if with_best => ([0, number(5)], number(7), parse_poses(&tokens[8..])),
