@@ -2,7 +2,9 @@
 # Tries the comparison itself, the second copy standing in for the port: stub.sh SOURCES
 # A right stand-in must show no difference. One that is wrong in a last bit of a pose, of a score or
 # of a fast cube root now and then must, one that scores a target behind the camera, one that takes
-# a discriminant of zero for a lifted one, and one that marks a pose because it stands twice.
+# a discriminant of zero for a lifted one, and one that marks a pose because it stands twice. Of the
+# solve about the first target must: differences from the second, the second carried as the origin,
+# and a checking target that is not moved.
 set -euo pipefail
 here=$(cd "$(dirname "$0")" && pwd)
 sources=$(realpath "${1:?usage: stub.sh SOURCES}")
@@ -32,7 +34,10 @@ build right
 compare right beside 50000 | tail -n 1
 compare right pieces 50000 fast_cbrt | tail -n 1
 compare right check "$here/inputs/cbrt.txt" | tail -n 1
-for wrong in pose score behind root kind mark; do build wrong-$wrong --features=wrong-$wrong; done
+compare right pieces 50000 about choice_about | tail -n 1
+for wrong in pose score behind root kind mark about origin target; do
+  build wrong-$wrong --features=wrong-$wrong
+done
 must_find wrong-pose beside 50000
 must_find wrong-score beside 50000
 must_find wrong-behind beside 50000
@@ -41,3 +46,9 @@ must_find wrong-root pieces 50000 fast_cbrt
 must_find wrong-root check "$here/inputs/cbrt.txt"
 must_find wrong-kind pieces 50000 quadratic
 must_find wrong-mark beside 1000000
+must_find wrong-about beside 50000
+must_find wrong-about pieces 50000 about
+must_find wrong-origin beside 50000
+must_find wrong-origin pieces 50000 about
+must_find wrong-target beside 50000
+must_find wrong-target pieces 50000 choice_about

@@ -5,6 +5,10 @@
 //! optimiser takes flags for nothing, so it may make an operation that the text does not reach,
 //! and leave out one whose result is not used.
 
+// Its subtractions must be compiled with this copy, without optimisation.
+#[path = "../tools/src/about.rs"]
+mod about;
+
 use crate::Answer;
 use std::arch::asm;
 
@@ -36,10 +40,23 @@ pub(crate) fn mul_add(x: f64, y: f64, z: f64) -> f64 {
     result
 }
 
-/// A solve's answer, and the flags that it raised.
-pub fn solve(input: &[f64; 18]) -> (Answer, u32) {
+fn raised_by<T>(run: impl FnOnce() -> T) -> (T, u32) {
     assert!(std::arch::is_x86_feature_detected!("fma"), "this processor has no fused multiply-add");
     put(0);
-    let answer = crate::solve(input);
-    (answer, raised())
+    let result = run();
+    (result, raised())
+}
+
+/// A solve's answer, and the flags that it raised.
+pub fn solve(input: &[f64; 18]) -> (Answer, u32) {
+    raised_by(|| crate::solve(input))
+}
+
+/// The same of the solve about the first world point, with that point; the nine subtractions are
+/// among what raises flags.
+pub fn solve_about(input: &[f64; 18]) -> (Answer, [f64; 3], u32) {
+    let refused = Answer { refusal: 1, ..Answer::default() };
+    let (answer, flags) =
+        raised_by(|| about::moved(input).map_or(refused, |moved| crate::solve(&moved)));
+    (answer, about::carried(input, answer.refusal), flags)
 }

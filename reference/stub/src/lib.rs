@@ -1,11 +1,15 @@
 //! The second copy behind the port's C interface: it stands in for the port to try the comparison
 //! itself. With a feature it is wrong in a last bit now and then, scores a target behind the
-//! camera, takes a discriminant of zero for a lifted one, or marks a pose because it stands twice,
-//! which must be found.
+//! camera, takes a discriminant of zero for a lifted one, marks a pose because it stands twice,
+//! solves about the second point or carries it, or does not move the checking target, which must be
+//! found.
 
+#[path = "../../tools/src/about.rs"]
+mod about;
 #[path = "../../tools/src/choice.rs"]
 mod choice;
 
+use copy_second::Answer;
 use copy_second::listed::Listed;
 
 #[unsafe(no_mangle)]
@@ -91,23 +95,58 @@ extern "C" fn p3p_solve(
     count: &mut u32,
 ) -> u32 {
     let answer = copy_second::solve(input);
-    if answer.refusal != 0 {
-        return answer.refusal;
-    }
-    *poses = std::array::from_fn(|index| answer.poses[index / 12][index % 12]);
-    *updates = answer.updates;
-    *lifted = answer.lifted.map(u32::from);
-    if cfg!(feature = "wrong-mark") {
+    let number = write(&answer, poses, updates, lifted, count);
+    if cfg!(feature = "wrong-mark") && number == 0 {
         *lifted = std::array::from_fn(|slot| {
             let pose = answer.poses[slot];
             let twice = answer.poses.iter().filter(|other| **other == pose).count() > 1;
             (slot < answer.count && twice) as u32
         });
     }
-    *count = answer.count as u32;
     if cfg!(feature = "wrong-pose") && answer.count == 3 && answer.updates[2] == 5 {
         change_last_bit(&mut poses[24]);
     }
+    number
+}
+
+#[unsafe(no_mangle)]
+extern "C" fn p3p_solve_about(
+    input: &[f64; 18],
+    poses: &mut [f64; 48],
+    updates: &mut [u32; 4],
+    lifted: &mut [u32; 4],
+    count: &mut u32,
+    origin: &mut [f64; 3],
+) -> u32 {
+    let Some(mut moved) = about::moved(input) else { return 1 };
+    if cfg!(feature = "wrong-about") {
+        moved = about::differences(input, &input[3..6]);
+    }
+    let number = write(&copy_second::solve(&moved), poses, updates, lifted, count);
+    if number == 0 {
+        *origin = about::carried(input, number);
+        if cfg!(feature = "wrong-origin") {
+            origin.copy_from_slice(&input[3..6]);
+        }
+    }
+    number
+}
+
+/// An answer into lent memory; a refusal leaves it.
+fn write(
+    answer: &Answer,
+    poses: &mut [f64; 48],
+    updates: &mut [u32; 4],
+    lifted: &mut [u32; 4],
+    count: &mut u32,
+) -> u32 {
+    if answer.refusal != 0 {
+        return answer.refusal;
+    }
+    *poses = std::array::from_fn(|index| answer.poses[index / 12][index % 12]);
+    *updates = answer.updates;
+    *lifted = answer.lifted.map(u32::from);
+    *count = answer.count as u32;
     0
 }
 
@@ -137,6 +176,20 @@ extern "C" fn p3p_choose(
         }
         None => 10,
     }
+}
+
+#[unsafe(no_mangle)]
+extern "C" fn p3p_choose_about(
+    poses: &[f64; 48],
+    count: u32,
+    origin: &[f64; 3],
+    target: &[f64; 3],
+    bearing: &[f64; 3],
+    best: &mut u32,
+    score: &mut f64,
+) -> u32 {
+    let moved = if cfg!(feature = "wrong-target") { *target } else { about::less(target, origin) };
+    p3p_choose(poses, count, &moved, bearing, best, score)
 }
 
 fn change_last_bit(x: &mut f64) {

@@ -21,6 +21,8 @@ const ASKED: &[&str] = &[
     "copysign",
     "max",
     "totalorder",
+    "about",
+    "choice_about",
 ];
 
 /// Functions that are only compared between the copies.
@@ -45,6 +47,7 @@ pub fn run(count: u64, seed: u64) -> Result<(), String> {
     for turn in 0..count {
         let frame = next_frame(&mut r).map(f64::to_bits);
         let second = compare("frame", &frame, &mut distances)?;
+        compare("about", &frame[..18], &mut distances)?;
         answers[if second[0] != 0 { second[0] as usize } else { 3 + second[1] as usize }] += 1;
         for name in ASKED.iter().chain(COPIES).filter(|_| turn % 4 == 0) {
             compare(name, &pieces::random(name, &mut r), &mut distances)?;

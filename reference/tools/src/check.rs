@@ -2,7 +2,8 @@
 //! every answer.
 //!
 //! A line: `LABEL words -> answer`, and where the unchanged Rust differs ` | asis answer`.
-//! LABEL is a function's name, or for a frame its kind.
+//! LABEL is a function's name, or for a frame its kind. A line of `about` has eighteen words, or
+//! twenty-four and then the best by the choice about the first point, as a frame has.
 
 #[cfg(port)]
 use crate::port;
@@ -23,13 +24,13 @@ pub fn run(files: &[String]) -> Result<(), String> {
             let ported = port_answer(name, &input);
             asked += ported.is_some() as usize;
             for (whose, expected, found) in [
-                ("the second copy", second, Some(table::second::answer(name, &input))),
-                ("the counted copy", second, Some(table::counted::answer(name, &input))),
-                ("the unchanged copy", asis, Some(table::asis::answer(name, &input))),
+                ("the second copy", second, Some(ask(table::second::answer, name, &input))),
+                ("the counted copy", second, Some(ask(table::counted::answer, name, &input))),
+                ("the unchanged copy", asis, Some(ask(table::asis::answer, name, &input))),
                 ("the port", second, ported),
             ] {
                 let Some(found) = found else { continue };
-                if parse_answer(name, expected) != found {
+                if parse_answer(name, expected, found.len()) != found {
                     return Err(format!(
                         "{path}, line {}: {whose}\n{line}\nfound {found:x?}",
                         number + 1
@@ -48,10 +49,28 @@ pub fn run(files: &[String]) -> Result<(), String> {
     Ok(())
 }
 
+/// The words of an answer. After those of `about` on twenty-four words comes the best (from 1; 0
+/// where the choice refuses or the solve did).
+fn ask(answer: fn(&str, &[u64]) -> Vec<u64>, name: &str, input: &[u64]) -> Vec<u64> {
+    let mut words = answer(name, &input[..table::find(name).takes]);
+    if name == "about" && input.len() == 24 {
+        let poses = words[5..].chunks(14).flat_map(|slot| &slot[2..]);
+        let choice: Vec<u64> = words[1..2]
+            .iter()
+            .chain(poses)
+            .chain(&words[2..5])
+            .chain(&input[18..])
+            .copied()
+            .collect();
+        words.push(answer("choice_about", &choice)[1]);
+    }
+    words
+}
+
 /// None where the port is not linked or does not offer the function.
 #[cfg(port)]
 fn port_answer(name: &str, input: &[u64]) -> Option<Vec<u64>> {
-    port::OFFERED.contains(&name).then(|| port::answer(name, input))
+    port::OFFERED.contains(&name).then(|| ask(port::answer, name, input))
 }
 
 #[cfg(not(port))]
@@ -66,7 +85,7 @@ fn hex(word: &str) -> u64 {
 fn parse_input(name: &str, words: &str) -> Vec<u64> {
     let decimal = match name {
         "refine" => Some(9),
-        "choice" => Some(0),
+        "choice" | "choice_about" => Some(0),
         _ => None,
     };
     let input: Vec<u64> = words
@@ -74,29 +93,52 @@ fn parse_input(name: &str, words: &str) -> Vec<u64> {
         .enumerate()
         .map(|(index, word)| if decimal == Some(index) { word.parse().unwrap() } else { hex(word) })
         .collect();
-    assert_eq!(input.len(), table::find(name).takes, "{name}");
+    let with_target = name == "about" && input.len() == 24;
+    assert!(with_target || input.len() == table::find(name).takes, "{name}");
     input
 }
 
-/// The words of an answer in the order of the stored vectors.
-fn parse_answer(name: &str, answer: &str) -> Vec<u64> {
+/// The slots of poses, each a text `updates U`, twelve words, `plain` or `lifted`.
+fn parse_poses(tokens: &[&str]) -> Vec<u64> {
+    let mut words = Vec::new();
+    for pose in tokens.chunks(15) {
+        let mark = ["plain", "lifted"].iter().position(|mark| *mark == pose[14]).unwrap();
+        words.extend([pose[1].parse().unwrap(), mark as u64]);
+        words.extend(pose[2..14].iter().map(|word| hex(word)));
+    }
+    words
+}
+
+/// `about`, three words, and a frame's answer, in which the best stands where it was asked for.
+fn parse_about(tokens: &[&str], gives: usize) -> Vec<u64> {
+    let number = |index: usize| tokens[index].parse::<u64>().unwrap();
+    let with_best = gives > table::find("about").gives;
+    let solved = tokens[4] == "poses";
+    assert_eq!((tokens[0], tokens[6..].contains(&"best")), ("about", solved && with_best));
+    let (head, best, poses) = match tokens[4] {
+        "refused" => ([number(5), 0], 0, vec![]),
+        _ if with_best => ([0, number(5)], number(7), parse_poses(&tokens[8..])),
+        _ => ([0, number(5)], 0, parse_poses(&tokens[6..])),
+    };
+    let origin = tokens[1..4].iter().map(|word| hex(word));
+    let mut words: Vec<u64> = head.into_iter().chain(origin).chain(poses).collect();
+    words.resize(gives, 0);
+    if with_best {
+        words[gives - 1] = best;
+    }
+    words
+}
+
+/// The words of an answer in the order of the stored vectors, so many as the function gave.
+fn parse_answer(name: &str, answer: &str, gives: usize) -> Vec<u64> {
     let tokens: Vec<&str> = answer.split(' ').collect();
     let number = |index: usize| tokens[index].parse::<u64>().unwrap();
     let words = |from: usize| tokens[from..].iter().map(|word| hex(word));
     let mut result = match (name, tokens[0]) {
+        ("about", _) => return parse_about(&tokens, gives),
         (_, "refused") => vec![number(1)],
         (_, "none") => vec![0],
-        ("frame", _) => {
-            let mut result = vec![0, number(1), number(3)];
-            for pose in tokens[4..].chunks(15) {
-                result.push(pose[1].parse().unwrap());
-                result
-                    .push(["plain", "lifted"].iter().position(|mark| *mark == pose[14]).unwrap()
-                        as u64);
-                result.extend(pose[2..14].iter().map(|word| hex(word)));
-            }
-            result
-        }
+        ("frame", _) => [vec![0, number(1), number(3)], parse_poses(&tokens[4..])].concat(),
         ("quadratic", kind) => {
             let kind = ["two", "zero", "lifted"].iter().position(|name| *name == kind).unwrap();
             [0, kind as u64].into_iter().chain(words(1)).collect()
@@ -108,11 +150,11 @@ fn parse_answer(name: &str, answer: &str) -> Vec<u64> {
         ("project" | "basis" | "eig" | "row_crosses", _) => {
             std::iter::once(1).chain(words(0)).collect()
         }
-        ("choice", _) => vec![0, number(1), hex(tokens[2])],
+        ("choice" | "choice_about", _) => vec![0, number(1), hex(tokens[2])],
         ("totalorder", word) => vec![word.parse::<i64>().unwrap() as u64],
         _ => words(0).collect(),
     };
-    result.resize(table::find(name).gives, 0);
+    result.resize(gives, 0);
     result
 }
 
@@ -123,6 +165,10 @@ pub fn inputs(text: &str, name: &str) -> Vec<(String, Vec<u64>)> {
         .filter(|(label, _)| {
             FUNCTIONS.iter().map(|f| f.name).find(|n| n == label).unwrap_or("frame") == name
         })
-        .map(|(label, words)| (label.to_string(), parse_input(name, words)))
+        .map(|(label, words)| {
+            let mut input = parse_input(name, words);
+            input.truncate(table::find(name).takes);
+            (label.to_string(), input)
+        })
         .collect()
 }

@@ -1,7 +1,8 @@
 //! The choice by a fourth target (document 01, module 8, as document 02, §2, amends it; not in the
 //! Rust): camera = R × target + t; where camera · bearing is above zero, score =
 //! |camera × bearing|² ÷ (camera · bearing)²; the lowest finite score, the earlier on a tie, by the
-//! chain of `best_by`. A count above 4 is read as 4.
+//! chain of `best_by`. A count above 4 is read as 4. The choice about a point (§1) is this one of
+//! the target less that point (about.rs).
 
 use nalgebra::{Matrix3, Vector3};
 

@@ -1,5 +1,6 @@
 //! Which branches of the Rust and of the choice the stored vectors reach, as a table.
 
+use crate::about;
 use crate::choices;
 use crate::stored;
 use crate::table;
@@ -21,6 +22,7 @@ impl Counts {
         if let Some((count, poses, target, bearing)) = table::counted::chosen_from(name, input) {
             reached.extend(choices::reached(count, &poses, &target, &bearing));
         }
+        reached.extend(reached_about(name, input));
         for &outcome in &reached {
             *self.0.entry(outcome).or_default() += 1;
         }
@@ -29,6 +31,36 @@ impl Counts {
 
     pub fn of(&self, label: &str, outcome: bool) -> usize {
         self.0.get(&(label, outcome)).copied().unwrap_or(0)
+    }
+}
+
+/// The tests of the solve and of the choice about the first point, which no stored frame asks. The
+/// last is none of the port's: it tells whether the difference is finite.
+const ABOUT: [&str; 3] = [
+    "about: input finite",
+    "about: differences finite",
+    "choice about: target less the point finite",
+];
+
+/// The outcomes of these that an input reaches.
+fn reached_about(name: &str, input: &[u64]) -> Vec<(&'static str, bool)> {
+    let d = |at: usize| f64::from_bits(input[at]);
+    match name {
+        "about" => {
+            let frame: [f64; 18] = std::array::from_fn(d);
+            let given = about::is_finite(&frame);
+            let mut outcomes = vec![(ABOUT[0], given)];
+            if given {
+                outcomes.push((ABOUT[1], about::moved(&frame).is_some()));
+            }
+            outcomes
+        }
+        "choice_about" => {
+            let [origin, target] = [49, 52].map(|at| [d(at), d(at + 1), d(at + 2)]);
+            let finite = about::less(&target, &origin).iter().all(|x| x.is_finite());
+            vec![(ABOUT[2], finite)]
+        }
+        _ => vec![],
     }
 }
 
@@ -98,7 +130,9 @@ fn note(
     Ok(match reason {
         Some((far, why)) if claimed || by_all > 0 => Some(format!("{side}: {far}: {why}")),
         _ if by_all == 0 => Some(format!("{side}: {NOT_REACHED}")),
-        _ if by_frames == 0 => Some(format!("{side}: by no stored frame")),
+        _ if by_frames == 0 && !ABOUT.contains(&label) => {
+            Some(format!("{side}: by no stored frame"))
+        }
         _ => None,
     })
 }
@@ -112,7 +146,8 @@ pub fn print(folder: &Path) -> Result<(), String> {
     println!("| test | frames: yes | frames: no | all vectors: yes | all vectors: no | |");
     println!("|---|---:|---:|---:|---:|---|");
     let mut missing = 0;
-    for &label in reach::LABELS.iter().chain(&choices::TESTS).chain(&reach::LISTED) {
+    let own = choices::TESTS.iter().chain(&ABOUT);
+    for &label in reach::LABELS.iter().chain(own).chain(&reach::LISTED) {
         let outcomes: &[bool] = if is_place(label) { &[true] } else { &[true, false] };
         let notes: Vec<Option<String>> = outcomes
             .iter()
@@ -127,7 +162,9 @@ pub fn print(folder: &Path) -> Result<(), String> {
                 counts.of(label, outcome).to_string()
             }
         };
-        let [frames_yes, frames_no] = [true, false].map(|outcome| shown(&frames, outcome));
+        let [frames_yes, frames_no] = [true, false].map(|outcome| {
+            if ABOUT.contains(&label) { String::new() } else { shown(&frames, outcome) }
+        });
         let [all_yes, all_no] = [true, false].map(|outcome| shown(&all, outcome));
         println!(
             "| {label} | {frames_yes} | {frames_no} | {all_yes} | {all_no} | {} |",

@@ -6,8 +6,9 @@ use std::fs;
 use std::io::{self, BufWriter, Write};
 
 /// A line a frame: the flags (copies/flags.rs) in two hexadecimal digits, the refusal number, the
-/// count, and for each pose its updates, 1 where it is lifted and twelve words.
-pub fn run(path: &str) -> Result<(), String> {
+/// count, of the solve about the first point the three words that it carries, and for each pose its
+/// updates, 1 where it is lifted and twelve words.
+pub fn run(path: &str, about: bool) -> Result<(), String> {
     let bytes = fs::read(path).map_err(|e| format!("{path}: {e}"))?;
     if bytes.len() % 144 != 0 {
         return Err(format!("{path}: not a row of frames of 144 bytes"));
@@ -17,14 +18,23 @@ pub fn run(path: &str) -> Result<(), String> {
         let input = std::array::from_fn(|index| {
             f64::from_bits(u64::from_be_bytes(frame[8 * index..][..8].try_into().unwrap()))
         });
-        line(&mut out, &input).map_err(|e| e.to_string())?;
+        line(&mut out, &input, about).map_err(|e| e.to_string())?;
     }
     out.flush().map_err(|e| e.to_string())
 }
 
-fn line(out: &mut impl Write, input: &[f64; 18]) -> io::Result<()> {
-    let (answer, flags) = copy_flags::flags::solve(input);
+fn line(out: &mut impl Write, input: &[f64; 18], about: bool) -> io::Result<()> {
+    let (answer, origin, flags) = if about {
+        let (answer, origin, flags) = copy_flags::flags::solve_about(input);
+        (answer, origin.to_vec(), flags)
+    } else {
+        let (answer, flags) = copy_flags::flags::solve(input);
+        (answer, vec![], flags)
+    };
     write!(out, "{flags:02x} {} {}", answer.refusal, answer.count)?;
+    for entry in origin {
+        write!(out, " {:016x}", word(entry))?;
+    }
     for slot in 0..answer.count {
         write!(out, " {} {}", answer.updates[slot], answer.lifted[slot] as u32)?;
         for entry in answer.poses[slot] {

@@ -1,5 +1,6 @@
 //! The Rust beside the port. `reference` alone lists the commands.
 
+mod about;
 #[cfg(port)]
 mod bench;
 mod beside;
@@ -42,6 +43,8 @@ reference frames COUNT FILE      COUNT random frames of each kind but the last, 
                                  frame
 reference flags FILE             the exception flags that the processor raises in the solve of each
                                  frame of a file, and the answers (x86-64 only)
+reference flags-about FILE       the same of the solve about the first world point, the nine
+                                 subtractions among what raises flags
 reference search FUNCTION N SEED COUNT | FILE
                                  inputs that reach what fewer than N stored ones reach";
 
@@ -82,7 +85,9 @@ fn main() {
             number(count).and_then(|count| frames::write(count, vectors::SEED, path))
         }
         #[cfg(target_arch = "x86_64")]
-        ["flags", path] => flags::run(path),
+        ["flags", path] => flags::run(path, false),
+        #[cfg(target_arch = "x86_64")]
+        ["flags-about", path] => flags::run(path, true),
         ["search", name, enough, seed, count] => (|| {
             let source = vectors::Source::Random { seed: number(seed)?, count: number(count)? };
             vectors::search(name, source, number(enough)? as usize);

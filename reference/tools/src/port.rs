@@ -30,6 +30,23 @@ unsafe extern "C" {
         best: *mut u32,
         score: *mut f64,
     ) -> u32;
+    fn p3p_solve_about(
+        input: *const f64,
+        poses: *mut f64,
+        updates: *mut u32,
+        lifted: *mut u32,
+        count: *mut u32,
+        origin: *mut f64,
+    ) -> u32;
+    fn p3p_choose_about(
+        poses: *const f64,
+        count: u32,
+        origin: *const f64,
+        target: *const f64,
+        bearing: *const f64,
+        best: *mut u32,
+        score: *mut f64,
+    ) -> u32;
 }
 
 /// What lent memory holds before a call: a refusal must leave it.
@@ -52,6 +69,8 @@ pub const OFFERED: &[&str] = &[
     "copysign",
     "max",
     "totalorder",
+    "about",
+    "choice_about",
 ];
 
 pub fn answer(name: &str, input: &[u64]) -> Vec<u64> {
@@ -67,10 +86,15 @@ pub fn answer(name: &str, input: &[u64]) -> Vec<u64> {
         "fast_cbrt" => vec![word(unsafe { p3p_fast_cbrt(d(0)) })],
         "choice" => {
             let poses: [f64; 48] = std::array::from_fn(|index| d(1 + index));
-            let target: [f64; 3] = std::array::from_fn(|index| d(49 + index));
-            let bearing: [f64; 3] = std::array::from_fn(|index| d(52 + index));
-            let count = input[0].min(u32::MAX as u64) as u32;
-            choose(&poses, count, &target, &bearing).to_vec()
+            let [target, bearing] = [49, 52].map(|at| std::array::from_fn(|index| d(at + index)));
+            choose(&poses, whole(input[0]), &target, &bearing).to_vec()
+        }
+        "about" => about(&std::array::from_fn(d)),
+        "choice_about" => {
+            let poses: [f64; 48] = std::array::from_fn(|index| d(1 + index));
+            let [origin, target, bearing] =
+                [49, 52, 55].map(|at| std::array::from_fn(|index| d(at + index)));
+            choose_about(&poses, whole(input[0]), &origin, &target, &bearing).to_vec()
         }
         "sqrt" => vec![word(unsafe { p3p_sqrt(d(0)) })],
         "cbrt" => vec![word(unsafe { p3p_cbrt(d(0)) })],
@@ -82,6 +106,10 @@ pub fn answer(name: &str, input: &[u64]) -> Vec<u64> {
     }
 }
 
+fn whole(word: u64) -> u32 {
+    word.min(u32::MAX as u64) as u32
+}
+
 /// A solve over lent memory, which it fills whole or, where it refuses, leaves.
 pub struct Solve {
     pub number: u32,
@@ -91,19 +119,62 @@ pub struct Solve {
     pub count: u32,
 }
 
+impl Solve {
+    fn lent() -> Solve {
+        Solve {
+            number: 0,
+            poses: [LENT; 48],
+            updates: [LENT_WHOLE; 4],
+            lifted: [LENT_WHOLE; 4],
+            count: LENT_WHOLE,
+        }
+    }
+
+    fn left(&self) -> bool {
+        let wholes = self.updates.iter().chain(&self.lifted).chain([&self.count]);
+        is_lent(&self.poses) && wholes.copied().all(|x| x == LENT_WHOLE)
+    }
+
+    /// Four slots of updates, mark and twelve words.
+    fn slots(&self) -> impl Iterator<Item = u64> {
+        (0..4).flat_map(|slot| {
+            let marks = [self.updates[slot] as u64, self.lifted[slot] as u64];
+            let pose = &self.poses[12 * slot..12 * slot + 12];
+            marks.into_iter().chain(pose.iter().map(|&x| word(x)))
+        })
+    }
+}
+
+fn is_lent(list: &[f64]) -> bool {
+    list.iter().all(|x| x.to_bits() == LENT.to_bits())
+}
+
+/// A refusal's words: its number, and nothing else unless it wrote.
+fn refused(number: u32, left: bool, gives: usize) -> Vec<u64> {
+    let mut words = vec![0; gives];
+    (words[0], words[1]) = (number as u64, if left { 0 } else { WROTE });
+    words
+}
+
 pub fn solve(input: &[f64]) -> Solve {
     assert!(input.len() >= 18);
-    let mut s = Solve {
-        number: 0,
-        poses: [LENT; 48],
-        updates: [LENT_WHOLE; 4],
-        lifted: [LENT_WHOLE; 4],
-        count: LENT_WHOLE,
-    };
+    let mut s = Solve::lent();
     let [updates, lifted] = [s.updates.as_mut_ptr(), s.lifted.as_mut_ptr()];
     s.number =
         unsafe { p3p_solve(input.as_ptr(), s.poses.as_mut_ptr(), updates, lifted, &mut s.count) };
     s
+}
+
+fn about(input: &[f64; 18]) -> Vec<u64> {
+    let (mut s, mut origin) = (Solve::lent(), [LENT; 3]);
+    let [updates, lifted] = [s.updates.as_mut_ptr(), s.lifted.as_mut_ptr()];
+    let [poses, point] = [s.poses.as_mut_ptr(), origin.as_mut_ptr()];
+    s.number =
+        unsafe { p3p_solve_about(input.as_ptr(), poses, updates, lifted, &mut s.count, point) };
+    if s.number != 0 {
+        return refused(s.number, s.left() && is_lent(&origin), 61);
+    }
+    [0, s.count as u64].into_iter().chain(origin.map(word)).chain(s.slots()).collect()
 }
 
 /// The number, the kind and the two roots, by both functions.
@@ -137,9 +208,29 @@ fn choose(poses: &[f64; 48], count: u32, target: &[f64; 3], bearing: &[f64; 3]) 
     let (mut best, mut score) = (LENT_WHOLE, LENT);
     let [poses, target, bearing] = [poses.as_ptr(), target.as_ptr(), bearing.as_ptr()];
     let number = unsafe { p3p_choose(poses, count, target, bearing, &mut best, &mut score) };
+    chosen(number, best, score)
+}
+
+/// The same of the poses about a point.
+fn choose_about(
+    poses: &[f64; 48],
+    count: u32,
+    origin: &[f64; 3],
+    target: &[f64; 3],
+    bearing: &[f64; 3],
+) -> [u64; 3] {
+    let (mut best, mut score) = (LENT_WHOLE, LENT);
+    let [origin, target, bearing] = [origin, target, bearing].map(|v| v.as_ptr());
+    let poses = poses.as_ptr();
+    let number =
+        unsafe { p3p_choose_about(poses, count, origin, target, bearing, &mut best, &mut score) };
+    chosen(number, best, score)
+}
+
+fn chosen(number: u32, best: u32, score: f64) -> [u64; 3] {
     match number {
         0 => [0, best as u64, word(score)],
-        _ if best == LENT_WHOLE && score.to_bits() == LENT.to_bits() => [number as u64, 0, 0],
+        _ if best == LENT_WHOLE && is_lent(&[score]) => [number as u64, 0, 0],
         _ => [number as u64, WROTE, WROTE],
     }
 }
@@ -147,22 +238,10 @@ fn choose(poses: &[f64; 48], count: u32, target: &[f64; 3], bearing: &[f64; 3]) 
 fn frame(input: &[f64; 24]) -> Vec<u64> {
     let s = solve(input);
     if s.number != 0 {
-        let kept = s.poses.iter().all(|x| x.to_bits() == LENT.to_bits())
-            && s.updates == [LENT_WHOLE; 4]
-            && s.lifted == [LENT_WHOLE; 4]
-            && s.count == LENT_WHOLE;
-        let mut words = vec![0; 59];
-        (words[0], words[1]) = (s.number as u64, if kept { 0 } else { WROTE });
-        return words;
+        return refused(s.number, s.left(), 59);
     }
     let target: [f64; 3] = std::array::from_fn(|index| input[18 + index]);
     let bearing: [f64; 3] = std::array::from_fn(|index| input[21 + index]);
     let [_, best, _] = choose(&s.poses, s.count, &target, &bearing);
-    let mut words = vec![0, s.count as u64, best];
-    for slot in 0..4 {
-        words.push(s.updates[slot] as u64);
-        words.push(s.lifted[slot] as u64);
-        words.extend(s.poses[12 * slot..12 * slot + 12].iter().map(|&x| word(x)));
-    }
-    words
+    [0, s.count as u64, best].into_iter().chain(s.slots()).collect()
 }

@@ -2,6 +2,7 @@
 //! answers by each copy. A word is a double's bits or a whole number; a NaN among
 //! results is 7ff8000000000000; what a refused answer does not have is zero.
 
+use crate::about;
 use crate::choice;
 
 pub struct Function {
@@ -39,6 +40,10 @@ pub const FUNCTIONS: &[Function] = &[
     function("totalorder", 2, 1), // -1, 0 or 1 in two's complement
     // world, bearings, m, translation, updates, count -> count, updates, 12
     function("push", 32, 14),
+    // world, bearings -> number, count, origin, 4 x (updates, lifted, 12)
+    function("about", 18, 61),
+    // count, 4 x 12, origin, target, bearing -> number, best, score
+    function("choice_about", 58, 3),
 ];
 
 pub fn find(name: &str) -> &'static Function {
@@ -63,6 +68,10 @@ fn found<const N: usize>(answer: Option<[f64; N]>) -> Vec<u64> {
     words
 }
 
+fn chosen(best: Option<(usize, f64)>) -> Vec<u64> {
+    best.map_or(vec![10, 0, 0], |(index, score)| vec![0, index as u64 + 1, word(score)])
+}
+
 macro_rules! answers {
     ($module:ident, $copy:ident) => {
         answers!(
@@ -85,7 +94,23 @@ macro_rules! answers {
                 (answer, best.map_or(0, |(index, _)| index as u64 + 1))
             }
 
+            /// The solve about the first world point, and the point that the answer carries.
+            pub fn about(input: &[f64; 18]) -> ($copy::Answer, [f64; 3]) {
+                let refused = $copy::Answer { refusal: 1, ..Default::default() };
+                let answer = about::moved(input).map_or(refused, |moved| $copy::solve(&moved));
+                (answer, about::carried(input, answer.refusal))
+            }
+
+            /// Four slots of updates, mark and twelve words.
+            fn slots(answer: &$copy::Answer) -> impl Iterator<Item = u64> {
+                (0..4).flat_map(|slot| {
+                    let marks = [answer.updates[slot] as u64, answer.lifted[slot] as u64];
+                    marks.into_iter().chain(answer.poses[slot].map(word))
+                })
+            }
+
             /// What a frame or a choice chooses from: the count, the poses, target and bearing.
+            /// The choice about a point takes the target less that point (document 02, §1).
             pub fn chosen_from(
                 name: &str,
                 input: &[u64],
@@ -100,6 +125,12 @@ macro_rules! answers {
                         let poses = std::array::from_fn(|slot| doubles(&input[1 + 12 * slot..]));
                         Some((input[0], poses, doubles(&input[49..]), doubles(&input[52..])))
                     }
+                    "choice_about" => {
+                        let poses = std::array::from_fn(|slot| doubles(&input[1 + 12 * slot..]));
+                        let [origin, target, bearing] =
+                            [49, 52, 55].map(|at| doubles::<3>(&input[at..]));
+                        Some((input[0], poses, about::less(&target, &origin), bearing))
+                    }
                     _ => None,
                 }
             }
@@ -109,13 +140,13 @@ macro_rules! answers {
                 match name {
                     "frame" => {
                         let (answer, best) = frame(&doubles(input));
-                        let mut words = vec![answer.refusal as u64, answer.count as u64, best];
-                        for (slot, pose) in answer.poses.iter().enumerate() {
-                            words.push(answer.updates[slot] as u64);
-                            words.push(answer.lifted[slot] as u64);
-                            words.extend(pose.map(word));
-                        }
-                        words
+                        let head = [answer.refusal as u64, answer.count as u64, best];
+                        head.into_iter().chain(slots(&answer)).collect()
+                    }
+                    "about" => {
+                        let (answer, origin) = about(&doubles(input));
+                        let head = [answer.refusal as u64, answer.count as u64];
+                        head.into_iter().chain(origin.map(word)).chain(slots(&answer)).collect()
                     }
                     "quadratic" => match $copy::quadratic(d(0), d(1)) {
                         Ok((kind, roots)) => {
@@ -171,12 +202,9 @@ macro_rules! answers {
                     },
                     "row_crosses" => found($copy::row_crosses(&doubles(input), d(9))),
                     "condition" => vec![word($copy::condition(&doubles(input)))],
-                    "choice" => {
+                    "choice" | "choice_about" => {
                         let (count, poses, target, bearing) = chosen_from(name, input).unwrap();
-                        match choice::best(count, &poses, &target, &bearing) {
-                            Some((index, score)) => vec![0, index as u64 + 1, word(score)],
-                            None => vec![10, 0, 0],
-                        }
+                        chosen(choice::best(count, &poses, &target, &bearing))
                     }
                     "sqrt" => vec![word(d(0).sqrt())],
                     "cbrt" => vec![word($cbrt(d(0)))],

@@ -63,15 +63,47 @@ pub fn frames() -> Vec<(String, Frame)> {
     list
 }
 
-/// Every stored input of a function.
-fn inputs(name: &str) -> Vec<Vec<u64>> {
-    if name == "frame" {
-        return frames().iter().map(|(_, frame)| frame.map(f64::to_bits).to_vec()).collect();
+/// How many frames of a kind are stored for the solve about the first point: more of the two at
+/// national grid offsets, which that solve is for, and of those with updates and lifted poses.
+fn solved_about(kind: &str) -> usize {
+    match kind {
+        "grid-metres" | "grid-counts" => 16,
+        "parallel" => 12,
+        _ => 4,
     }
+}
+
+/// The stored frames that are solved about their first point, with their kinds; hand-made ones
+/// and those found by search come after them.
+fn frames_about() -> Vec<(String, Vec<u64>)> {
+    let mut list = Vec::new();
+    let solved = frames::KINDS[..frames::SOLVED].iter();
+    let kinds = solved.map(|&(kind, _, make)| (kind, solved_about(kind), make));
+    for (index, (kind, count, make)) in kinds.chain(frames::ABOUT.iter().copied()).enumerate() {
+        let mut r = random(200 + index as u64);
+        for _ in 0..count {
+            list.push((kind.to_string(), make(&mut r)[..18].iter().map(|x| x.to_bits()).collect()));
+        }
+    }
+    list.extend(others("about").into_iter().map(|input| ("by hand or search".to_string(), input)));
+    list
+}
+
+/// Inputs of a function: hand-made ones, random ones, and those found by search.
+fn others(name: &str) -> Vec<Vec<u64>> {
     let index = FUNCTIONS.iter().position(|function| function.name == name).unwrap();
     let mut list = pieces::inputs(name, &mut random(index as u64));
     list.extend(lines(PIECES).filter(|(label, _)| *label == name).map(|(_, words)| words));
     list
+}
+
+/// Every stored input of a function.
+fn inputs(name: &str) -> Vec<Vec<u64>> {
+    match name {
+        "frame" => frames().iter().map(|(_, frame)| frame.map(f64::to_bits).to_vec()).collect(),
+        "about" => frames_about().into_iter().map(|(_, input)| input).collect(),
+        _ => others(name),
+    }
 }
 
 pub fn write(folder: &Path) -> Result<(), String> {
@@ -110,8 +142,19 @@ pub fn write(folder: &Path) -> Result<(), String> {
     }
     println!("\n- seed 0x{SEED:016x}");
     println!("- scaled frames: {}, each answer exactly scaled", scaled_exactly()?);
-    kinds();
+    all_kinds();
     Ok(())
+}
+
+/// The kinds of stored frames, then of those that are solved about their first point.
+fn all_kinds() {
+    let list = frames();
+    kinds("kind", list.iter().map(|(kind, frame)| (kind, table::second::frame(frame).0)));
+    let about = |input: &Vec<u64>| {
+        table::second::about(&std::array::from_fn(|index| f64::from_bits(input[index]))).0
+    };
+    let list = frames_about();
+    kinds("about the first point", list.iter().map(|(kind, input)| (kind, about(input))));
 }
 
 /// Requires of each scaled frame the answer of its frame, the translation times 2^k.
@@ -152,26 +195,12 @@ fn summary(name: &str, records: &[Vec<u64>]) -> String {
     let tally = |at: usize| tally_where(at, |_| true);
     match name {
         "frame" => {
-            let mut updates = [0; 6];
-            let mut lifted = 0;
-            for record in records {
-                for slot in 0..record[takes + 1] as usize {
-                    lifted += record[takes + 4 + 14 * slot];
-                    updates[record[takes + 3 + 14 * slot] as usize] += 1;
-                }
-            }
-            let updates: Vec<String> = updates
-                .iter()
-                .enumerate()
-                .map(|(value, count)| format!("{value}: {count}"))
-                .collect();
-            format!(
-                "refusals {}; poses {}; best {}; updates {}; lifted {lifted}",
-                tally(0),
-                tally(1),
-                tally(2),
-                updates.join(", ")
-            )
+            let poses = pose_summary(records, takes, 3);
+            format!("refusals {}; poses {}; best {}; {poses}", tally(0), tally(1), tally(2))
+        }
+        "about" => {
+            let poses = pose_summary(records, takes, 5);
+            format!("refusals {}; poses {}; {poses}", tally(0), tally(1))
         }
         "quadratic" => {
             let kinds = tally_where(1, |answer| answer[0] == 0);
@@ -179,7 +208,7 @@ fn summary(name: &str, records: &[Vec<u64>]) -> String {
         }
         "cubic" => format!("numbers {}", tally(0)),
         "refine" => format!("updates {}", tally(0)),
-        "choice" => format!("numbers {}; best {}", tally(0), tally(1)),
+        "choice" | "choice_about" => format!("numbers {}; best {}", tally(0), tally(1)),
         "push" => {
             let pushed = records.iter().filter(|record| record[takes] > record[takes - 1]).count();
             format!("pushed 0: {}, 1: {pushed}; poses {}", records.len() - pushed, tally(0))
@@ -192,13 +221,27 @@ fn summary(name: &str, records: &[Vec<u64>]) -> String {
     }
 }
 
+/// The updates and marks of all poses, the slots being `at` words from the answer's start.
+fn pose_summary(records: &[Vec<u64>], takes: usize, at: usize) -> String {
+    let mut updates = [0; 6];
+    let mut lifted = 0;
+    for record in records {
+        for slot in 0..record[takes + 1] as usize {
+            updates[record[takes + at + 14 * slot] as usize] += 1;
+            lifted += record[takes + at + 1 + 14 * slot];
+        }
+    }
+    let updates: Vec<String> =
+        updates.iter().enumerate().map(|(value, count)| format!("{value}: {count}")).collect();
+    format!("updates {}; lifted {lifted}", updates.join(", "))
+}
+
 /// Kinds of frames, with the answers of each.
-fn kinds() {
-    let mut rows: Vec<(String, [usize; 10])> = Vec::new();
-    for (kind, frame) in frames() {
-        let (answer, _) = table::second::frame(&frame);
+fn kinds<'a>(title: &str, answers: impl Iterator<Item = (&'a String, copy_second::Answer)>) {
+    let mut rows: Vec<(&String, [usize; 10])> = Vec::new();
+    for (kind, answer) in answers {
         if rows.iter().all(|(name, _)| *name != kind) {
-            rows.push((kind.clone(), [0; 10]));
+            rows.push((kind, [0; 10]));
         }
         let row = &mut rows.iter_mut().find(|(name, _)| *name == kind).unwrap().1;
         row[0] += 1;
@@ -207,7 +250,7 @@ fn kinds() {
         row[9] += answer.lifted.contains(&true) as usize;
     }
     println!(
-        "\n| kind | frames | refused 1 | 2 | 3 | 1 pose | 2 | 3 | 4 | with updates | lifted |"
+        "\n| {title} | frames | refused 1 | 2 | 3 | 1 pose | 2 | 3 | 4 | with updates | lifted |"
     );
     println!("|---|---:|---:|---:|---:|---:|---:|---:|---:|---:|---:|");
     for (kind, row) in rows {

@@ -4,6 +4,7 @@
 mod behind;
 mod degenerate;
 mod extreme;
+mod origins;
 mod scenes;
 
 pub use behind::behind;
@@ -45,6 +46,16 @@ pub const KINDS: &[(&str, usize, fn(&mut Random) -> Frame)] = &[
     ("nan-cosine", 24, extreme::nan_cosine),
     ("checking", 30, scenes::checking),
     ("behind", 60, behind),
+];
+
+/// Further kinds for the solve about the first world point, with how many its vectors hold.
+pub const ABOUT: &[(&str, usize, fn(&mut Random) -> Frame)] = &[
+    ("overflow", 20, origins::overflow),
+    ("origin-zeros", 16, origins::origin_zeros),
+    ("origin-subnormal", 12, origins::origin_subnormal),
+    ("same-points", 12, origins::same_points),
+    ("rounded", 20, origins::rounded),
+    ("offset", 20, origins::offset),
 ];
 
 /// All kinds but the last, `behind`, whose points and bearings are those of other kinds.

@@ -2,6 +2,7 @@
 
 mod eigen;
 mod gates;
+mod origins;
 mod poses;
 mod push;
 mod refine;
@@ -50,6 +51,9 @@ fn kinds(name: &str) -> (Vec<Input>, usize, fn(&mut Random) -> Input) {
         "max" => (single::every_two(), 100, single::two),
         "clamp" => (vec![], 160, single::clamp),
         "push" => (push::hand_push(), 930, push::push),
+        // vectors.rs stores frames of each kind beside the hand-made ones.
+        "about" => (origins::hand_about(), 0, origins::about),
+        "choice_about" => (origins::hand_choices_about(), 94, origins::choice_about),
         _ => panic!("no function {name}"),
     }
 }

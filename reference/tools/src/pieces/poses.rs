@@ -4,9 +4,15 @@ use super::{Input, any_checked, words};
 use crate::frames::part;
 use crate::random::{Random, Vector, power, times};
 use crate::table;
+use copy_second::Answer;
 
 /// Translations of four poses that do not turn, and a target by its bearing.
-fn unturned(translations: [Vector; 4], count: u64, target: Vector, bearing: Vector) -> Input {
+pub(super) fn unturned(
+    translations: [Vector; 4],
+    count: u64,
+    target: Vector,
+    bearing: Vector,
+) -> Input {
     let mut input = vec![count];
     for t in translations {
         input.extend(words(&[1.0, 0.0, 0.0, 0.0, 1.0, 0.0, 0.0, 0.0, 1.0]));
@@ -51,15 +57,8 @@ pub(super) fn hand_choices() -> Vec<Input> {
     list
 }
 
-/// Poses of a solved frame, perhaps altered, and a target.
-pub(super) fn choice(r: &mut Random) -> Input {
-    let (f, answer) = loop {
-        let f = any_checked(r);
-        let (answer, _) = table::second::frame(&f);
-        if answer.count > 0 {
-            break (f, answer);
-        }
-    };
+/// The count and the poses of an answer, perhaps altered.
+pub(super) fn altered(answer: &Answer, r: &mut Random) -> Input {
     let mut poses: Vec<f64> = answer.poses.concat();
     for slot in answer.count..4 {
         if r.chance(2) {
@@ -77,6 +76,21 @@ pub(super) fn choice(r: &mut Random) -> Input {
         1 => r.pick(&[5, 6, 255, u32::MAX as u64]),
         _ => answer.count as u64,
     };
+    let mut input = vec![count];
+    input.extend(words(&poses));
+    input
+}
+
+/// Poses of a solved frame, perhaps altered, and a target.
+pub(super) fn choice(r: &mut Random) -> Input {
+    let (f, answer) = loop {
+        let f = any_checked(r);
+        let (answer, _) = table::second::frame(&f);
+        if answer.count > 0 {
+            break (f, answer);
+        }
+    };
+    let mut input = altered(&answer, r);
     let (mut target, mut bearing) = (part(&f, 6), part(&f, 7));
     match r.below(8) {
         0 => target = std::array::from_fn(|_| r.special()),
@@ -85,8 +99,6 @@ pub(super) fn choice(r: &mut Random) -> Input {
         3 => (target, bearing) = (times(r.cube(), power(r.between(-600, 600))), r.cube()),
         _ => {}
     }
-    let mut input = vec![count];
-    input.extend(words(&poses));
     input.extend(words(&[target, bearing].concat()));
     input
 }
