@@ -5,8 +5,6 @@
 // its own direction from zero. Prints docs/grid.tsv, from which docs/grid.py draws.
 #include "jobs.h"
 
-static const double PI = 3.14159265358979323846;
-
 // The last is that of an easting with its zone's number before it.
 static const double distances[] = {1e5,   1.5e5, 2.2e5, 3.3e5, 4.7e5, 6.8e5, 1e6,
                                    1.5e6, 2.2e6, 3.3e6, 4.7e6, 6e6,   3.3e7};

@@ -5,7 +5,7 @@
 #include "quaternion.h"
 #include "about_shim.h"
 
-static const double STEP = 0x1p-20;
+static const double STEP = 0x1p-20, PI = 3.14159265358979323846;
 
 // Half the width of a plate in steps, and half its thickness: 0.4 m and 6 mm, as in plates.h.
 enum { WIDE = 419430, THICK = 6291 };

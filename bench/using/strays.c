@@ -205,7 +205,7 @@ static void print_pose(const struct plate *plate) {
     printf("- The choice takes pose %u of %u, %s nearest to the truth; score %.1e.\n", best, count,
            best == nearest(&moved, poses, count) + 1 ? "the" : "not the", score);
     printf("- R turns by %.1f degrees; its columns are off by %.3e.\n",
-           acos((pose[0] + pose[4] + pose[8] - 1) / 2) * 180 / 3.14159265358979323846,
+           acos((pose[0] + pose[4] + pose[8] - 1) / 2) * 180 / PI,
            column_error(pose));
 }
 
