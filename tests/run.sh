@@ -25,6 +25,7 @@ run tests/c/run.py "$library"
 run tests/library/run.py "$library"
 run bindings/rust/check.py "$library"
 run docs/picture.py --check
+run docs/grid.py --check
 run docs/lines.py --check
 run tests/documents/run.py
 run tests/documents/run.py --must-notice

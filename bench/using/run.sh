@@ -1,8 +1,9 @@
 #!/usr/bin/env bash
 # The figures of docs/USING.md: what bearings off unit length do, how far the hole is off by three
-# ways from a pose to it, what scores the checking target has, what mistakes look like, what a
-# camera near the danger cylinder brings, and what flush-to-zero and denormals-are-zero change.
-# Seeds are fixed: the figures are the same each time.
+# ways from a pose to it, and against the job's distance from zero, how far truing can move it, what
+# scores the checking target has, what mistakes look like, what a camera near the danger cylinder
+# brings, and what flush-to-zero and denormals-are-zero change.
+# Seeds are fixed: the figures are the same each time; those of `grid` must be docs/grid.tsv.
 #   bench/using/run.sh [LIBRARY]     LIBRARY: what `rt staticlib p3p` writes, if not in target/
 # Needs a C compiler (cc) on x86-64.
 set -euo pipefail
@@ -23,12 +24,13 @@ build() {
     cc "$@" -o "$out/$program" "$out/$program.o" "$library" -lm
 }
 
-for name in bearings holes scores mistakes cylinder; do
+for name in bearings holes grid strays scores mistakes cylinder; do
     printf '## %s\n\n' "$name"
     build "$name" "$name"
-    "$out/$name"
+    "$out/$name" | tee "$out/$name.txt"
     echo
 done
+cmp "$out/grid.txt" docs/grid.tsv
 
 frames=crates/replay/data/rust/frame.bin
 build flush flush

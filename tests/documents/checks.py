@@ -2,9 +2,14 @@
 import ast
 import os
 import re
+import sys
 import textwrap
 
 from blocks import blocks
+from tree import ROOT
+
+sys.path.insert(0, os.path.join(ROOT, "docs"))
+import grid
 
 DOCUMENTS = [
     "README.md",
@@ -166,6 +171,14 @@ def notice_faults(tree):
         yield f"{NOTICE} is not the repository's NOTICE"
 
 
+# ---- the drawing of the grid jobs
+
+
+def drawing_faults(tree):
+    if tree.read("docs/grid.svg") != grid.drawing(tree.read("docs/grid.tsv")):
+        yield "docs/grid.svg is not what docs/grid.py draws of docs/grid.tsv"
+
+
 CHECKS = [
     block_faults,
     version_faults,
@@ -173,6 +186,7 @@ CHECKS = [
     link_faults,
     placeholder_faults,
     notice_faults,
+    drawing_faults,
 ]
 
 

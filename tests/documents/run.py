@@ -14,7 +14,8 @@ Checked are:
 - width: lines of *.md outside tables, and comments in code, have at most 100 columns.
 - links of *.md to files of the tree.
 - *.md outside code: no word between two `@`, which stands for a text to come.
-- the copy of NOTICE in bindings/rust."""
+- the copy of NOTICE in bindings/rust.
+- docs/grid.svg, which docs/grid.py draws of docs/grid.tsv."""
 import sys
 
 sys.dont_write_bytecode = True
