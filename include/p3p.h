@@ -35,7 +35,8 @@ extern "C" {
 
 /* Why there is no answer. */
 enum p3p_refusal {
-    /* solve: one of the eighteen doubles is an infinity or a NaN */
+    /* solve: one of the eighteen doubles is an infinity or a NaN; about the first target also a
+     * difference */
     P3P_INPUT_NOT_FINITE = 1,
     /* solve: no ordering of the points is usable */
     P3P_NO_USABLE_ORDERING = 2,
@@ -89,6 +90,28 @@ uint32_t p3p_solve(const double input[18], double poses[48], uint32_t updates[4]
  * Returns 0, or 10. */
 uint32_t p3p_choose(const double poses[48], uint32_t count, const double target[3],
                     const double bearing[3], uint32_t *best, double *score);
+
+/* ---- the same about the first target, for coordinates many kilometres from zero (docs/USING.md) */
+
+/* The poses from which three world points are seen, about the first of them: it is subtracted from
+ * all three, one rounding a coordinate, and the differences are solved as p3p_solve does.
+ *
+ * input, updates, lifted, count    as for p3p_solve.
+ * poses    as for p3p_solve, but they take x - origin to the camera, and not x: the camera point of
+ *          a world point is rotation * (x - origin) + translation. Subtract first.
+ * origin   the subtracted point, the first of the input.
+ * Returns 0, or 1, 2 or 3; 1 also where a difference is not finite. */
+uint32_t p3p_solve_about(const double input[18], double poses[48], uint32_t updates[4],
+                         uint32_t lifted[4], uint32_t *count, double origin[3]);
+
+/* The choice of p3p_choose among poses of p3p_solve_about. `target` is the checking target as it is:
+ * the origin is subtracted here.
+ *
+ * origin   as p3p_solve_about wrote it.
+ * The others are as for p3p_choose. Returns 0, or 10; 10 also where a difference is not finite. */
+uint32_t p3p_choose_about(const double poses[48], uint32_t count, const double origin[3],
+                          const double target[3], const double bearing[3], uint32_t *best,
+                          double *score);
 
 /* ---- a frame's record */
 

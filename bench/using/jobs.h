@@ -3,7 +3,6 @@
 // and no difference of two is rounded, and the bearings are made from the differences.
 #include "measure.h"
 #include "quaternion.h"
-#include "about_shim.h"
 
 static const double STEP = 0x1p-20, PI = 3.14159265358979323846;
 

@@ -15,6 +15,13 @@
 //! let [x, y, z] = poses[choice.index].apply(&[0.1, 0.1, 0.0]);
 //! assert!((x - 0.1).abs() < 1e-9 && (y - 0.1).abs() < 1e-9 && (z - 2.0).abs() < 1e-9);
 //!
+//! // Far from zero, solve about the first target: its poses subtract it themselves.
+//! let grid = plate.map(|[x, y, z]| [x + 691000.25, y + 5334000.5, z + 512.125]);
+//! let poses = p3p::solve_about(&[grid[0], grid[1], grid[2]], &[f0, f1, f2])?;
+//! let choice = p3p::choose_about(&poses, &grid[3], &bearing)?;
+//! let [x, y, z] = poses[choice.index].apply(&[691000.35, 5334000.6, 512.125]);
+//! assert!((x - 0.1).abs() < 1e-8 && (y - 0.1).abs() < 1e-8 && (z - 2.0).abs() < 1e-8);
+//!
 //! // What has no answer is refused, with the reason.
 //! let nowhere = [[f64::INFINITY, 0.0, 0.0], [0.0; 3], [0.0; 3]];
 //! assert_eq!(p3p::solve(&nowhere, &[f0, f1, f2]), Err(p3p::Refusal::InputNotFinite));
@@ -25,6 +32,7 @@
 //! says what else would go wrong.
 #![warn(missing_docs)]
 
+mod about;
 mod bearing;
 mod poses;
 mod records;
@@ -33,6 +41,7 @@ mod roots;
 mod single;
 mod sys;
 
+pub use about::{choose_about, solve_about, PoseAbout, PosesAbout};
 pub use bearing::normalise;
 pub use poses::{choose, solve, Choice, Pose, Poses};
 pub use records::{read_record, records, Frame, Records, RECORD_SIZE};

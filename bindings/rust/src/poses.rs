@@ -37,11 +37,15 @@ impl Pose {
         array::from_fn(|i| self.rotation.map(|column| column[i]))
     }
 
-    fn from_slot([first, second, third, translation]: Slot, updates: u32, lifted: u32) -> Self {
+    pub(crate) fn from_slot(
+        [first, second, third, translation]: Slot,
+        updates: u32,
+        lifted: u32,
+    ) -> Self {
         Self { rotation: [first, second, third], translation, updates, lifted: lifted != 0 }
     }
 
-    fn to_slot(self) -> Slot {
+    pub(crate) fn to_slot(self) -> Slot {
         let [first, second, third] = self.rotation;
         [first, second, third, self.translation]
     }
@@ -49,44 +53,44 @@ impl Pose {
 
 /// The one to four poses of a solve, in its order: a slice of poses.
 #[derive(Clone, Copy)]
-pub struct Poses {
+pub struct Poses<P = Pose> {
     // those from `count` on are plus zeros and not lifted, and never shown
-    slots: [Pose; 4],
-    count: usize,
+    pub(crate) slots: [P; 4],
+    pub(crate) count: usize,
 }
 
-impl Deref for Poses {
-    type Target = [Pose];
+impl<P> Deref for Poses<P> {
+    type Target = [P];
 
-    fn deref(&self) -> &[Pose] {
+    fn deref(&self) -> &[P] {
         &self.slots[..self.count]
     }
 }
 
-impl fmt::Debug for Poses {
+impl<P: fmt::Debug> fmt::Debug for Poses<P> {
     fn fmt(&self, f: &mut fmt::Formatter<'_>) -> fmt::Result {
-        f.debug_list().entries(self).finish()
+        f.debug_list().entries(&**self).finish()
     }
 }
 
-impl PartialEq for Poses {
+impl<P: PartialEq> PartialEq for Poses<P> {
     fn eq(&self, other: &Self) -> bool {
         **self == **other
     }
 }
 
-impl IntoIterator for Poses {
-    type Item = Pose;
-    type IntoIter = Take<array::IntoIter<Pose, 4>>;
+impl<P> IntoIterator for Poses<P> {
+    type Item = P;
+    type IntoIter = Take<array::IntoIter<P, 4>>;
 
     fn into_iter(self) -> Self::IntoIter {
         self.slots.into_iter().take(self.count)
     }
 }
 
-impl<'a> IntoIterator for &'a Poses {
-    type Item = &'a Pose;
-    type IntoIter = slice::Iter<'a, Pose>;
+impl<'a, P> IntoIterator for &'a Poses<P> {
+    type Item = &'a P;
+    type IntoIter = slice::Iter<'a, P>;
 
     fn into_iter(self) -> Self::IntoIter {
         self.iter()
@@ -107,8 +111,8 @@ pub fn solve(world: &[[f64; 3]; 3], bearings: &[[f64; 3]; 3]) -> Result<Poses, R
     // function reads and writes.
     let number =
         unsafe { sys::p3p_solve(&input, &mut found, &mut updates, &mut lifted, &mut count) };
-    let slots = array::from_fn(|slot| Pose::from_slot(found[slot], updates[slot], lifted[slot]));
-    Refusal::unless_zero(number, Poses { slots, count: count as usize })
+    let pose = |slot| Pose::from_slot(found[slot], updates[slot], lifted[slot]);
+    Refusal::unless_zero(number, Poses { slots: array::from_fn(pose), count: count as usize })
 }
 
 /// The pose that a fourth target confirms.

@@ -39,6 +39,23 @@ extern "C" {
         best: &mut u32,
         score: &mut f64,
     ) -> u32;
+    pub fn p3p_solve_about(
+        input: &[[f64; 3]; 6],
+        poses: &mut [Slot; 4],
+        updates: &mut [u32; 4],
+        lifted: &mut [u32; 4],
+        count: &mut u32,
+        origin: &mut [f64; 3],
+    ) -> u32;
+    pub fn p3p_choose_about(
+        poses: &[Slot; 4],
+        count: u32,
+        origin: &[f64; 3],
+        target: &[f64; 3],
+        bearing: &[f64; 3],
+        best: &mut u32,
+        score: &mut f64,
+    ) -> u32;
     // `bytes` must be readable for `length` bytes.
     pub fn p3p_read_record(bytes: *const u8, length: usize, frame: &mut [[f64; 3]; 8]) -> u32;
 }
