@@ -10,7 +10,9 @@ mod TimesPower
 mod FiniteTranslation
 pub mod ScalingRule
 pub mod ScalingRuleAbout
+mod WorldTests
 pub mod ScalingExamples
+pub mod AboutExamples
 pub mod PremiseCases
 pub mod MarkedCases
 pub mod Answers

@@ -9,5 +9,6 @@ pub mod Plates
 pub mod PremiseCases
 pub mod Cases
 pub mod Answers
+pub mod GridPlates
 pub mod BehindCamera
 pub mod LiftedPair
