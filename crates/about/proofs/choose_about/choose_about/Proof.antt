@@ -6,7 +6,7 @@ use Rattle.about.proofs.choose_about.choose_about.Tie as tie
 
 returns : tie.Need-returns
 unfolding chooseAbout
-returns c = cc
+returns c = rw (← c .before .sub .ensures) (c .choose .ensures)
 
 pub choose-about-spec : {M : Type 1} → statement M
 choose-about-spec =

@@ -6,7 +6,7 @@ use Rattle.about.proofs.differences.differences.Tie as tie
 
 returns : tie.Need-returns
 unfolding differences
-returns c = cc
+returns c = rw (c .before .before .sub .ensures, c .before .sub2 .ensures, c .sub3 .ensures)
 
 pub differences-spec : {M : Type 1} → statement M
 differences-spec =
