@@ -11,7 +11,7 @@ enum { PATTERN = 0xa5 };
 
 /* All memory that is lent to be written. */
 static struct {
-    double poses[48], first, second, root, score, frame[24];
+    double poses[48], origin[3], first, second, root, score, frame[24];
     uint32_t updates[4], lifted[4], count, best, kind;
 } lent;
 
@@ -43,6 +43,11 @@ static uint32_t solve(const double input[18])
     return p3p_solve(input, lent.poses, lent.updates, lent.lifted, &lent.count);
 }
 
+static uint32_t solve_about(const double input[18])
+{
+    return p3p_solve_about(input, lent.poses, lent.updates, lent.lifted, &lent.count, lent.origin);
+}
+
 static void solves(void)
 {
     const double axes[9] = {1, 0, 0, 0, 1, 0, 0, 0, 1}, line[9] = {0, 0, 0, 1, 0, 0, 2, 0, 0};
@@ -51,13 +56,16 @@ static void solves(void)
     memcpy(input, axes, sizeof axes);
     memcpy(input + 9, axes, sizeof axes);
     expect("solve, the axes", P3P_NO_USABLE_ORDERING, solve(input));
+    expect("solve_about, the axes", P3P_NO_USABLE_ORDERING, solve_about(input));
     input[17] = INFINITY;
     expect("solve, an infinity", P3P_INPUT_NOT_FINITE, solve(input));
     input[17] = NAN;
     expect("solve, a NaN", P3P_INPUT_NOT_FINITE, solve(input));
+    expect("solve_about, a NaN", P3P_INPUT_NOT_FINITE, solve_about(input));
     input[17] = 1;
     memcpy(input, line, sizeof line);
     expect("solve, points on a line", P3P_NO_POSE, solve(input));
+    expect("solve_about, points on a line", P3P_NO_POSE, solve_about(input));
     memcpy(input, plate, sizeof plate);
     for (int k = 0; k < 3; k++) {
         double x = plate[3 * k], y = plate[3 * k + 1], z = plate[3 * k + 2] + 2;
@@ -67,28 +75,41 @@ static void solves(void)
         input[11 + 3 * k] = z / length;
     }
     expect("solve, a plate", 0, solve(input));
+    expect("solve_about, a plate", 0, solve_about(input));
+    input[0] = -1e308;
+    input[3] = 1e308;
+    expect("solve_about, a difference overflows", P3P_INPUT_NOT_FINITE, solve_about(input));
 }
 
-static uint32_t choose(uint32_t count, const double bearing[3])
+/* four times the pose that moves nothing, about zero or about a point */
+static uint32_t choose(uint32_t count, const double *origin, const double target[3],
+                       const double bearing[3])
 {
-    /* four times the pose that moves nothing */
-    const double pose[12] = {1, 0, 0, 0, 1, 0, 0, 0, 1, 0, 0, 0}, target[3] = {0, 0, 2};
+    const double pose[12] = {1, 0, 0, 0, 1, 0, 0, 0, 1, 0, 0, 0};
     double poses[48];
     for (int k = 0; k < 4; k++)
         memcpy(poses + 12 * k, pose, sizeof pose);
-    return p3p_choose(poses, count, target, bearing, &lent.best, &lent.score);
+    if (origin == NULL)
+        return p3p_choose(poses, count, target, bearing, &lent.best, &lent.score);
+    return p3p_choose_about(poses, count, origin, target, bearing, &lent.best, &lent.score);
 }
 
 static void choices(void)
 {
     const double ahead[3] = {0, 0, 1}, aside[3] = {1, 0, 0}, back[3] = {0, 0, -1};
-    const double nowhere[3] = {NAN, 0, 0};
-    expect("choose, no pose", P3P_NO_FINITE_SCORE, choose(0, ahead));
-    expect("choose, depth zero", P3P_NO_FINITE_SCORE, choose(4, aside));
-    expect("choose, all behind", P3P_NO_FINITE_SCORE, choose(4, back));
-    expect("choose, a NaN", P3P_NO_FINITE_SCORE, choose(4, nowhere));
-    expect("choose, a pose", 0, choose(1, ahead));
-    expect("choose, more than four", 0, choose(4000000000u, ahead));
+    const double nowhere[3] = {NAN, 0, 0}, target[3] = {0, 0, 2}, beyond[3] = {0, 0, 4};
+    const double far[3] = {0, 0, -1e308}, opposite[3] = {0, 0, 1e308};
+    expect("choose, no pose", P3P_NO_FINITE_SCORE, choose(0, NULL, target, ahead));
+    expect("choose, depth zero", P3P_NO_FINITE_SCORE, choose(4, NULL, target, aside));
+    expect("choose, all behind", P3P_NO_FINITE_SCORE, choose(4, NULL, target, back));
+    expect("choose, a NaN", P3P_NO_FINITE_SCORE, choose(4, NULL, target, nowhere));
+    expect("choose, a pose", 0, choose(1, NULL, target, ahead));
+    expect("choose, more than four", 0, choose(4000000000u, NULL, target, ahead));
+    expect("choose_about, behind its origin", P3P_NO_FINITE_SCORE,
+           choose(4, beyond, target, ahead));
+    expect("choose_about, a difference overflows", P3P_NO_FINITE_SCORE,
+           choose(4, far, opposite, ahead));
+    expect("choose_about, a pose", 0, choose(4, target, beyond, ahead));
 }
 
 static uint32_t quadratic_kind(double b, double c)

@@ -1,6 +1,6 @@
 """One frame: what the Rust raised and answered, beside what the definition says."""
 import sys
-from typing import NamedTuple
+from typing import Callable, NamedTuple
 
 from frames import bits, doubles
 from interpret import raised
@@ -10,7 +10,6 @@ sys.setrecursionlimit(20000)
 VECTOR = record_class(("x", "y", "z"))
 WORLD = record_class(("p0", "p1", "p2"))
 BEARINGS = record_class(("f0", "f1", "f2"))
-SOLVE = "crates/lambdatwist/specs/Solve.antt"
 # the flags by which a run of the Rust tells that an operation failed the premise
 TELLING = raised.INVALID | raised.DIVISION | raised.OVERFLOW | raised.UNDERFLOW
 SILENT = raised.EXACT | raised.ROUNDED_UP
@@ -27,10 +26,11 @@ class Seen(NamedTuple):
 
 
 class Definition:
-    """The definition `solve`, as its text says or with other texts for some files."""
+    """The definition of a solver, as its text says or with other texts for some files."""
 
-    def __init__(self, root, changed=None):
-        self.solve = Program(root, changed).function(SOLVE, "solve")
+    def __init__(self, root, solver, changed=None):
+        self.solver = solver
+        self.solve = Program(root, changed).function(solver.path, solver.name)
 
     def of(self, frame):
         xs = doubles(frame)
@@ -41,9 +41,9 @@ class Definition:
         return bool(self.of(frame).regular)
 
 
-def answer_text(answer):
-    """The answer as the reference's command `flags` writes it."""
-    words = [str(answer.refusal), str(answer.count)]
+def answer_text(answer, origin=()):
+    """The answer as the reference's command `flags` writes it, or `flags-about` with the origin."""
+    words = [str(answer.refusal), str(answer.count)] + [f"{bits(x):016x}" for x in origin]
     for pose, updates, lifted in zip(answer.poses[: answer.count], answer.updates, answer.lifted):
         m, t = pose.rotation, pose.translation
         entries = [
@@ -53,6 +53,23 @@ def answer_text(answer):
     return " ".join(words)
 
 
+def about_text(about):
+    return answer_text(about.answer, (about.origin.x, about.origin.y, about.origin.z))
+
+
+class Solver(NamedTuple):
+    """A definition, the reference's command for it, and how that writes its answer."""
+
+    path: str
+    name: str
+    command: str
+    text: Callable
+
+
+SOLVE = Solver("crates/lambdatwist/specs/Solve.antt", "solve", "flags", answer_text)
+ABOUT = Solver("crates/about/specs/SolveAbout.antt", "solveAbout", "flags-about", about_text)
+
+
 def see(definition, frame, line):
     traced = definition.of(frame)
     flags, answer = line.split(" ", 1)
@@ -60,7 +77,7 @@ def see(definition, frame, line):
         bool(traced.regular),
         int(flags, 16),
         raised.raised_by(traced.regular),
-        answer == answer_text(traced.value),
+        answer == definition.solver.text(traced.value),
     )
 
 

@@ -47,6 +47,12 @@ def stored(root):
         return [record[:18] for record in struct.iter_unpack(">83Q", file.read())]
 
 
+def stored_about(root):
+    """Those of the solve about the first target: records of 79 words."""
+    with open(os.path.join(root, "crates/replay/data/rust/about.bin"), "rb") as file:
+        return [record[:18] for record in struct.iter_unpack(">79Q", file.read())]
+
+
 def whole(r, most):
     """Small whole numbers: points and bearings coincide, lie in a line, or are zero."""
     return of_doubles(float(r.randint(-most, most)) for _ in range(18))

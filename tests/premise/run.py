@@ -1,10 +1,12 @@
 #!/usr/bin/env python3
 """The premise of the scaling rule beside runs of the Rust: `.regular` of the definition `solve`
-against the exception flags that the processor raises in the Rust's solve of the same frame.
+against the exception flags that the processor raises in the Rust's solve of the same frame; or of
+`solveAbout`, against the solve about the first target.
 
   tests/premise/run.py SOURCES                 compare; any violation ends with status 1
   tests/premise/run.py SOURCES --must-notice   the same with each wrong reading of wrong.py in turn,
                                                which must give a violation
+  .. --about                                   the solve about the first target in place of it
   .. --each=N                                  frames of each of the reference's kinds (200)
 
 SOURCES is the folder of the Rust's originals (reference/README.md). Run it at the repository's
@@ -35,29 +37,29 @@ DIRECTIONS = {
 
 
 def brinks(frame):
-    return list(frames.brinks(frame, compare.Definition(ROOT).is_regular))
+    return list(frames.brinks(frame, compare.Definition(ROOT, compare.SOLVE).is_regular))
 
 
-def flags_of(sources, listed):
-    """The lines of the reference's command `flags` for these frames."""
+def flags_of(sources, listed, solver):
+    """The lines of the reference's command `flags` or `flags-about` for these frames."""
     path = os.path.join(FOLDER, "frames.bin")
     with open(path, "wb") as file:
         file.writelines(struct.pack(">18Q", *frame) for _, frame in listed)
-    command = [os.path.join(ROOT, "reference/run"), sources, "flags", path]
+    command = [os.path.join(ROOT, "reference/run"), sources, solver.command, path]
     done = subprocess.run(command, check=True, stdout=subprocess.PIPE, text=True)
     return done.stdout.splitlines()
 
 
 def see_all(work):
     """What is seen of some frames, by the definition with a wrong reading or None."""
-    reading, pairs = work
-    definition = compare.Definition(ROOT, reading and wrong.changed(ROOT, reading))
+    solver, reading, pairs = work
+    definition = compare.Definition(ROOT, solver, reading and wrong.changed(ROOT, reading))
     return [compare.see(definition, frame, line) for frame, line in pairs]
 
 
-def seen_of(pool, listed, lines, reading=None):
+def seen_of(pool, solver, listed, lines, reading=None):
     pairs = [(frame, line) for (_, frame), line in zip(listed, lines, strict=True)]
-    works = [(reading, pairs[i : i + 500]) for i in range(0, len(pairs), 500)]
+    works = [(solver, reading, pairs[i : i + 500]) for i in range(0, len(pairs), 500)]
     return [seen for part in pool.map(see_all, works) for seen in part]
 
 
@@ -100,13 +102,14 @@ def print_violations(listed, found):
     return total == 0
 
 
-def must_notice(pool, listed, lines):
+def must_notice(pool, solver, listed, lines):
     """Whether every wrong reading is noticed in one direction or the other: the first on all
     frames, the others on every fifth."""
     well = True
-    for place, reading in enumerate(wrong.READINGS):
+    readings = wrong.READINGS_ABOUT if solver == compare.ABOUT else wrong.READINGS
+    for place, reading in enumerate(readings):
         step = 5 if place else 1
-        found = violations(seen_of(pool, listed[::step], lines[::step], reading))
+        found = violations(seen_of(pool, solver, listed[::step], lines[::step], reading))
         raised_only, silent_only, flags, _ = (len(places) for places in found.values())
         noticed = raised_only + silent_only > 0
         well &= noticed
@@ -123,7 +126,7 @@ def natives_agree():
 
 
 def named_as_expected():
-    other = named.unexpected(compare.Definition(ROOT))
+    other = named.unexpected(compare.Definition(ROOT, compare.SOLVE))
     print(f"named frames: {len(named.frames())}, of which other than expected {len(other)}")
     return not other
 
@@ -134,17 +137,21 @@ def main():
     if len(words) != 1 or not os.path.exists("crates.txt"):
         sys.exit(__doc__)
     each = next((int(w[7:]) for w in options if w.startswith("--each=")), 200)
+    solver = compare.ABOUT if "--about" in options else compare.SOLVE
     os.makedirs(FOLDER, exist_ok=True)
     started = time.monotonic()
     reference = os.path.join(ROOT, "reference/run")
     with ProcessPoolExecutor(os.cpu_count()) as pool:
         brinks_of = lambda plates: pool.map(brinks, plates)
         listed = frames.all_frames(ROOT, reference, words[0], FOLDER, each, brinks_of)
-        lines = flags_of(words[0], listed)
+        if solver == compare.ABOUT:
+            about = [frames.quieted(frame) for frame in frames.stored_about(ROOT)]
+            listed += [("stored, about the first target", frame) for frame in about]
+        lines = flags_of(words[0], listed, solver)
         if "--must-notice" in options:
-            well = must_notice(pool, listed, lines)
+            well = must_notice(pool, solver, listed, lines)
         else:
-            seen = seen_of(pool, listed, lines)
+            seen = seen_of(pool, solver, listed, lines)
             print_counts(listed, seen)
             well = print_violations(listed, violations(seen))
             well &= natives_agree() & named_as_expected()

@@ -69,10 +69,24 @@ READINGS = {
     ),
 }
 
+# of the solve about the first target
+READINGS_ABOUT = {
+    "a subtraction not counted": (
+        "crates/about/specs/Differences.antt",
+        "  p1 ← vecSub (world .p1) (world .p0)\n",
+        "  p1 ← pure (vecSub (world .p1) (world .p0) .value)\n",
+    ),
+    "no subtraction": (
+        "crates/about/specs/SolveAbout.antt",
+        "      moved ← differences world\n",
+        "      moved ← pure world\n",
+    ),
+}
+
 
 def changed(root, reading):
     """The text of the file with the wrong reading."""
-    path, old, new = READINGS[reading]
+    path, old, new = (READINGS | READINGS_ABOUT)[reading]
     with open(f"{root}/{path}", encoding="utf-8") as file:
         text = file.read()
     if text.count(old) != 1:

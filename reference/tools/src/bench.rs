@@ -54,15 +54,15 @@ pub fn run(count: u64, seed: u64) -> Result<(), String> {
     );
     let peers = peers::names();
     let heads: String = peers.iter().map(|name| format!(" {name}, ns |")).collect();
-    println!("| frames | port / Rust | port, ns | Rust, ns |{heads} poses a frame |");
-    println!("|---|{}", "---:|".repeat(4 + peers.len()));
+    println!("| frames | port / Rust | port, ns | about, ns | Rust, ns |{heads} poses a frame |");
+    println!("|---|{}", "---:|".repeat(5 + peers.len()));
     let sorts: Vec<_> =
         SORTS.iter().map(|(name, sort)| (name, inputs(sort, count, seed))).collect();
     for (name, inputs) in &sorts {
         let times = times(inputs);
         let cells: String = times.iter().map(|time| format!(" {time:.0} |")).collect();
         let (poses, _) = found(inputs, ported);
-        println!("| {name} | {:.2} |{cells} {poses:.2} |", times[0] / times[1]);
+        println!("| {name} | {:.2} |{cells} {poses:.2} |", times[0] / times[2]);
     }
     if !peers.is_empty() {
         println!();
@@ -115,22 +115,24 @@ fn inputs(sort: &Sort, count: u64, seed: u64) -> Vec<Input> {
     list
 }
 
-/// Nanoseconds a solve: the port's, the unchanged copy's and the peers'.
+/// Nanoseconds a solve: the port's, plain and about the first target, the unchanged copy's and the
+/// peers'.
 fn times(inputs: &[Input]) -> Vec<f64> {
     let parts = inputs.chunks(PART);
     let peers = peers::names().len();
-    let mut least = vec![vec![f64::INFINITY; 2 + peers]; parts.len()];
+    let mut least = vec![vec![f64::INFINITY; 3 + peers]; parts.len()];
     for _ in 0..PASSES {
         for (part, least) in parts.clone().zip(&mut least) {
             least[0] = least[0].min(pass(part.iter(), |input| port::solve(input).count));
-            least[1] = least[1].min(pass(part.iter(), |input| copy_asis::solve(input).count));
-            for (p, least) in least[2..].iter_mut().enumerate() {
+            least[1] = least[1].min(pass(part.iter(), |input| port::solve_about(input).0.count));
+            least[2] = least[2].min(pass(part.iter(), |input| copy_asis::solve(input).count));
+            for (p, least) in least[3..].iter_mut().enumerate() {
                 *least = least.min(pass(part.iter(), |input| peers::solve(p, input).0));
             }
         }
     }
     let mean = |solver| least.iter().map(|part| part[solver]).sum::<f64>() / inputs.len() as f64;
-    (0..2 + peers).map(mean).collect()
+    (0..3 + peers).map(mean).collect()
 }
 
 fn ported(input: &Input) -> (usize, [f64; 48]) {

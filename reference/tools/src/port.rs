@@ -165,12 +165,18 @@ pub fn solve(input: &[f64]) -> Solve {
     s
 }
 
-fn about(input: &[f64; 18]) -> Vec<u64> {
+/// The solve about the first target, and what it leaves in the origin.
+pub fn solve_about(input: &[f64; 18]) -> (Solve, [f64; 3]) {
     let (mut s, mut origin) = (Solve::lent(), [LENT; 3]);
     let [updates, lifted] = [s.updates.as_mut_ptr(), s.lifted.as_mut_ptr()];
     let [poses, point] = [s.poses.as_mut_ptr(), origin.as_mut_ptr()];
     s.number =
         unsafe { p3p_solve_about(input.as_ptr(), poses, updates, lifted, &mut s.count, point) };
+    (s, origin)
+}
+
+fn about(input: &[f64; 18]) -> Vec<u64> {
+    let (s, origin) = solve_about(input);
     if s.number != 0 {
         return refused(s.number, s.left() && is_lent(&origin), 61);
     }
