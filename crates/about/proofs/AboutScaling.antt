@@ -13,7 +13,7 @@ use Rattle.linalg.proofs.VectorDegrees.{null-vector, vecSub-scales, allFinite-s
 use Rattle.frames.specs.FrameScaling.{AtWorld}
 use Rattle.lambdatwist.proofs.SolveScaling.{AtAnswer, refused-alike, inputFinite-same, solve-scales}
 use Rattle.about.specs.Differences.{differences, worldFinite}
-use Rattle.about.specs.SolveAbout.{refusedAbout, withOrigin, solveAbout}
+use Rattle.about.specs.SolveAbout.{answerAbout, withOrigin, solveAbout}
 use Rattle.about.specs.Types.{Vector3, World, Bearings, Answer, AnswerAbout}
 
 pub record AtAnswerAbout (k : ℤ) (a a' : AnswerAbout) : Type 0 where
@@ -38,10 +38,6 @@ module _ {k : ℤ} where
       λ i. allFinite-same (w .p0) i && allFinite-same (w .p1) i && allFinite-same (w .p2) i
 
   -- ---- answers
-  refusedAbout-alike : (number : ℕ) → AtAnswerAbout k (refusedAbout number) (refusedAbout number)
-  unfolding refusedAbout
-  refusedAbout-alike number = record { answer = refused-alike number; origin = null-vector }
-
   withOrigin-at : {o o' : Vector3} {a a' : Answer}
       → AtVector k (pos 1) o o'
       → AtAnswer k a a'
@@ -51,13 +47,16 @@ module _ {k : ℤ} where
       choose (AtAnswerAbout k) (ap (λ (n : ℕ). not (eqb n 0)) (a .refusal))
       (record { answer = a; origin = null-vector }) (record { answer = a; origin = o })
 
-  pub solveAbout-scales : {world world' : World} (bearings : Bearings)
-      → AtWorld k world world'
-      → Both (AtAnswerAbout k) (solveAbout world bearings) (solveAbout world' bearings)
-  unfolding solveAbout
-  solveAbout-scales bearings w =
-      if ap not (inputFinite-same bearings w) then pure (refusedAbout-alike 1)
-      else (differences-scales w >>= λ _ _ moved.
-      if ap not (worldFinite-same moved) then pure (refusedAbout-alike 1)
-      else (solve-scales bearings moved >>= λ _ _ answer.
-      pure (withOrigin-at (w .p0) answer)))
+  module _ {world world' : World} (bearings : Bearings) (W : AtWorld k world world') where
+    answerAbout-scales : Both (AtAnswer k) (answerAbout world bearings) (answerAbout world' bearings)
+    unfolding answerAbout
+    answerAbout-scales =
+        if ap not (inputFinite-same bearings W) then pure (refused-alike 1)
+        else (differences-scales W >>= λ _ _ moved.
+        if ap not (worldFinite-same moved) then pure (refused-alike 1)
+        else solve-scales bearings moved)
+
+    pub solveAbout-scales :
+        Both (AtAnswerAbout k) (solveAbout world bearings) (solveAbout world' bearings)
+    unfolding solveAbout
+    solveAbout-scales = answerAbout-scales >>= λ _ _ answer. pure (withOrigin-at (W .p0) answer)

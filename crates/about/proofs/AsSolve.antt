@@ -1,19 +1,24 @@
 -- Whatever the eighteen numbers are, the answer about the first target is the solve's of the
 -- differences, with the point that was subtracted (`about-solves`): both of the questions before it
--- end as the solve's own first question would. Document 02, §1. Assumes nothing.
-use mathlib.Core.Path.{_≡_, refl}
+-- end as the solve's own first question would. And the origin beside an answer, refused or not.
+-- Document 02, §1. Assumes nothing.
+use mathlib.Core.Path.{_≡_, refl, sym, ap}
 use mathlib.Core.Bool.{Bool, not, _&&_}
-use lib.Dec.{T, T-not}
+use Prim.Native.Nat.{ℕ, suc}
+use borrow.Author.Tests.{eq-eqb, ne-eqb}
+use native.Mathlib.Omega.{arith}
+use lib.Dec.{T, T-not, eqb}
 use lib.Ieee.Fits.{and-i, and-l, and-r}
 use mir.Facts.{T-not-not}
 use Rattle.ieee754.specs.Traced.{Traced}
 use Rattle.ieee754.proofs.Tests.{three, all-three, either-way}
-use Rattle.linalg.specs.Vectors.{allFinite}
+use Rattle.linalg.specs.Vectors.{zeros, allFinite}
 use Rattle.p3p_common.specs.Input.{inputFinite}
-use Rattle.lambdatwist.specs.Solve.{answered, refused, solve}
+use Rattle.lambdatwist.specs.Solve.{refused, solve}
 use Rattle.about.specs.Differences.{differences, worldFinite}
-use Rattle.about.specs.SolveAbout.{refusedAbout, withOrigin, solveAbout}
-use Rattle.about.specs.Types.{World, Bearings, P3pInput, Answer, AnswerAbout}
+use Rattle.about.specs.SolveAbout.{answerAbout, withOrigin, solveAbout}
+use Rattle.about.specs.Types.{Vector3, World, Bearings, P3pInput, Answer}
+use Rattle.about.specs.Types.{AnswerAbout}
 use Rattle.about.proofs.DifferenceLaws.{points-finite}
 
 -- ---- an input is finite where its points and its bearings are
@@ -69,18 +74,39 @@ module _ (world : World) (bearings : Bearings) where
       either-way (λ (m : Traced Answer). m .value ≡ refused 1) (not finite) (λ _. refl)
       (λ f. absurd (infinite (T-not-not finite f)))
 
-  refuses : (T (inputFinite (input moved bearings)) → ⊥)
-      → refusedAbout 1 ≡ withOrigin (world .p0) (solve moved bearings .value)
-  unfolding refusedAbout withOrigin refused answered
-  refuses infinite = rw (solve-refuses infinite)
+  pub answer-solves : answerAbout world bearings .value ≡ solve moved bearings .value
+  unfolding answerAbout
+  answer-solves =
+      let given = inputFinite (input world bearings) in
+      let Solves : Traced Answer → Type 0 = λ m. m .value ≡ solve moved bearings .value in
+      either-way Solves (not given)
+      (λ n. sym (solve-refuses (λ h. T-not given n (moved-finite h .0))))
+      (λ _. either-way Solves (not (worldFinite moved))
+      (λ n. sym (solve-refuses (λ h. T-not (worldFinite moved) n (moved-finite h .1))))
+      (λ _. refl))
 
   pub about-solves :
       solveAbout world bearings .value ≡ withOrigin (world .p0) (solve moved bearings .value)
   unfolding solveAbout
-  about-solves =
-      let given = inputFinite (input world bearings) in
-      let Solves : Traced AnswerAbout → Type 0 =
-      λ m. m .value ≡ withOrigin (world .p0) (solve moved bearings .value) in
-      either-way Solves (not given) (λ n. refuses (λ h. T-not given n (moved-finite h .0)))
-      (λ _. either-way Solves (not (worldFinite moved))
-      (λ n. refuses (λ h. T-not (worldFinite moved) n (moved-finite h .1))) (λ _. refl))
+  about-solves = ap (withOrigin (world .p0)) answer-solves
+
+-- ---- the origin beside an answer
+module _ (origin : Vector3) (answer : Answer) where
+  pub origin-refused : {n : ℕ}
+      → answer .refusal ≡ suc n
+      → withOrigin origin answer ≡ record { answer = answer; origin = zeros }
+  unfolding withOrigin
+  origin-refused h = rw (ne-eqb (answer .refusal) 0 (λ z. omega (arith, z, h)))
+
+  pub origin-accepted : answer .refusal ≡ 0
+      → withOrigin origin answer ≡ record { answer = answer; origin = origin }
+  unfolding withOrigin
+  origin-accepted h = rw (eq-eqb (answer .refusal) 0 h)
+
+  pub origin-keeps : withOrigin origin answer .answer ≡ answer
+  unfolding withOrigin
+  origin-keeps =
+      either-way (λ (a : AnswerAbout). a .answer ≡ answer) (not (eqb (answer .refusal) 0))
+      {x = record { answer = answer; origin = zeros }}
+      {y = record { answer = answer; origin = origin }}
+      (λ _. refl) (λ _. refl)

@@ -20,13 +20,20 @@ pub struct AnswerAbout {
     pub origin: Vector3,
 }
 
-fn refused_about(number: u32) -> AnswerAbout
-    ensures { λ r. ⌜ r ≡ SolveAbout.refusedAbout number ⌝ }
+// The answer by itself: question 1, of the eighteen numbers and then of the differences, and the
+// solve of these.
+pub fn answer_about(world: World, bearings: Bearings) -> Answer
+    ensures { λ r. ⌜ r ≡ SolveAbout.answerAbout world bearings .value ⌝ }
 {
-    AnswerAbout {
-        answer: refused(number),
-        origin: Vector3::zeros(),
+    let input = P3pInput { world, bearings };
+    if !input_finite(input) {
+        return refused(1);
     }
+    let moved = differences(world);
+    if !world_finite(moved) {
+        return refused(1);
+    }
+    solve(moved, bearings)
 }
 
 // An answer of the solve with the point that was subtracted.
@@ -46,14 +53,6 @@ fn with_origin(origin: Vector3, answer: Answer) -> AnswerAbout
 pub fn solve_about(world: World, bearings: Bearings) -> AnswerAbout
     ensures { λ r. ⌜ r ≡ SolveAbout.solveAbout world bearings .value ⌝ }
 {
-    let input = P3pInput { world, bearings };
-    if !input_finite(input) {
-        return refused_about(1);
-    }
-    let moved = differences(world);
-    if !world_finite(moved) {
-        return refused_about(1);
-    }
     let p0 = world.p0;
-    with_origin(p0, solve(moved, bearings))
+    with_origin(p0, answer_about(world, bearings))
 }

@@ -3,26 +3,26 @@ ghost use mathlib.Core.Path.{_≡_};
 ghost use Rattle.choice.specs.Answer.{number};
 ghost use Rattle.lent_answers.specs.Solved.{posesAfter, updatesAfter, liftedAfter, countAfter};
 ghost use Rattle.lent_answers.specs.Chosen.{bestAfter, scoreAfter};
-ghost use Rattle.p3p.specs.AboutLent.{solvedAbout, originAfter, chosenAbout};
+ghost use Rattle.p3p.specs.AboutLent.{solvedAbout, pointAfter, originAfter};
+ghost use Rattle.p3p.specs.AboutLent.{chosenAbout};
 use about::choose_about::choose_about;
-use about::solve_about::AnswerAbout;
-use about::solve_about::solve_about;
+use about::solve_about::answer_about;
 use frames::lent::bearings_at;
 use frames::lent::vector_at;
 use frames::lent::world_at;
 use lent_answers::chosen::poses_in;
 use lent_answers::chosen::write_choice;
 use lent_answers::solved::write_answer;
+use linalg::vector3::Vector3;
 
 // Writes the point that was subtracted, unless the answer is refused.
-fn write_origin(about: AnswerAbout, origin: &mut [f64; 3])
-    ensures { λ _. ⌜ now (origin .exit) ≡ originAfter about (now (origin .entry)) ⌝ }
+fn write_origin(refusal: u32, p0: Vector3, origin: &mut [f64; 3])
+    ensures { λ _. ⌜ now (origin .exit) ≡ pointAfter refusal p0 (now (origin .entry)) ⌝ }
 {
-    if about.answer.refusal != 0 {
+    if refusal != 0 {
         return;
     }
-    let point = about.origin;
-    *origin = [point.x, point.y, point.z];
+    *origin = [p0.x, p0.y, p0.z];
 }
 
 // The poses, about the first, of three world points and the bearings to them. Returns 0, or the
@@ -53,9 +53,10 @@ pub extern "C" fn p3p_solve_about(
         ⌜ now (origin .exit)
         ≡ originAfter (solvedAbout (now (input .entry))) (now (origin .entry)) ⌝ }
 {
-    let about = solve_about(world_at(input, 0), bearings_at(input, 9));
-    write_origin(about, origin);
-    let answer = about.answer;
+    let world = world_at(input, 0);
+    let p0 = world.p0;
+    let answer = answer_about(world, bearings_at(input, 9));
+    write_origin(answer.refusal, p0, origin);
     write_answer(answer, poses, updates, lifted, count)
 }
 

@@ -5,18 +5,17 @@
 use mathlib.Core.Path.{_≡_, refl, sym, ap, subst⁻¹, _∙_}
 use mathlib.Core.Bool.{Bool, true, false, not}
 use Prim.Native.Nat.{ℕ, suc}
-use borrow.Author.Tests.{eq-eqb, ne-eqb}
-use native.Mathlib.Omega.{arith}
-use lib.Dec.{T, T-not, eqb}
+use lib.Dec.{T, T-not}
 use lib.Ieee.{ofBits}
 use lib.Ieee.Fits.{and-i, and-l, and-r}
-use Rattle.ieee754.proofs.Tests.{three, either-way}
+use Rattle.ieee754.proofs.Tests.{three}
 use Rattle.linalg.specs.Vectors.{zeros, allFinite}
 use Rattle.p3p_common.specs.Input.{inputFinite}
 use Rattle.lambdatwist.specs.Solve.{solve}
 use Rattle.about.specs.Differences.{differences, worldFinite}
 use Rattle.about.specs.SolveAbout.{withOrigin, solveAbout}
 use Rattle.about.proofs.AsSolve.{parts-finite, moved-finite, solved-finite, about-solves}
+use Rattle.about.proofs.AsSolve.{origin-refused, origin-accepted, origin-keeps}
 use Rattle.theorems.specs.OneAnswer as one
 use Rattle.theorems.specs.OneAnswer.{Refused, Accepted, OneAnswer}
 use Rattle.theorems.specs.OneAnswerAbout.{aboutFirst, differencesFinite, OneAnswerAbout}
@@ -28,27 +27,6 @@ use Rattle.theorems.proofs.FiniteTranslation.{FiniteTranslations, solve
 refute : (b : Bool) → (T b → ⊥) → T (not b)
 refute true h = h tt
 refute false h = tt
-
--- ---- the origin beside an answer
-module _ (origin : Vector3) (answer : Answer) where
-  origin-refused : {n : ℕ}
-      → answer .refusal ≡ suc n
-      → withOrigin origin answer ≡ record { answer = answer; origin = zeros }
-  unfolding withOrigin
-  origin-refused h = rw (ne-eqb (answer .refusal) 0 (λ z. omega (arith, z, h)))
-
-  origin-accepted : answer .refusal ≡ 0
-      → withOrigin origin answer ≡ record { answer = answer; origin = origin }
-  unfolding withOrigin
-  origin-accepted h = rw (eq-eqb (answer .refusal) 0 h)
-
-  origin-keeps : withOrigin origin answer .answer ≡ answer
-  unfolding withOrigin
-  origin-keeps =
-      either-way (λ (a : AnswerAbout). a .answer ≡ answer) (not (eqb (answer .refusal) 0))
-      {x = record { answer = answer; origin = zeros }}
-      {y = record { answer = answer; origin = origin }}
-      (λ _. refl) (λ _. refl)
 
 module _ (world : World) (bearings : Bearings) where
   abbrev given : P3pInput
