@@ -1,6 +1,7 @@
 // Runs the functions on the records in data/ and says of each file how many answers differ from the
 // stored bits: data/exact has the answers of exact arithmetic to the single operations
-// (tests/ieee754), data/rust the Rust's (reference/). A file holds records of words: the arguments,
+// (tests/ieee754), data/rust the Rust's, and to what the Rust does not have, the choice and the
+// solve about the first target, those of reference/. A file holds records of words: the arguments,
 // then the answer. That each record is compared as the definitions say is proved; that records are
 // read, and differences counted, no contract can say, so the files of data/control (tests/replay)
 // have records that must differ: of sqrt's three one is right, one wrong in its last bit and one
