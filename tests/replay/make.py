@@ -12,7 +12,9 @@ Each is made of a stored record, the answer of exact arithmetic (data/exact) or 
                 which is 0, as is what the program's array holds there before it reads
     frame.bin   as it is stored; with the last bit of one entry of slot 1 changed, the last of its
                 rotation; with the last bit of the refusal number changed; with the mark of slot 1
-                changed"""
+                changed
+    about.bin   an answer as it is stored; with the last bit of the origin's z changed; a refusal as
+                it is stored; with the last bit of the origin's x changed, which then is no zero"""
 
 import os
 import sys
@@ -22,6 +24,8 @@ DATA = os.path.join(
 )
 # where the words of a stored frame begin: the refusal number, the count, slot 1
 REFUSAL, COUNT, SLOT_1 = 192, 200, 328
+# and of an answer about the first target: the refusal number, the origin
+ABOUT_REFUSAL, ORIGIN = 144, 160
 
 
 def stored(name, size):
@@ -46,6 +50,11 @@ def files():
     yield "sqrt.bin", root + changed(root, 8) + root[:-1]
     wrong = [changed(frame, at) for at in (last_entry, REFUSAL, mark)]
     yield "frame.bin", frame + b"".join(wrong)
+    # the first answer about the first target, and the first refusal
+    about = stored("rust/about.bin", 632)
+    solved = next(r for r in about if word(r, ABOUT_REFUSAL) == 0)
+    refused = next(r for r in about if word(r, ABOUT_REFUSAL) != 0)
+    yield "about.bin", solved + changed(solved, ORIGIN + 16) + refused + changed(refused, ORIGIN)
 
 
 def main(checking):

@@ -8,7 +8,10 @@ use Rattle.replay_doubles.specs.RootRecords.{finderHolds, finderWords}
 use Rattle.replay_pieces.specs.ChoiceRecords.{choiceHolds, choiceWords}
 use Rattle.replay_pieces.specs.PieceRecords.{pieceHolds, pieceWords}
 use Rattle.replay_stages.specs.StageRecords.{stageHolds, stageWords}
+use Rattle.replay_about.specs.ChooseAboutRecords.{chooseAboutHolds, chooseAboutWords}
+use Rattle.replay_about.specs.SolveAboutRecords.{solveAboutHolds, solveAboutWords}
 use Rattle.replay.specs.Types.{Subject, Single, Root, Shared, Whole, Chosen}
+use Rattle.replay.specs.Types.{SolvedAbout, ChosenAbout}
 
 abbrev pub subjectHolds : Subject → List ℕ → Bool
 subjectHolds (Single operation) s = operationHolds operation s
@@ -16,6 +19,8 @@ subjectHolds (Root finder) s = finderHolds finder s
 subjectHolds (Shared piece) s = pieceHolds piece s
 subjectHolds (Whole stage) s = stageHolds stage s
 subjectHolds Chosen s = choiceHolds s
+subjectHolds SolvedAbout s = solveAboutHolds s
+subjectHolds ChosenAbout s = chooseAboutHolds s
 
 abbrev pub subjectWords : Subject → ℕ
 subjectWords (Single operation) = operationWords operation
@@ -23,3 +28,5 @@ subjectWords (Root finder) = finderWords finder
 subjectWords (Shared piece) = pieceWords piece
 subjectWords (Whole stage) = stageWords stage
 subjectWords Chosen = choiceWords
+subjectWords SolvedAbout = solveAboutWords
+subjectWords ChosenAbout = chooseAboutWords

@@ -6,4 +6,6 @@ pub use Rattle.replay.specs.declared.Subject.the-variants.{
   Shared,
   Whole,
   Chosen,
+  SolvedAbout,
+  ChosenAbout,
 }

@@ -1,14 +1,18 @@
 // Runs the functions on the records in data/ and says of each file how many answers differ from the
 // stored bits: data/exact has the answers of exact arithmetic to the single operations
-// (tests/ieee754), data/rust the Rust's (reference/). A file holds records of words: the arguments,
+// (tests/ieee754), data/rust the Rust's, and to what the Rust does not have, the choice and the
+// solve about the first target, those of reference/. A file holds records of words: the arguments,
 // then the answer. That each record is compared as the definitions say is proved; that records are
 // read, and differences counted, no contract can say, so the files of data/control (tests/replay)
 // have records that must differ: of sqrt's three one is right, one wrong in its last bit and one
-// cut short, and of frame's three one is right, one wrong in a bit of slot 1 and one in its refusal
-// number.
+// cut short; of frame's four one is right, one wrong in a bit of slot 1, one in its refusal number
+// and one in slot 1's mark; and of about's four two are right, an answer and a refusal, and two
+// wrong in a bit of the origin.
 ghost use mathlib.Core.Path.{_≡_};
 ghost use Prim.Native.Nat.{_*_, _≤_};
 ghost use Rattle.replay.specs.SubjectRecords.{subjectHolds, subjectWords};
+use replay_about::chosen_about;
+use replay_about::solved_about;
 use replay_doubles::operations;
 use replay_doubles::operations::Operation;
 use replay_doubles::roots;
@@ -25,6 +29,8 @@ pub enum Subject {
     Shared(Piece),
     Whole(Stage),
     Chosen,
+    SolvedAbout,
+    ChosenAbout,
 }
 
 // What a step through a file found: a record that agrees, one that differs or is cut short, or
@@ -45,6 +51,8 @@ fn length(subject: Subject) -> usize
         Subject::Shared(piece) => pieces::length(piece),
         Subject::Whole(stage) => stages::length(stage),
         Subject::Chosen => chosen::length(),
+        Subject::SolvedAbout => solved_about::length(),
+        Subject::ChosenAbout => chosen_about::length(),
     }
 }
 
@@ -58,6 +66,8 @@ fn holds(subject: Subject, s: &[u8; 664]) -> bool
         Subject::Shared(piece) => pieces::holds(piece, s),
         Subject::Whole(stage) => stages::holds(stage, s),
         Subject::Chosen => chosen::holds(s),
+        Subject::SolvedAbout => solved_about::holds(s),
+        Subject::ChosenAbout => chosen_about::holds(s),
     }
 }
 
@@ -107,6 +117,7 @@ fn compare(subject: Subject, path: &[u8]) {
 fn main() {
     compare(Subject::Single(Operation::Sqrt), b"control/sqrt.bin");
     compare(Subject::Whole(Stage::Frame), b"control/frame.bin");
+    compare(Subject::SolvedAbout, b"control/about.bin");
     compare(Subject::Single(Operation::Abs), b"exact/abs.bin");
     compare(Subject::Single(Operation::Copysign), b"exact/copysign.bin");
     compare(Subject::Single(Operation::Max), b"exact/max.bin");
@@ -135,4 +146,6 @@ fn main() {
     compare(Subject::Whole(Stage::Condition), b"rust/condition.bin");
     compare(Subject::Whole(Stage::Frame), b"rust/frame.bin");
     compare(Subject::Chosen, b"rust/choice.bin");
+    compare(Subject::SolvedAbout, b"rust/about.bin");
+    compare(Subject::ChosenAbout, b"rust/choice_about.bin");
 }

@@ -12,16 +12,21 @@ use Rattle.replay_records.specs.Contents.{narrow, vectorAt, poseAt}
 use Rattle.replay_records.specs.Agreement.{numberAgrees, doubleAgrees}
 use Rattle.replay_pieces.specs.Types.{Pose, Choice}
 
-abbrev pub choiceAgrees : Choice → List ℕ → Bool
-choiceAgrees (Best place score) s =
-    numberAgrees 0 s 440 && numberAgrees place s 448 && doubleAgrees score s 456
-choiceAgrees (Refused n) s = numberAgrees n s 440
+-- the number, the place and the score begin at `at`
+abbrev pub choiceAgrees : Choice → List ℕ → ℕ → Bool
+choiceAgrees (Best place score) s at =
+    numberAgrees 0 s at && numberAgrees place s (at + 8) && doubleAgrees score s (at + 16)
+choiceAgrees (Refused n) s at = numberAgrees n s at
+
+-- four poses, of twelve words each
+unfoldable pub posesAt : List ℕ → ℕ → List Pose
+posesAt s at =
+    poseAt s at ∷ poseAt s (at + 96) ∷ poseAt s (at + 192) ∷ poseAt s (at + 288) ∷ []
 
 unfoldable pub choiceHolds : List ℕ → Bool
 choiceHolds s =
-    let poses : List Pose = poseAt s 8 ∷ poseAt s 104 ∷ poseAt s 200 ∷ poseAt s 296 ∷ [] in
     let count = narrow (wordAt s 0) in
-    choiceAgrees (choose poses count (vectorAt s 392) (vectorAt s 416) .value) s
+    choiceAgrees (choose (posesAt s 8) count (vectorAt s 392) (vectorAt s 416) .value) s 440
 
 -- the words that are taken, and those that are given
 abbrev pub choiceWords : ℕ

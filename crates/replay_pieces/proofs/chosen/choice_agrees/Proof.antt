@@ -6,5 +6,5 @@ use Rattle.replay_pieces.proofs.chosen.choice_agrees.Tie as tie
 pub choice-agrees-spec : {M : Type 1} → statement M
 choice-agrees-spec =
     tie.close (tie.spec (λ c. search needs) (λ c _. search needs) (λ c. search needs)
-    (λ c _. search needs) (λ c _. search needs) (λ c. search needs) (λ c. search needs)
-    (λ c _. search needs) (λ c. cc) (λ c. cc))
+    (λ c. search needs) (λ c _. search needs) (λ c. search needs) (λ c _. search needs)
+    (λ c. search needs) (λ c. search needs) (λ c _. search needs) (λ c. cc) (λ c. cc))

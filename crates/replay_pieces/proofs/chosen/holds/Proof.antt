@@ -11,5 +11,4 @@ returns c = cc
 pub holds-spec : {M : Type 1} → statement M
 holds-spec =
     tie.close (tie.spec (λ c _. search needs) (λ c _. search needs) (λ c _. search needs)
-    (λ c _. search needs) (λ c _. search needs) (λ c _. search needs) (λ c _. search needs)
-    (λ c _. search needs) (λ c _. search needs) (λ c _. search needs) returns)
+    (λ c _. search needs) (λ c _. search needs) (λ c _. search needs) (λ c _. search needs) returns)

@@ -1,8 +1,8 @@
--- `replay_stages::frame::slot_agrees` meets its contract. Assumes nothing.
+-- `replay_stages::answers::slot_agrees` meets its contract. Assumes nothing.
 use borrow.Author.Needs.{needs}
-use Rattle.replay_stages.specs.FrameRecords.{slotAgrees}
-use Rattle.replay_stages.proofs.frame.slot_agrees.Statement.{statement}
-use Rattle.replay_stages.proofs.frame.slot_agrees.Tie as tie
+use Rattle.replay_stages.specs.AnswerRecords.{slotAgrees}
+use Rattle.replay_stages.proofs.answers.slot_agrees.Statement.{statement}
+use Rattle.replay_stages.proofs.answers.slot_agrees.Tie as tie
 
 returns : tie.Need-returns
 unfolding slotAgrees

@@ -1,0 +1,15 @@
+-- `replay_about::chosen_about::holds` meets its contract. Assumes nothing.
+use borrow.Author.Needs.{needs}
+use Rattle.replay_about.specs.ChooseAboutRecords.{chooseAboutHolds}
+use Rattle.replay_about.proofs.chosen_about.holds.Statement.{statement}
+use Rattle.replay_about.proofs.chosen_about.holds.Tie as tie
+
+returns : tie.Need-returns
+unfolding chooseAboutHolds
+returns c = cc
+
+pub holds-spec : {M : Type 1} → statement M
+holds-spec =
+    tie.close (tie.spec (λ c _. search needs) (λ c _. search needs) (λ c _. search needs)
+    (λ c _. search needs) (λ c _. search needs) (λ c _. search needs) (λ c _. search needs)
+    (λ c _. search needs) returns)
