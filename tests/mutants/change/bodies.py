@@ -47,7 +47,8 @@ class Body(Expressions):
         if self.word() in ("while", "loop", "for"):
             return self.loop(self.take())
         first = self.word()
-        kind = self.expression()
+        # such a statement ends with its block, as in Rust
+        kind = self.primary() if first in ("if", "match", "{") else self.expression()
         word = self.word()
         if word == "=":
             return self.assignment(kind)

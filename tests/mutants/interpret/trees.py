@@ -38,7 +38,8 @@ class Parser(Grammar):
         if self.passes("break"):
             self.expect(";")
             return ("break",)
-        value = self.expression()
+        # such a statement ends with its block, as in Rust
+        value = self.primary() if self.word() in ("if", "match", "{") else self.expression()
         if self.kind() == "op" and self.word() in ("=",) + ASSIGNMENTS:
             op = self.take()
             right = self.expression()
