@@ -2,7 +2,7 @@
  *
  * Each function's result, and what it leaves in the memory that is lent to it, is proved equal to a
  * definition for every input, infinities and NaNs too (crates/p3p). None allocates or keeps state:
- * each may be called from several threads at once. A solve was measured to take 4.1 KiB of stack at
+ * each may be called from several threads at once. A solve was measured to take 4.8 KiB of stack at
  * most (docs/BENCHMARKS.md); the others take less. Under lazy binding the first call takes the
  * loader's 1 to 3 KiB more: link with -Wl,-z,now.
  *
@@ -24,10 +24,10 @@
 #include <stddef.h>
 #include <stdint.h>
 
-#define P3P_VERSION "0.3.0"
+#define P3P_VERSION "0.3.1"
 #define P3P_VERSION_MAJOR 0
 #define P3P_VERSION_MINOR 3
-#define P3P_VERSION_PATCH 0
+#define P3P_VERSION_PATCH 1
 
 #ifdef __cplusplus
 extern "C" {
@@ -91,7 +91,8 @@ uint32_t p3p_solve(const double input[18], double poses[48], uint32_t updates[4]
 uint32_t p3p_choose(const double poses[48], uint32_t count, const double target[3],
                     const double bearing[3], uint32_t *best, double *score);
 
-/* ---- the same about the first target, for coordinates many kilometres from zero (docs/USING.md) */
+/* ---- the same about the first target: for coordinates many kilometres from zero, as on grid jobs
+ *      (docs/USING.md) */
 
 /* The poses from which three world points are seen, about the first of them: it is subtracted from
  * all three, one rounding a coordinate, and the differences are solved as p3p_solve does.
@@ -104,8 +105,8 @@ uint32_t p3p_choose(const double poses[48], uint32_t count, const double target[
 uint32_t p3p_solve_about(const double input[18], double poses[48], uint32_t updates[4],
                          uint32_t lifted[4], uint32_t *count, double origin[3]);
 
-/* The choice of p3p_choose among poses of p3p_solve_about. `target` is the checking target as it is:
- * the origin is subtracted here.
+/* The choice of p3p_choose among poses of p3p_solve_about. `target` is the checking target as it
+ * is: the origin is subtracted here.
  *
  * origin   as p3p_solve_about wrote it.
  * The others are as for p3p_choose. Returns 0, or 10; 10 also where a difference is not finite. */

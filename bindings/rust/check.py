@@ -37,7 +37,11 @@ CHANGES = [
     # the checking bearing reversed
     ("[0.075, 0.25, 2.4]", "[-0.075, -0.25, -2.4]", "no pose has a finite score\n"),
 ]
-OTHER_HOLE = "[0.25, -0.5, 0.0]", "[0.25, -0.5, 0.000001]"
+OTHER_HOLES = {
+    "plate": ("[0.25, -0.5, 0.0]", "[0.25, -0.5, 0.000001]"),
+    "grid": ("5334000.0, 512.125]", "5334000.0, 512.125001]"),
+}
+PRINTED = {"plate": "include/example.txt", "grid": "include/grid.txt"}
 
 
 def cargo(command, library, given=b"", folder=CRATE):
@@ -77,24 +81,25 @@ def records_faults(library):
         yield "example records: another input is not noticed"
 
 
-def changed_plate(folder, library, old="", new=""):
-    """A run of the example `plate` with a change, in a copy of the crate."""
-    with open(os.path.join(CRATE, "examples", "plate.rs"), encoding="utf-8") as f:
+def changed_example(name, folder, library, old="", new=""):
+    """A run of an example with a change, in a copy of the crate."""
+    with open(os.path.join(CRATE, "examples", name + ".rs"), encoding="utf-8") as f:
         text = f.read()
-    with open(os.path.join(folder, "examples", "plate.rs"), "w", encoding="utf-8") as f:
+    with open(os.path.join(folder, "examples", name + ".rs"), "w", encoding="utf-8") as f:
         f.write(text.replace(old, new))
-    return cargo(EXAMPLE + "plate", library, folder=folder)
+    return cargo(EXAMPLE + name, library, folder=folder)
 
 
 def plate_faults(library, folder):
-    stored = inputs.read("include/example.txt")
-    run = changed_plate(folder, library)
-    if run.stdout != stored:
-        yield f"example plate:\n{printed(run)}"
-    if changed_plate(folder, library, *OTHER_HOLE).stdout == stored:
-        yield "example plate: another hole is not noticed"
+    for name, path in PRINTED.items():
+        stored = inputs.read(path)
+        run = changed_example(name, folder, library)
+        if run.stdout != stored:
+            yield f"example {name}:\n{printed(run)}"
+        if changed_example(name, folder, library, *OTHER_HOLES[name]).stdout == stored:
+            yield f"example {name}: another hole is not noticed"
     for old, new, said in CHANGES:
-        run = changed_plate(folder, library, old, new)
+        run = changed_example("plate", folder, library, old, new)
         if run.returncode != 1 or run.stderr.decode() != said:
             yield f"example plate with {new}: {run.returncode}\n{printed(run)}"
 

@@ -2,12 +2,12 @@
 """The library from C, C++ and Python: the examples of include/ and every refusal.
 
     tests/c/run.py LIBRARY             LIBRARY: the path of libp3p.a
-    tests/c/run.py LIBRARY --store     rewrite include/example.txt and include/records.txt
+    tests/c/run.py LIBRARY --store     rewrite example.txt, grid.txt and records.txt of include/
 
 The examples are compiled as C99 and as C++ with all warnings as errors, and must print what is
 stored in include/; of the sample they must list what samples/listing.txt does. inputs.py beside
 this has more runs of records.c. The commands of include/README.md are run as they stand there.
-tests/c/refusals.c calls for every refusal number. An example with another number, and refusals.c
+tests/c/refusals.c calls for every refusal number. Examples with another number, and refusals.c
 with other expectations, must be found wrong.
 
 Needs cc and c++."""
@@ -23,7 +23,7 @@ import inputs
 
 WARNINGS = ["-Wall", "-Wextra", "-pedantic", "-Werror"]
 LANGUAGES = {"c": ["cc", "-std=c99"], "c++": ["c++", "-std=c++11"]}
-STORED = {"example": "include/example.txt", "records": "include/records.txt"}
+STORED = {name: f"include/{name}.txt" for name in ("example", "grid", "records")}
 SAMPLE, LISTING = inputs.read("samples/frames.bin"), "samples/listing.txt"
 
 
@@ -67,14 +67,15 @@ class Comparison:
 
 
 def run_examples(folder, language, library):
-    """What the two examples print, by name; the second lists the sample."""
+    """What the examples print, by name; the last lists the sample."""
     programs = {name: build(f"include/{name}.c", language, folder, library) for name in STORED}
     return {name: output([program], SAMPLE) for name, program in programs.items()}, programs
 
 
 def compare_examples(compared, folder, language, library):
     printed, programs = run_examples(folder, language, library)
-    compared.equal(f"example ({language})", printed["example"], read(STORED["example"]))
+    for name in ("example", "grid"):
+        compared.equal(f"{name} ({language})", printed[name], read(STORED[name]))
     for run in inputs.runs():
         command = ["sh", "-c", f'exec "$0" {run.redirected}', programs["records"]]
         found = output(command, run.given, run.status)
@@ -92,14 +93,22 @@ CHANGES = [
     # the checking bearing reversed
     ("{0.075, 0.25, 2.4}", "{-0.075, -0.25, -2.4}", "choose refused 10: no pose has a finite"),
 ]
-# A change of the hole by a thousandth of a millimetre.
-OTHER_HOLE = "{0.25, -0.5, 0.0}", "{0.25, -0.5, 0.000001}"
+# Changes of the hole by a thousandth of a millimetre.
+OTHER_HOLES = {
+    "example": ("{0.25, -0.5, 0.0}", "{0.25, -0.5, 0.000001}"),
+    "grid": ("5334000.0, 512.125}", "5334000.0, 512.125001}"),
+}
+# Changes of grid.c's numbers, and what it says then.
+GRID_CHANGES = [
+    ("{691000.75, 5334000.5, 512.125}", "{1e999, 0.0, 0.0}", "refused 1\n"),
+    ("{0.075, 0.25, 2.4}", "{0.0, 0.0, 0.0}", "refused 10\n"),
+]
 
 
-def build_changed(old, new, language, folder, library):
+def build_changed(old, new, language, folder, library, name="example"):
     source = os.path.join(folder, "changed.c")
     with open(source, "w", encoding="utf-8") as f:
-        f.write(read("include/example.c").replace(old, new))
+        f.write(read(f"include/{name}.c").replace(old, new))
     return build(source, language, folder, library)
 
 
@@ -109,8 +118,12 @@ def compare_changes(compared, folder, language, library):
         program = build_changed(old, new, language, folder, library)
         last = output([program], b"", 1).splitlines()[-1]
         compared.equal(f"example with {new}", last[: len(begin)] + "\n", begin + "\n")
-    other = output([build_changed(*OTHER_HOLE, language, folder, library)])
-    compared.different(f"example ({language}), another hole", other, read(STORED["example"]))
+    for old, new, said in GRID_CHANGES:
+        program = build_changed(old, new, language, folder, library, "grid")
+        compared.equal(f"grid with {new}", output([program], b"", 1), said)
+    for name, change in OTHER_HOLES.items():
+        other = output([build_changed(*change, language, folder, library, name)])
+        compared.different(f"{name} ({language}), another hole", other, read(STORED[name]))
 
 
 def compare_refusals(compared, folder, language, library):
@@ -145,7 +158,7 @@ def compare_page(compared, folder, library):
     example = read(STORED["example"])
     # example.py solves the same plate, and prints less
     python = example[example.index("best") :]
-    expected = example + read(STORED["records"]) + python
+    expected = example + read(STORED["grid"]) + read(STORED["records"]) + python
     found = output(["sh", "-e", "-c", page_commands(folder, library)])
     compared.equal("include/README.md's commands", found, expected)
 

@@ -1,5 +1,5 @@
--- The subtractions count among the operations of the scaling rule's premise (document 02, §1): where
--- a difference overflows it is not met. Assumes nothing.
+-- The subtractions count among the operations of the scaling rule's premise (document 02, §1):
+-- where a difference overflows it is not met. Assumes nothing.
 use mathlib.Core.Bool.{not}
 use lib.Dec.{T}
 use Rattle.ieee754.specs.Literal.{double, plusZero}

@@ -9,9 +9,9 @@ use lib.Ieee.{Float}
 use lib.ListN.{set}
 use borrow.Author.Tests.{lt-ltb}
 use Rattle.linalg.specs.Matrices.{fromColumns}
-use Rattle.frames.specs.Lent.{vectorAt, poseAt}
+use Rattle.frames.specs.Lent.{vectorAt, poseAt, entries}
 use Rattle.p3p_common.specs.Slots.{empty, push}
-use Rattle.lambdatwist.specs.LentSlots.{entries, poseOf, held, Fresh, Answers}
+use Rattle.lambdatwist.specs.LentSlots.{poseOf, held, Fresh, Answers}
 use Rattle.lambdatwist.specs.Solve.{ifKept, refused}
 use Rattle.lambdatwist.specs.Types.{Pose, Solutions}
 

@@ -4,7 +4,7 @@
 use Prim.Native.Nat.{ℕ, _≤_}
 use mathlib.Core.Path.{_≡_}
 use mathlib.Core.Bool.{Bool, false}
-use mathlib.Core.List.{List, [], _∷_, map}
+use mathlib.Core.List.{List, map}
 use lib.Ieee.{Float}
 use lib.ListN.{replicate}
 use Rattle.ieee754.specs.Literal.{plusZero}
@@ -12,14 +12,6 @@ use Rattle.frames.specs.Lent.{poseAt}
 use Rattle.p3p_common.specs.Slots.{push}
 use Rattle.lambdatwist.specs.Solve.{ifKept}
 use Rattle.lambdatwist.specs.Types.{Pose, Solutions, Turn, Kept, Dropped, Answer}
-
--- the rotation by columns, then the translation, as `poseAt` reads them
-unfoldable pub entries : Pose → List Float
-entries p =
-    p .rotation .m00 ∷ p .rotation .m10 ∷ p .rotation .m20
-    ∷ p .rotation .m01 ∷ p .rotation .m11 ∷ p .rotation .m21
-    ∷ p .rotation .m02 ∷ p .rotation .m12 ∷ p .rotation .m22
-    ∷ p .translation .x ∷ p .translation .y ∷ p .translation .z ∷ []
 
 abbrev pub poseOf : List Float → Pose
 poseOf slot = poseAt slot 0

@@ -3,7 +3,8 @@
 // struct of poses cannot; what is lent is not copied from stage to stage.
 ghost use mathlib.Core.Path.{_≡_};
 ghost use Prim.Native.Nat.{_+_, _≤_, _<_};
-ghost use Rattle.lambdatwist.specs.LentSlots.{entries, poseOf, held, turned};
+ghost use Rattle.frames.specs.Lent.{entries};
+ghost use Rattle.lambdatwist.specs.LentSlots.{poseOf, held, turned};
 use frames::lent::pose_at;
 use frames::pose::Pose;
 use p3p_common::solutions::Solutions;

@@ -9,7 +9,7 @@ use lib.Dec.{eqb}
 use lib.ListN.{length, getD}
 use Rattle.ieee754.specs.Traced.{if_then_else_}
 use Rattle.frames.proofs.Entries.{list-of-four}
-use Rattle.lambdatwist.specs.LentSlots.{entries}
+use Rattle.frames.specs.Lent.{entries}
 use Rattle.lent_answers.specs.Types.{Pose}
 use Rattle.lent_answers.specs.Solved.{allEntries}
 

@@ -6,7 +6,7 @@ use mathlib.Core.List.{List, [], _∷_, map, _++_}
 use lib.Dec.{eqb}
 use lib.Ieee.{Float}
 use Rattle.ieee754.specs.Traced.{if_then_else_}
-use Rattle.lambdatwist.specs.LentSlots.{entries}
+use Rattle.frames.specs.Lent.{entries}
 use Rattle.lent_answers.specs.Types.{Pose, Answer}
 
 -- one slot after another: of each the rotation by columns, and the translation, as in the listing

@@ -1,7 +1,7 @@
 // The answer of a solve over lent arrays.
 ghost use mathlib.Core.Path.{_≡_};
 ghost use mathlib.Core.List.{map, _++_};
-ghost use Rattle.lambdatwist.specs.LentSlots.{entries};
+ghost use Rattle.frames.specs.Lent.{entries};
 ghost use Rattle.lent_answers.specs.Solved.{flag, posesAfter, updatesAfter};
 ghost use Rattle.lent_answers.specs.Solved.{liftedAfter, countAfter};
 use frames::pose::Pose;

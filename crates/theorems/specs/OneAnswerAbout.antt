@@ -1,6 +1,6 @@
--- Demand 1 of the mission, for the solve about the first target (document 02, §1): one to four poses
--- with the first world point as it was given, or number 1, 2 or 3 with plus zeros. That it holds of
--- every input and the answer of `solveAbout` to it is `one-answer-about` in the proofs.
+-- Demand 1 of the mission, for the solve about the first target (document 02, §1): one to four
+-- poses with the first world point as it was given, or number 1, 2 or 3 with plus zeros. That it
+-- holds of every input and the answer of `solveAbout` to it is `one-answer-about` in the proofs.
 use mathlib.Core.Path.{_≡_}
 use mathlib.Core.Bool.{Bool, not, _&&_}
 use lib.Dec.{T}

@@ -1,6 +1,6 @@
 -- `lambdatwist::slots::entries` meets its contract. Assumes nothing.
 use mathlib.Core.Path.{refl}
-use Rattle.lambdatwist.specs.LentSlots.{entries}
+use Rattle.frames.specs.Lent.{entries}
 use Rattle.lambdatwist.proofs.slots.entries.Statement.{statement}
 use Rattle.lambdatwist.proofs.slots.entries.Tie as tie
 

@@ -1,6 +1,6 @@
 -- `lent_answers::solved::all_entries` meets its contract. Assumes nothing.
 use mathlib.Core.Path.{refl}
-use Rattle.lambdatwist.specs.LentSlots.{entries}
+use Rattle.frames.specs.Lent.{entries}
 use Rattle.lent_answers.proofs.solved.all_entries.Statement.{statement}
 use Rattle.lent_answers.proofs.solved.all_entries.Tie as tie
 
