@@ -100,7 +100,7 @@ OTHER_HOLES = {
 }
 # Changes of grid.c's numbers, and what it says then.
 GRID_CHANGES = [
-    ("{691000.75, 5334000.5, 512.125}", "{1e999, 0.0, 0.0}", "refused 1\n"),
+    ("{691000.75, 5334000.5, 512.125}", "{INFINITY, 0.0, 0.0}", "refused 1\n"),
     ("{0.075, 0.25, 2.4}", "{0.0, 0.0, 0.0}", "refused 10\n"),
 ]
 
