@@ -74,7 +74,7 @@ class Machine(Evaluate):
         env.update(bound)
 
     def do_return(self, env, e):
-        raise Return(taken(held(self.run(e, env))))
+        raise Return(None if e is None else taken(held(self.run(e, env))))
 
     def do_break(self, env):
         raise Break

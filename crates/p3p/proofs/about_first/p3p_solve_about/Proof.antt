@@ -11,9 +11,10 @@ use Rattle.p3p.proofs.about_first.p3p_solve_about.Tie as tie
 returns : tie.Need-returns
 unfolding originAfter
 returns c =
-    -- the four lent arrays are handed on, after the origin
-    let lent = c .before .before in
-    let origin = lent .before .before .before in
+    -- the four lent places are handed on, after the origin
+    let two-lent = c .before .before in
+    let four-lent = two-lent .before .before in
+    let origin = four-lent .before in
     let answer = origin .before .before in
     let bearings = answer .before in
     let first = bearings .before .before in

@@ -7,9 +7,10 @@ use Rattle.p3p.proofs.solve.p3p_solve.Tie as tie
 
 returns : tie.Need-returns
 returns c =
-    -- the four lent arrays are handed on
-    let lent = c .before .before in
-    let answer = lent .before .before .before in
+    -- the four lent places are handed on
+    let two-lent = c .before .before in
+    let four-lent = two-lent .before .before in
+    let answer = four-lent .before in
     let bearings = answer .before in
     let world = bearings .before .before in
     let found =
