@@ -4,7 +4,7 @@
 # of a fast cube root now and then must, one that scores a target behind the camera, one that takes
 # a discriminant of zero for a lifted one, and one that marks a pose because it stands twice. Of the
 # solve about the first target must: differences from the second, the second carried as the origin,
-# and a checking target that is not moved.
+# a translation moved back to the world, and a checking target that is not moved.
 set -euo pipefail
 here=$(cd "$(dirname "$0")" && pwd)
 sources=$(realpath "${1:?usage: stub.sh SOURCES}")
@@ -35,7 +35,7 @@ compare right beside 50000 | tail -n 1
 compare right pieces 50000 fast_cbrt | tail -n 1
 compare right check "$here/inputs/cbrt.txt" | tail -n 1
 compare right pieces 50000 about choice_about | tail -n 1
-for wrong in pose score behind root kind mark about origin target; do
+for wrong in pose score behind root kind mark about origin target world; do
   build wrong-$wrong --features=wrong-$wrong
 done
 must_find wrong-pose beside 50000
@@ -50,5 +50,7 @@ must_find wrong-about beside 50000
 must_find wrong-about pieces 50000 about
 must_find wrong-origin beside 50000
 must_find wrong-origin pieces 50000 about
+must_find wrong-world beside 50000
+must_find wrong-world pieces 50000 about
 must_find wrong-target beside 50000
 must_find wrong-target pieces 50000 choice_about

@@ -7,8 +7,14 @@ use crate::sys::{self, Slot};
 use std::array;
 
 /// A pose about an origin. It takes world points as they are: [`apply`](Self::apply) subtracts the
-/// origin itself. Rotation and translation are those of the differences, so that there is no way to
-/// a [`Pose`] that could be applied to a point from which nothing was subtracted.
+/// origin itself. No [`Pose`] is given out, so that none is applied by mistake to a point from which
+/// nothing was subtracted:
+///
+/// ```compile_fail
+/// # let (world, bearings, target, bearing) = ([[0.0; 3]; 3], [[0.0; 3]; 3], [0.0; 3], [0.0; 3]);
+/// let poses = p3p::solve_about(&world, &bearings).unwrap();
+/// p3p::choose(&poses, &target, &bearing); // takes a slice of `Pose`
+/// ```
 #[derive(Clone, Copy, Debug, PartialEq)]
 pub struct PoseAbout {
     pose: Pose,

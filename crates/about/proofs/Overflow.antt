@@ -1,5 +1,6 @@
 -- The subtractions count among the operations of the scaling rule's premise (document 02, §1):
--- where a difference overflows it is not met. Assumes nothing.
+-- where a difference overflows it is not met. `subtractions-needed` of `theorems` has a whole solve
+-- of which that is so; this is the difference alone. Assumes nothing.
 use mathlib.Core.Bool.{not}
 use lib.Dec.{T}
 use Rattle.ieee754.specs.Literal.{double, plusZero}

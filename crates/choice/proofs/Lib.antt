@@ -3,3 +3,4 @@ pub mod Turns
 pub mod Evaluated
 pub mod OneAnswer
 pub mod Refusal
+pub mod TargetNotFinite

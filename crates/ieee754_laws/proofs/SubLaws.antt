@@ -1,8 +1,8 @@
 -- The difference of a finite number and itself is plus zero (`sub-same`), and the operands of a
 -- finite difference are finite (`sub-operands`). Assumes nothing.
-use mathlib.Core.Path.{_≡_, refl, sym, ap, _∙_}
-use mathlib.Core.Bool.{Bool, true, false, not, cond, _&&_}
-use Prim.Native.Nat.{ℕ, _-_, _*_, _<_, _≤_}
+use mathlib.Core.Path.{_≡_, refl, sym, _∙_}
+use mathlib.Core.Bool.{Bool, true, false, not}
+use Prim.Native.Nat.{ℕ, _-_, _*_, _<_}
 use native.Mathlib.Nat.{mul-pos, zero-lt-suc}
 use native.Mathlib.Omega.{arith}
 use lib.IntN.{pos}
@@ -36,7 +36,8 @@ pub sub-same : (x : Float) → T (finite x) → sub binary64 x x ≡ plusZero
 unfolding sub neg add ofBits
 sub-same nan h = absurd h
 sub-same (inf s) h = absurd h
-sub-same (fin s m e) h = sum-self s (m * up e * down e) (down e * down e) (mul-pos (down-pos e) (down-pos e))
+sub-same (fin s m e) h =
+    sum-self s (m * up e * down e) (down e * down e) (mul-pos (down-pos e) (down-pos e))
 
 pub sub-operands : (x y : Float) → T (finite (sub binary64 x y)) → T (finite x) × T (finite y)
 unfolding sub

@@ -1,7 +1,7 @@
 -- The answers over lent arrays are those of what was read from them, and the origin that is written
 -- is the one that an answer carries. Assumes nothing.
 use Prim.Native.Nat.{ℕ, zero, suc}
-use mathlib.Core.Path.{_≡_, refl, ap, _∙_}
+use mathlib.Core.Path.{_≡_, refl}
 use mathlib.Core.List.{List}
 use borrow.Author.Tests.{ne-eqb}
 use native.Mathlib.Omega.{arith}
@@ -16,8 +16,7 @@ use Rattle.lent_answers.specs.Chosen.{posesIn}
 use Rattle.p3p.specs.SolveLent.{solved}
 use Rattle.p3p.specs.ChooseLent.{chosen}
 use Rattle.p3p.specs.AboutLent.{solvedAbout, pointAfter, chosenAbout}
-use Rattle.p3p.specs.Types.{Vector3, World, Bearings, Pose, Answer, AnswerAbout}
-use Rattle.p3p.specs.Types.{Choice}
+use Rattle.p3p.specs.Types.{Vector3, World, Bearings, Pose, Answer, Choice}
 
 module _ (input : List Float) {world : World} {bearings : Bearings}
     (w : world ≡ worldAt input 0) (f : bearings ≡ bearingsAt input 9) where
@@ -60,4 +59,7 @@ origin-written p0 a held = go (a .refusal) refl
         ≡ pointAfter (a .refusal) (withOrigin p0 a .origin) held
     go zero h = rw (origin-accepted p0 a h)
     go (suc n) h =
-        rw (origin-refused p0 a h, ne-eqb (a .refusal) 0 (λ z. omega (arith, z, h)))
+        rw (
+          origin-refused p0 a h,
+          ne-eqb (a .refusal) 0 (λ z. omega (arith, z, h)),
+        )

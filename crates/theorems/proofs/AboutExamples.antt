@@ -2,8 +2,8 @@
 -- and the choice that are stated bit by bit (`grid-answer`, `grid-choice`), and in metres and in
 -- counts both solves are regular, so the rule holds of the two answers (`grid-regular`,
 -- `grid-alike`). The plate of which a difference overflows meets all that the rule asks of
--- coordinates, and is refused, while the plate at 2 ^ -1023 of its size is not: the subtractions
--- must count among the premise's operations (`subtractions-needed`). Assumes nothing.
+-- coordinates, and is refused, while the plate at 2 ^ -1023 of its size is regular and is not: the
+-- subtractions must count among the premise's operations (`subtractions-needed`). Assumes nothing.
 use mathlib.Core.Path.{_≡_, refl}
 use mathlib.Core.Bool.{not}
 use lib.IntN.{pos}
@@ -11,6 +11,7 @@ use lib.Dec.{T, eqb}
 use lib.Ieee.{fits, ofBits, size}
 use Rattle.ieee754.specs.Literal.{double}
 use Rattle.frames.specs.Lent.{vectorAt, poseAt}
+use Rattle.about.specs.Differences.{differences}
 use Rattle.about.specs.SolveAbout.{solveAbout}
 use Rattle.about.specs.ChooseAbout.{chooseAbout}
 use Rattle.about.proofs.Evaluated.{evaluated}
@@ -70,20 +71,27 @@ wide-times : TimesWorld (pos 1023) widePlate overflowPlate
 unfolding widePlate overflowPlate ofBits size
 wide-times = times-world (pos 1023) widePlate overflowPlate tt
 
+wide-double : DoubleWorld widePlate
+unfolding widePlate fits ofBits size
+wide-double = double-world widePlate tt
+
 overflow-double : DoubleWorld overflowPlate
 unfolding overflowPlate fits ofBits size
 overflow-double = double-world overflowPlate tt
 
-overflows : (solveAbout widePlate gridBearings .value .answer .refusal ≡ 0)
+-- where the differences are taken one fails, and nothing but the refusal follows
+abbrev Overflows : Type 0
+Overflows = T (solveAbout widePlate gridBearings .regular)
+    × (solveAbout widePlate gridBearings .value .answer .refusal ≡ 0)
+    × T (not (differences overflowPlate .regular))
     × (solveAbout overflowPlate gridBearings .value .answer .refusal ≡ 1)
-    × T (not (solveAbout overflowPlate gridBearings .regular))
+
+overflows : Overflows
 unfolding evaluated widePlate overflowPlate gridBearings
-overflows = (refl, refl, tt)
+overflows = (tt, refl, tt, refl)
 
 pub subtractions-needed : TimesWorld (pos 1023) widePlate overflowPlate
+    × DoubleWorld widePlate
     × DoubleWorld overflowPlate
-    × (solveAbout widePlate gridBearings .value .answer .refusal ≡ 0)
-    × (solveAbout overflowPlate gridBearings .value .answer .refusal ≡ 1)
-    × T (not (solveAbout overflowPlate gridBearings .regular))
-subtractions-needed =
-    (wide-times, overflow-double, overflows .0, overflows .1, overflows .2)
+    × Overflows
+subtractions-needed = (wide-times, wide-double, overflow-double, overflows)

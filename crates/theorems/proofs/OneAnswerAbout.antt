@@ -2,10 +2,9 @@
 -- is the solve's of the differences (`about-solves`), of which `one-answer` speaks. As a
 -- consequence its translations and its origin are finite, as the scaling rule's proof needs them.
 -- Assumes nothing.
-use mathlib.Core.Path.{_≡_, refl, sym, ap, subst⁻¹, _∙_}
-use mathlib.Core.Bool.{Bool, true, false, not}
+use mathlib.Core.Path.{_≡_, refl, ap, subst⁻¹, _∙_}
 use Prim.Native.Nat.{ℕ, suc}
-use lib.Dec.{T, T-not}
+use lib.Dec.{T, T-not, not-T}
 use lib.Ieee.{ofBits}
 use lib.Ieee.Fits.{and-i, and-l, and-r}
 use Rattle.ieee754.proofs.Tests.{three}
@@ -17,16 +16,12 @@ use Rattle.about.specs.SolveAbout.{withOrigin, solveAbout}
 use Rattle.about.proofs.AsSolve.{parts-finite, moved-finite, solved-finite, about-solves}
 use Rattle.about.proofs.AsSolve.{origin-refused, origin-accepted, origin-keeps}
 use Rattle.theorems.specs.OneAnswer as one
-use Rattle.theorems.specs.OneAnswer.{Refused, Accepted, OneAnswer}
+use Rattle.theorems.specs.OneAnswer.{Refused, OneAnswer}
 use Rattle.theorems.specs.OneAnswerAbout.{aboutFirst, differencesFinite, OneAnswerAbout}
 use Rattle.theorems.specs.OneAnswerAbout.{refused-1, refused-2, refused-3, accepted}
 use Rattle.theorems.specs.Types.{Vector3, World, Bearings, P3pInput, Answer, AnswerAbout}
 use Rattle.theorems.proofs.OneAnswer.{one-answer}
 use Rattle.theorems.proofs.FiniteTranslation.{FiniteTranslations, solve-finite}
-
-refute : (b : Bool) → (T b → ⊥) → T (not b)
-refute true h = h tt
-refute false h = tt
 
 module _ (world : World) (bearings : Bearings) where
   abbrev given : P3pInput
@@ -58,7 +53,7 @@ module _ (world : World) (bearings : Bearings) where
       → OneAnswer (aboutFirst given) a
       → OneAnswerAbout given (withOrigin (world .p0) a)
   one-answer-of a (one.refused-1 f r) =
-      let asked = refute (differencesFinite given)
+      let asked = not-T (differencesFinite given)
       (λ h. T-not (inputFinite (aboutFirst given)) f (as-solved h)) in
       refused-about r (refused-1 asked r refl)
   one-answer-of a (one.refused-2 f o r) = refused-about r (refused-2 (as-asked f) o r refl)

@@ -1,8 +1,8 @@
 //! The second copy behind the port's C interface: it stands in for the port to try the comparison
 //! itself. With a feature it is wrong in a last bit now and then, scores a target behind the
 //! camera, takes a discriminant of zero for a lifted one, marks a pose because it stands twice,
-//! solves about the second point or carries it, or does not move the checking target, which must be
-//! found.
+//! solves about the second point or carries it, moves the translation back to the world, or does
+//! not move the checking target, which must be found.
 
 #[path = "../../tools/src/about.rs"]
 mod about;
@@ -128,8 +128,18 @@ extern "C" fn p3p_solve_about(
         if cfg!(feature = "wrong-origin") {
             origin.copy_from_slice(&input[3..6]);
         }
+        if cfg!(feature = "wrong-world") {
+            poses.chunks_mut(12).take(*count as usize).for_each(|pose| to_world(pose, origin));
+        }
     }
     number
+}
+
+/// The translation of the points as they are: t - R p0.
+fn to_world(pose: &mut [f64], p0: &[f64; 3]) {
+    for i in 0..3 {
+        pose[9 + i] -= pose[i] * p0[0] + pose[3 + i] * p0[1] + pose[6 + i] * p0[2];
+    }
 }
 
 /// An answer into lent memory; a refusal leaves it.

@@ -6,7 +6,12 @@ use Rattle.about.proofs.differences.differences.Tie as tie
 
 returns : tie.Need-returns
 unfolding differences
-returns c = rw (c .before .before .sub .ensures, c .before .sub2 .ensures, c .sub3 .ensures)
+returns c =
+    rw (
+      c .before .before .sub .ensures,
+      c .before .sub2 .ensures,
+      c .sub3 .ensures,
+    )
 
 pub differences-spec : {M : Type 1} → statement M
 differences-spec =

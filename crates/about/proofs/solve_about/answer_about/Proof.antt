@@ -41,8 +41,8 @@ returns-3 c =
       ← moved .differences .ensures,
       ← tested .before .world-finite .ensures,
       tested .if2 .left,
-      ← c .solve .ensures,
     )
+    (c .solve .ensures)
 
 pub answer-about-spec : {M : Type 1} → statement M
 answer-about-spec =

@@ -7,7 +7,11 @@ use Rattle.about.proofs.solve_about.with_origin.Tie as tie
 
 returns : tie.Need-returns
 unfolding withOrigin
-returns c = rw (ne-eqb _ _ (c .before .if1 .taken), c .zeros .ensures)
+returns c =
+    rw (
+      ne-eqb _ _ (c .before .if1 .taken),
+      c .zeros .ensures,
+    )
 
 returns-2 : tie.Need-returns-2
 unfolding withOrigin

@@ -1,7 +1,7 @@
 -- `lent_answers::solved::write_answer` meets its contract: a refused answer leaves the arrays as
 -- they were, and another writes each whole. Assumes nothing.
 use borrow.Author.Needs.{needs}
-use mathlib.Core.Path.{_≡_, refl, sym, _∙_}
+use mathlib.Core.Path.{refl, sym, _∙_}
 use Rattle.lambdatwist.proofs.AnswerSlots.{four-poses}
 use Rattle.lent_answers.specs.Solved.{posesAfter, updatesAfter, liftedAfter, countAfter}
 use Rattle.lent_answers.proofs.WriteLaws.{when-refused, when-answered, four-entries}

@@ -24,7 +24,10 @@ returns c =
     (answer .answer-about .ensures) in
     let w = c .write-answer .ensures in
     let point = origin .write-origin .ensures ∙ origin-written _ _ _ in
-    rw (← found, origin-keeps (world .world-at .result .p0) (answer .answer-about .result))
+    rw (
+      ← found,
+      origin-keeps (world .world-at .result .p0) (answer .answer-about .result),
+    )
     (w .0, (w .1 .0, (w .1 .1 .0, (w .1 .1 .1 .0, (w .1 .1 .1 .1, point)))))
 
 pub p3p-solve-about-spec : {M : Type 1} → statement M
