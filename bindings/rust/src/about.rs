@@ -7,8 +7,8 @@ use crate::sys::{self, Slot};
 use std::array;
 
 /// A pose about an origin. It takes world points as they are: [`apply`](Self::apply) subtracts the
-/// origin itself. No [`Pose`] is given out, so that none is applied by mistake to a point from which
-/// nothing was subtracted:
+/// origin itself. No [`Pose`] is given out, so that none is applied by mistake to a point from
+/// which nothing was subtracted:
 ///
 /// ```compile_fail
 /// # let (world, bearings, target, bearing) = ([[0.0; 3]; 3], [[0.0; 3]; 3], [0.0; 3], [0.0; 3]);

@@ -1,6 +1,6 @@
--- A checking target that is not finite has no finite score under any pose, so that the choice refuses
--- with 10 (`target-not-finite`): a finite score has a finite dividend, and each coordinate of the
--- target goes into it. Assumes nothing.
+-- A checking target that is not finite has no finite score under any pose, so that the choice
+-- refuses with 10 (`target-not-finite`): a finite score has a finite dividend, and each coordinate
+-- of the target goes into it. Assumes nothing.
 use mathlib.Core.Path.{_≡_, subst}
 use mathlib.Core.Bool.{not}
 use mathlib.Core.List.{List, [], _∷_}
@@ -15,8 +15,7 @@ use Rattle.linalg.specs.Matrices.{matVec}
 use Rattle.frames.specs.Poses.{cameraPoint}
 use Rattle.choice.specs.Answer.{noScore}
 use Rattle.choice.specs.Choose.{choose}
-use Rattle.choice.specs.OneAnswer.{Each, stated, squaredTangent, HasFiniteScore}
-use Rattle.choice.specs.OneAnswer.{NoFiniteScore}
+use Rattle.choice.specs.OneAnswer.{Each, stated, NoFiniteScore}
 use Rattle.choice.specs.Types.{Vector3, Pose}
 use Rattle.choice.proofs.Refusal.{refused-if}
 
