@@ -12,7 +12,8 @@ use Rattle.linalg.specs.VectorScaling.{AtVector}
 use Rattle.linalg.proofs.VectorDegrees.{null-vector, vecSub-scales, allFinite-same}
 use Rattle.frames.specs.FrameScaling.{AtWorld}
 use Rattle.lambdatwist.proofs.SolveScaling.{AtAnswer, refused-alike, inputFinite-same, solve-scales}
-use Rattle.about.specs.Differences.{differences, worldFinite}
+use Rattle.frames.specs.Points.{worldFinite}
+use Rattle.about.specs.Differences.{differences}
 use Rattle.about.specs.SolveAbout.{answerAbout, withOrigin, solveAbout}
 use Rattle.about.specs.Types.{Vector3, World, Bearings, Answer, AnswerAbout}
 

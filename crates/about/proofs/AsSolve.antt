@@ -15,7 +15,8 @@ use Rattle.ieee754.proofs.Tests.{three, all-three, either-way}
 use Rattle.linalg.specs.Vectors.{zeros, allFinite}
 use Rattle.p3p_common.specs.Input.{inputFinite}
 use Rattle.lambdatwist.specs.Solve.{refused, solve}
-use Rattle.about.specs.Differences.{differences, worldFinite}
+use Rattle.frames.specs.Points.{worldFinite}
+use Rattle.about.specs.Differences.{differences}
 use Rattle.about.specs.SolveAbout.{answerAbout, withOrigin, solveAbout}
 use Rattle.about.specs.Types.{Vector3, World, Bearings, P3pInput, Answer}
 use Rattle.about.specs.Types.{AnswerAbout}

@@ -8,7 +8,8 @@ use Rattle.ieee754.proofs.Tests.{three, all-three}
 use Rattle.ieee754_laws.proofs.SubLaws.{sub-same, sub-operands}
 use Rattle.linalg.specs.Vectors.{zeros, vecSub, allFinite}
 use Rattle.linalg.proofs.Finite.{entries-finite}
-use Rattle.about.specs.Differences.{differences, worldFinite}
+use Rattle.frames.specs.Points.{worldFinite}
+use Rattle.about.specs.Differences.{differences}
 use Rattle.about.specs.Types.{Vector3, World}
 
 vecSub-same : (v : Vector3) → T (allFinite v) → vecSub v v .value ≡ zeros

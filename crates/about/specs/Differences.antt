@@ -1,9 +1,8 @@
 -- The world points less the first of them: document 02, §1, "the first world point is subtracted
 -- from all three (one rounding each, so the first becomes plus zero)". That it becomes plus zero is
 -- `first-plus-zero` in the proofs.
-use mathlib.Core.Bool.{Bool, _&&_}
 use Rattle.ieee754.specs.Traced.{Traced, pure, _>>=_}
-use Rattle.linalg.specs.Vectors.{vecSub, allFinite}
+use Rattle.linalg.specs.Vectors.{vecSub}
 use Rattle.frames.specs.Points.{points}
 use Rattle.about.specs.Types.{World}
 
@@ -14,7 +13,3 @@ differences world = do
   p1 ← vecSub (world .p1) (world .p0)
   p2 ← vecSub (world .p2) (world .p0)
   pure (points p0 p1 p2)
-
--- are all nine coordinates finite?
-unfoldable pub worldFinite : World → Bool
-worldFinite world = allFinite (world .p0) && allFinite (world .p1) && allFinite (world .p2)

@@ -7,7 +7,8 @@ use Rattle.ieee754.specs.Traced.{Traced, pure, _>>=_, if_then_else_}
 use Rattle.linalg.specs.Vectors.{zeros}
 use Rattle.p3p_common.specs.Input.{inputFinite}
 use Rattle.lambdatwist.specs.Solve.{refused, solve}
-use Rattle.about.specs.Differences.{differences, worldFinite}
+use Rattle.frames.specs.Points.{worldFinite}
+use Rattle.about.specs.Differences.{differences}
 use Rattle.about.specs.Types.{Vector3, World, Bearings, P3pInput, Answer, AnswerAbout}
 
 unfoldable pub answerAbout : World → Bearings → Traced Answer

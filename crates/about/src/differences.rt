@@ -16,13 +16,3 @@ pub fn differences(world: World) -> World
         p2: p2.sub(p0),
     }
 }
-
-// Whether all nine coordinates are finite.
-pub fn world_finite(world: World) -> bool
-    ensures { λ r. ⌜ r ≡ Differences.worldFinite world ⌝ }
-{
-    let p0 = world.p0.all_finite();
-    let p1 = world.p1.all_finite();
-    let p2 = world.p2.all_finite();
-    p0 & p1 & p2
-}

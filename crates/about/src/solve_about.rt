@@ -3,9 +3,9 @@
 ghost use mathlib.Core.Path.{_≡_};
 ghost use Rattle.about.specs.SolveAbout as SolveAbout;
 use crate::differences::differences;
-use crate::differences::world_finite;
 use frames::bearings::Bearings;
 use frames::world::World;
+use frames::world::world_finite;
 use lambdatwist::solve::Answer;
 use lambdatwist::solve::refused;
 use lambdatwist::solve::solve;

@@ -1,7 +1,8 @@
--- The camera point computes under `unfolding evaluated`. Assumes nothing.
+-- The camera point and the test of a world compute under `unfolding evaluated`. Assumes nothing.
 use Rattle.linalg.proofs.Evaluated.{evaluated as vectors-evaluated}
+use Rattle.frames.specs.Points.{worldFinite}
 use Rattle.frames.specs.Poses.{cameraPoint}
 
 unfoldable pub evaluated : Unit {0}
-unfolding vectors-evaluated cameraPoint
+unfolding vectors-evaluated worldFinite cameraPoint
 evaluated = tt

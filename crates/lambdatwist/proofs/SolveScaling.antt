@@ -22,7 +22,7 @@ use Rattle.polynomial.proofs.CubicScaling.{cubic-scales}
 use Rattle.p3p_common.specs.Input.{inputFinite}
 use Rattle.frames.specs.FrameScaling.{AtWorld, AtPose}
 use Rattle.p3p_common.specs.PoseScaling.{AtInput, AtSolutions}
-use Rattle.p3p_common.proofs.BasisScaling.{withInverse-scales, worldBasisInverse-scales}
+use Rattle.p3p_common.proofs.BasisScaling.{withInverse-scales}
 use Rattle.p3p_common.proofs.SlotScaling.{empty-scales}
 use Rattle.lambdatwist.specs.Solve.{answered, refused, ifKept, stopped, solveCandidates}
 use Rattle.lambdatwist.specs.Solve.{solveRoot, solveCubic, orderedOr, bestOr, solveOrdered}
@@ -30,7 +30,8 @@ use Rattle.lambdatwist.specs.Solve.{solve}
 use Rattle.lambdatwist.specs.Types.{Matrix3, World, Bearings, P3pInput, Solutions}
 use Rattle.lambdatwist.specs.Types.{Measured, Coefficients, Candidates, Answer}
 use Rattle.orderings.proofs.CubicScaling.{AtCoefficients, isUnusable-same}
-use Rattle.orderings.proofs.MeasureScaling.{AtMeasured, measure-scales, measuredCubic-scales}
+use Rattle.orderings.proofs.MeasureScaling.{AtMeasured, basisOf-scales, measure-scales}
+use Rattle.orderings.proofs.MeasureScaling.{measuredCubic-scales}
 use Rattle.depths.specs.Matrix.{singularMatrix}
 use Rattle.depths.specs.Signs.{candidates}
 use Rattle.depths.proofs.MatrixScaling.{singularMatrix-scales}
@@ -82,7 +83,7 @@ module _ {k : ℤ} where
           → Both (AtAnswer k) (solveCandidates input m c) (solveCandidates input' m' c')
       unfolding solveCandidates
       solveCandidates-scales found =
-          worldBasisInverse-scales (M .d01) (M .d02) >>= λ _ _ basis.
+          basisOf-scales (M .source) >>= λ _ _ basis.
           withInverse-scales basis stops (λ _ _ worldInverse.
           poses-scales I M worldInverse found >>= λ _ _ solutions.
           pure (ifKept-at solutions))

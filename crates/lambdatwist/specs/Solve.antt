@@ -12,7 +12,8 @@ use Rattle.polynomial.specs.Answer.{withRoot}
 use Rattle.polynomial.specs.PolishedRoot.{polishedCubicRoot}
 use Rattle.p3p_common.specs.Input.{inputFinite}
 use Rattle.p3p_common.specs.Slots.{empty}
-use Rattle.p3p_common.specs.WorldBasisInverse.{withInverse, worldBasisInverse}
+use Rattle.p3p_common.specs.WorldBasisInverse.{withInverse}
+use Rattle.orderings.specs.Basis.{basisOf}
 use Rattle.orderings.specs.Measure.{measure, measuredCubic}
 use Rattle.orderings.specs.Cubic.{isUnusable}
 use Rattle.depths.specs.Matrix.{singularMatrix}
@@ -48,10 +49,11 @@ stopped = pure (refused 3)
 
 -- ---- the stages of `solve_ordered`, from the last to the first
 
--- let Some(world_inverse) = world_basis_inverse(d01, d02) else { .. }, and the poses
+-- let Some(world_inverse) = world_basis_inverse(d01, d02) else { .. }, and the poses; of a plate the
+-- basis is the stored one
 unfoldable pub solveCandidates : P3pInput → Measured → Candidates → Traced Answer
 solveCandidates input measured found = do
-  basis ← worldBasisInverse (measured .d01) (measured .d02)
+  basis ← basisOf (measured .source)
   withInverse basis stopped (λ worldInverse. do
     solutions ← poses input measured worldInverse found
     pure (ifKept solutions))

@@ -18,6 +18,7 @@ use frames::bearings::Bearings;
 use frames::pose::Pose;
 use frames::world::World;
 use ieee754::literal::EPSILON;
+use orderings::basis::basis_of;
 use orderings::cubic::Coefficients;
 use orderings::cubic::is_unusable;
 use orderings::measured::Measured;
@@ -28,7 +29,6 @@ use p3p_common::input::P3pInput;
 use p3p_common::input::input_finite;
 use p3p_common::solutions::Solutions;
 use p3p_common::world_basis_inverse::Basis;
-use p3p_common::world_basis_inverse::world_basis_inverse;
 use polynomial::Roots;
 use polynomial::cubic::polished_cubic_root;
 
@@ -92,9 +92,8 @@ fn solve_candidates(
         ⌜ Answers count (now (slots .exit)) (now (updates .exit)) (now (lifted .exit))
         (Solve.solveCandidates input measured found .value) ⌝ }
 {
-    let d01 = measured.d01;
-    let d02 = measured.d02;
-    let Basis::Inverse(world_inverse) = world_basis_inverse(d01, d02) else {
+    let source = measured.source;
+    let Basis::Inverse(world_inverse) = basis_of(source) else {
         return 0;
     };
     poses(
@@ -202,9 +201,9 @@ fn solve_best_conditioned_permutation(input: P3pInput, retries: u32) -> Answer
 // ---- the entry: the first turn of the cycle is written out, so that the common way through it is
 // compiled by itself (docs/DECISIONS.md)
 
-// The given ordering, which is usable. The slots are in a function of their own, so that they take
-// no stack beside a retry's; solve_ordered repeats these lines (docs/DECISIONS.md).
-fn solve_given(input: P3pInput, measured: Measured, c: Coefficients) -> Answer
+// An ordering that is usable. The slots are in a function of their own, so that they take no stack
+// beside a retry's; solve_ordered repeats these lines (docs/DECISIONS.md).
+pub fn solve_usable(input: P3pInput, measured: Measured, c: Coefficients) -> Answer
     ensures { λ r. ⌜ r ≡ Solve.solveCubic input measured c .value ⌝ }
 {
     let mut slots = [[0.0; 12]; 4];
@@ -227,5 +226,5 @@ pub fn solve(world: World, bearings: Bearings) -> Answer
     if is_unusable(cubic) {
         return solve_best_conditioned_permutation(input, 0);
     }
-    solve_given(input, measured, cubic)
+    solve_usable(input, measured, cubic)
 }

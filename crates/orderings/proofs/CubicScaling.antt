@@ -12,7 +12,8 @@ use Rattle.ieee754_laws.proofs.Degrees.{finite-same, alike, equal}
 use Rattle.frames.specs.FrameScaling.{AtWorld, AtSquaredEdges}
 use Rattle.orderings.specs.Angles.{cosines, squaredSines}
 use Rattle.orderings.specs.Cubic.{cubicCoefficients, coefficientScale, isUnusable}
-use Rattle.orderings.specs.Condition.{foldedScale, leadingShare, leadingCubicCondition}
+use Rattle.orderings.specs.Condition.{foldedScale, leadingShare, conditionOfEdges}
+use Rattle.orderings.specs.Condition.{leadingCubicCondition}
 use Rattle.orderings.specs.Types.{World, Bearings, SquaredEdges, SquaredSines, Coefficients}
 use Rattle.orderings.proofs.EdgeScaling.{edgeVectors-scales, squaredEdges-scales}
 
@@ -81,6 +82,16 @@ module _ {k : ℤ} where
       if ap₂ (λ (a b : Bool). a || not b) (eq-same scale null) (finite-same scale) then pure null
       else ! abs-at (c .cubic3) ⊘ ! scale
 
+  conditionOfEdges-same : {e e' : SquaredEdges} (bearings : Bearings)
+      → AtSquaredEdges k e e'
+      → Both {A = Float} _≡_ (conditionOfEdges e bearings) (conditionOfEdges e' bearings)
+  unfolding conditionOfEdges
+  conditionOfEdges-same bearings squares =
+      alike {m = cosines bearings} >>≡ λ bearingCosines.
+      alike {m = squaredSines bearingCosines} >>≡ λ sines.
+      cubicCoefficients-scales sines squares >>= λ _ _ cubic.
+      equal (leadingShare-scales cubic)
+
   pub leadingCubicCondition-same : {w w' : World} (bearings : Bearings)
       → AtWorld k w w'
       → Both {A = Float} _≡_ (leadingCubicCondition w bearings) (leadingCubicCondition w' bearings)
@@ -88,7 +99,4 @@ module _ {k : ℤ} where
   leadingCubicCondition-same bearings w =
       edgeVectors-scales w >>= λ _ _ edges.
       squaredEdges-scales edges >>= λ _ _ squares.
-      alike {m = cosines bearings} >>≡ λ bearingCosines.
-      alike {m = squaredSines bearingCosines} >>≡ λ sines.
-      cubicCoefficients-scales sines squares >>= λ _ _ cubic.
-      equal (leadingShare-scales cubic)
+      conditionOfEdges-same bearings squares

@@ -11,7 +11,7 @@ use Rattle.ieee754.specs.Traced.{Traced, pure, _>>=_, if_then_else_, _⊘_, !_}
 use Rattle.orderings.specs.Edges.{edgeVectors, squaredEdges}
 use Rattle.orderings.specs.Angles.{cosines, squaredSines}
 use Rattle.orderings.specs.Cubic.{cubicCoefficients}
-use Rattle.orderings.specs.Types.{World, Bearings, Coefficients}
+use Rattle.orderings.specs.Types.{World, Bearings, SquaredEdges, Coefficients}
 
 -- coefficients.iter().copied().map(f64::abs).fold(0.0, f64::max): it starts from plus zero, so
 -- where all are NaN the scale is zero
@@ -26,11 +26,16 @@ leadingShare c =
     if eq (foldedScale c) plusZero || not (finite (foldedScale c)) then pure plusZero
     else ! abs (c .cubic3) ⊘ ! foldedScale c
 
-unfoldable pub leadingCubicCondition : World → Bearings → Traced Float
-leadingCubicCondition world bearings = do
-  edges ← edgeVectors world
-  squares ← squaredEdges edges
+-- after the squared edges
+unfoldable pub conditionOfEdges : SquaredEdges → Bearings → Traced Float
+conditionOfEdges squares bearings = do
   bearingCosines ← cosines bearings
   sines ← squaredSines bearingCosines
   cubic ← cubicCoefficients squares sines
   leadingShare cubic
+
+unfoldable pub leadingCubicCondition : World → Bearings → Traced Float
+leadingCubicCondition world bearings = do
+  edges ← edgeVectors world
+  squares ← squaredEdges edges
+  conditionOfEdges squares bearings

@@ -4,6 +4,7 @@ pub mod Types
 pub mod Edges
 pub mod Angles
 pub mod Cubic
+pub mod Basis
 pub mod Measure
 pub mod Condition
 pub mod Permutation

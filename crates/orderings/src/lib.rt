@@ -2,6 +2,7 @@
 // and the best conditioned of the other orders: from pose/p3p/lambdatwist.rs, document 01, module
 // 7.
 pub mod angles;
+pub mod basis;
 pub mod condition;
 pub mod cubic;
 pub mod edges;

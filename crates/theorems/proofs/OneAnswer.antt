@@ -16,7 +16,7 @@ use Rattle.polynomial.specs.declared.Roots.the-variants as roots
 use Rattle.polynomial.specs.Answer.{withRoot}
 use Rattle.polynomial.specs.PolishedRoot.{polishedCubicRoot}
 use Rattle.p3p_common.specs.Input.{inputFinite}
-use Rattle.p3p_common.specs.WorldBasisInverse.{withInverse, worldBasisInverse}
+use Rattle.p3p_common.specs.WorldBasisInverse.{withInverse}
 use Rattle.eigen.specs.KnownZero.{withSystem, eigWithKnownZero}
 use Rattle.depths.specs.RatioOf.{withRatio, ratioOf}
 use Rattle.depths.specs.Matrix.{singularMatrix}
@@ -24,6 +24,7 @@ use Rattle.depths.specs.Signs.{candidates}
 use Rattle.lambdatwist.specs.Poses.{poses}
 use Rattle.p3p_common.specs.Slots.{empty}
 use Rattle.p3p_common.proofs.SlotLaws.{Kept}
+use Rattle.orderings.specs.Basis.{basisOf}
 use Rattle.orderings.specs.Permutation.{bestPermutation}
 use Rattle.lambdatwist.specs.Solve.{answered, refused, ifKept, stopped, solveCandidates, solveRoot}
 use Rattle.lambdatwist.specs.Solve.{solveCubic, orderedOr, bestOr, solveOrdered, solve}
@@ -95,7 +96,7 @@ module _ (P : Answer → Type 0) (three : P (refused 3))
     solveCandidates-gives : (c : Candidates) → Gives (solveCandidates input measured c)
     unfolding solveCandidates
     solveCandidates-gives c =
-        withInverse-gives (worldBasisInverse (measured .d01) (measured .d02) .value)
+        withInverse-gives (basisOf (measured .source) .value)
         (λ (m : Matrix3). poses input measured m c >>= λ solutions. pure (ifKept solutions))
         (λ m. ifKept-so P three found _ (poses-kept input measured m c))
 

@@ -11,7 +11,8 @@ use Rattle.ieee754.proofs.Tests.{three}
 use Rattle.linalg.specs.Vectors.{zeros, allFinite}
 use Rattle.p3p_common.specs.Input.{inputFinite}
 use Rattle.lambdatwist.specs.Solve.{solve}
-use Rattle.about.specs.Differences.{differences, worldFinite}
+use Rattle.frames.specs.Points.{worldFinite}
+use Rattle.about.specs.Differences.{differences}
 use Rattle.about.specs.SolveAbout.{withOrigin, solveAbout}
 use Rattle.about.proofs.AsSolve.{parts-finite, moved-finite, solved-finite, about-solves}
 use Rattle.about.proofs.AsSolve.{origin-refused, origin-accepted, origin-keeps}

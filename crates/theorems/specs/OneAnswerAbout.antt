@@ -6,7 +6,8 @@ use mathlib.Core.Bool.{Bool, not, _&&_}
 use lib.Dec.{T}
 use Rattle.linalg.specs.Vectors.{zeros}
 use Rattle.p3p_common.specs.Input.{inputFinite}
-use Rattle.about.specs.Differences.{differences, worldFinite}
+use Rattle.frames.specs.Points.{worldFinite}
+use Rattle.about.specs.Differences.{differences}
 use Rattle.theorems.specs.OneAnswer.{Accepted, Refused, noOrdering}
 use Rattle.theorems.specs.Types.{P3pInput, AnswerAbout}
 

@@ -13,7 +13,8 @@ use Rattle.polynomial.specs.PolishedRoot.{polishedCubicRoot}
 use Rattle.polynomial.specs.declared.Roots.{Roots}
 use Rattle.polynomial.specs.declared.Roots.the-variants.{Two, Double, Lifted, One, Refused}
 use Rattle.p3p_common.specs.Input.{inputFinite}
-use Rattle.p3p_common.specs.WorldBasisInverse.{withInverse, worldBasisInverse}
+use Rattle.p3p_common.specs.WorldBasisInverse.{withInverse}
+use Rattle.orderings.specs.Basis.{basisOf}
 use Rattle.p3p_common.specs.declared.solutions.Solutions.{Solutions}
 use Rattle.p3p_common.specs.declared.world_basis_inverse.Basis.{Basis}
 use Rattle.p3p_common.specs.declared.world_basis_inverse.Basis.the-variants.{Inverse, Singular}
@@ -103,7 +104,7 @@ module _ (input : P3pInput) where
         (before.solveCandidates input measured c')
     unfolding solveCandidates before.solveCandidates
     solveCandidates-forgets found =
-        worldBasisInverse (measured .d01) (measured .d02) >>≡ λ basis.
+        basisOf (measured .source) >>≡ λ basis.
         withInverse-forgets basis stops (λ worldInverse.
         poses-forgets input measured worldInverse found >>= λ _ _ solutions.
         pure (ifKept-forgets solutions))

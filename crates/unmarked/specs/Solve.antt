@@ -11,7 +11,8 @@ use Rattle.ieee754.specs.Traced.{Traced, pure, _>>=_, if_then_else_, _⊗_, _�
 use Rattle.polynomial.specs.Answer.{withRoot}
 use Rattle.polynomial.specs.PolishedRoot.{polishedCubicRoot}
 use Rattle.p3p_common.specs.Input.{inputFinite}
-use Rattle.p3p_common.specs.WorldBasisInverse.{withInverse, worldBasisInverse}
+use Rattle.p3p_common.specs.WorldBasisInverse.{withInverse}
+use Rattle.orderings.specs.Basis.{basisOf}
 use Rattle.orderings.specs.Measure.{measure, measuredCubic}
 use Rattle.orderings.specs.Cubic.{isUnusable}
 use Rattle.depths.specs.Matrix.{singularMatrix}
@@ -50,7 +51,7 @@ stopped = pure (refused 3)
 -- let Some(world_inverse) = world_basis_inverse(d01, d02) else { .. }, and the poses
 unfoldable pub solveCandidates : P3pInput → Measured → Candidates → Traced Answer
 solveCandidates input measured found = do
-  basis ← worldBasisInverse (measured .d01) (measured .d02)
+  basis ← basisOf (measured .source)
   withInverse basis stopped (λ worldInverse. do
     solutions ← poses input measured worldInverse found
     pure (ifKept solutions))

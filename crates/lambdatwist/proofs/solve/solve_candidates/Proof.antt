@@ -10,7 +10,7 @@ returns : tie.Need-returns
 unfolding solveCandidates
 returns c =
     rw (
-      ← c .before .before .world-basis-inverse .ensures,
+      ← c .before .before .basis-of .ensures,
       c .enum-told .given .1,
     ) (stops _ _ _)
 
@@ -20,7 +20,7 @@ returns-2 c =
     let lent = c .before .before .before in
     let after-world-inverse = lent .before .before in
     rw (
-      ← after-world-inverse .before .before .world-basis-inverse .ensures,
+      ← after-world-inverse .before .before .basis-of .ensures,
       after-world-inverse .world-inverse .given .1,
     ) (filled _ _ _ _ (c .poses .ensures) (poses-kept _ _ _ _ .few))
 

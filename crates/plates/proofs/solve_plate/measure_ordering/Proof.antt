@@ -1,0 +1,18 @@
+-- `plates::solve_plate::measure_ordering` meets its contract. Assumes nothing.
+use borrow.Author.Needs.{needs}
+use Rattle.plates.specs.SolvePlate.{measureOrdering}
+use Rattle.plates.proofs.solve_plate.measure_ordering.Statement.{statement}
+use Rattle.plates.proofs.solve_plate.measure_ordering.Tie as tie
+
+returns : tie.Need-returns
+unfolding measureOrdering
+returns c =
+    rw (
+      ← c .before .before .sub .ensures,
+      ← c .before .sub2 .ensures,
+    )
+    (c .measure-with .ensures)
+
+pub measure-ordering-spec : {M : Type 1} → statement M
+measure-ordering-spec =
+    tie.close (tie.spec (λ c _. search needs) (λ c _. search needs) (λ c _. search needs) returns)

@@ -1,0 +1,55 @@
+-- `plates::solve_plate::solve_best_ordering` meets its contract. Assumes nothing.
+use borrow.Author.Needs.{needs}
+use Rattle.plates.specs.SolvePlate.{solveMeasured, solveBestOrdering}
+use Rattle.plates.proofs.solve_plate.solve_best_ordering.Statement.{statement}
+use Rattle.plates.proofs.solve_plate.solve_best_ordering.Tie as tie
+
+returns : tie.Need-returns
+unfolding solveBestOrdering
+returns c =
+    let tested = c .before in
+    rw (
+      ← tested .before .before .best-ordering .ensures,
+      tested .if1 .taken,
+      ← c .refused .ensures,
+    )
+
+returns-2 : tie.Need-returns-2
+unfolding solveBestOrdering solveMeasured
+returns-2 c =
+    let tested = c .before in
+    let measured = tested .before .before .before in
+    let fields = measured .before .before in
+    let limited = fields .before .before in
+    rw (
+      ← limited .before .before .best-ordering .ensures,
+      limited .if1 .left,
+      ← measured .measure-ordering .ensures,
+      ← tested .before .before .measured-cubic .ensures,
+      ← tested .before .is-unusable .ensures,
+      tested .if2 .taken,
+      ← c .refused2 .ensures,
+    )
+
+returns-3 : tie.Need-returns-3
+unfolding solveBestOrdering solveMeasured
+returns-3 c =
+    let tested = c .before in
+    let measured = tested .before .before .before in
+    let fields = measured .before .before in
+    let limited = fields .before .before in
+    rw (
+      ← limited .before .before .best-ordering .ensures,
+      limited .if1 .left,
+      ← measured .measure-ordering .ensures,
+      ← tested .before .before .measured-cubic .ensures,
+      ← tested .before .is-unusable .ensures,
+      tested .if2 .left,
+    )
+    (c .solve-usable .ensures)
+
+pub solve-best-ordering-spec : {M : Type 1} → statement M
+solve-best-ordering-spec =
+    tie.close (tie.spec (λ c _. search needs) (λ c _. search needs) returns (λ c _. search needs)
+    (λ c _. search needs) (λ c _. search needs) (λ c _. search needs) returns-2
+    (λ c _. search needs) returns-3)
