@@ -7,5 +7,6 @@ pub mod Outcome
 pub mod Make
 pub mod Replace
 pub mod Exchange
+pub mod Promise
 pub mod Ordering
 pub mod SolvePlate
