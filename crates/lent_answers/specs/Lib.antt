@@ -2,3 +2,4 @@
 pub mod Types
 pub mod Solved
 pub mod Chosen
+pub mod Plated

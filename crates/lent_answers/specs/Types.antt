@@ -3,3 +3,5 @@ pub use Rattle.frames.specs.declared.pose.Pose.{Pose}
 pub use Rattle.lambdatwist.specs.declared.solve.Answer.{Answer}
 pub use Rattle.choice.specs.declared.choose.Choice.{Choice}
 pub use Rattle.choice.specs.declared.choose.Choice.the-variants.{Best, Refused}
+pub use Rattle.plates.specs.declared.plate.Plate.{Plate}
+pub use Rattle.plates.specs.declared.outcome.Outcome.{Outcome}

@@ -1,3 +1,4 @@
 -- What the proofs of several functions use.
 mod RootsLent
 mod AsRead
+mod PlateAsRead

@@ -5,4 +5,5 @@ pub mod RootsLent
 pub mod SolveLent
 pub mod ChooseLent
 pub mod AboutLent
+pub mod PlateLent
 pub mod RecordLent

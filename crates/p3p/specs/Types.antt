@@ -10,5 +10,7 @@ pub use Rattle.polynomial.specs.declared.Roots.the-variants.{Refused}
 pub use Rattle.lambdatwist.specs.declared.solve.Answer.{Answer}
 pub use Rattle.choice.specs.declared.choose.Choice.{Choice}
 pub use Rattle.about.specs.declared.solve_about.AnswerAbout.{AnswerAbout}
+pub use Rattle.plates.specs.declared.plate.Plate.{Plate}
+pub use Rattle.plates.specs.declared.outcome.Outcome.{Outcome}
 pub use Rattle.records.specs.declared.record.Record.{Record}
 pub use Rattle.records.specs.declared.record.Record.the-variants.{End, Stop, Skip, Accepted}

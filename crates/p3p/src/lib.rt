@@ -2,6 +2,7 @@
 // name with the prefix p3p_. include/p3p.h declares them.
 pub mod about_first;
 pub mod choose;
+pub mod plate;
 pub mod record;
 pub mod roots;
 pub mod single;

@@ -5,7 +5,9 @@ use mathlib.Core.Bool.{not, _||_}
 use Prim.Native.Nat.{ℕ}
 use native.Mathlib.Nat.{zero-lt-suc}
 use lib.Dec.{ltb}
+use lib.IntN.{ℤ}
 use Rattle.ieee754.proofs.Tests.{either-way}
+use Rattle.scaleb.specs.Scalable.{inReach}
 use Rattle.linalg.specs.Vectors.{allFinite}
 use Rattle.frames.specs.Points.{worldFinite}
 use Rattle.p3p_common.specs.WorldBasisInverse.{worldBasisInverse}
@@ -15,6 +17,7 @@ use Rattle.plates.specs.Outcome.{done}
 use Rattle.plates.specs.Make.{make}
 use Rattle.plates.specs.Replace.{replace}
 use Rattle.plates.specs.Exchange.{exchange}
+use Rattle.plates.specs.TimesPower.{worldScalable, timesPower}
 use Rattle.plates.specs.Promise.{Keeps, worked-out, given-back}
 use Rattle.plates.specs.Types.{Vector3, World, SquaredEdges, Basis, Inverse, Singular, Plate}
 
@@ -62,3 +65,12 @@ exchange-keeps plate first second =
     either-way (Keeps plate) (ltb 2 first || ltb 2 second)
     (λ _. given-back 11 (zero-lt-suc 10))
     (λ _. done-keeps plate _)
+
+pub times-power-keeps : (plate : Plate) (k : ℤ) → Keeps plate (timesPower plate k)
+unfolding timesPower
+times-power-keeps plate k =
+    either-way (Keeps plate) (not (inReach k))
+    (λ _. given-back 12 (zero-lt-suc 11))
+    (λ _. either-way (Keeps plate) (not (worldScalable k (plate .world)))
+    (λ _. given-back 13 (zero-lt-suc 12))
+    (λ _. done-keeps plate _))

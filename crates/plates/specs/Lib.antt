@@ -7,6 +7,7 @@ pub mod Outcome
 pub mod Make
 pub mod Replace
 pub mod Exchange
+pub mod TimesPower
 pub mod Promise
 pub mod Ordering
 pub mod SolvePlate

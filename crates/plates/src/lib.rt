@@ -8,3 +8,4 @@ pub mod plate;
 pub mod replace;
 pub mod solve_plate;
 pub mod target;
+pub mod times_power;

@@ -1,18 +1,14 @@
 -- `lent_answers::solved::flags` meets its contract: four marks are all there are. Assumes nothing.
 use borrow.Author.Needs.{needs}
-use mathlib.Core.Path.{_≡_, refl, ap}
-use mathlib.Core.Bool.{Bool, true, false}
+use mathlib.Core.Path.{ap}
+use mathlib.Core.Bool.{false}
 use mathlib.Core.List.{map}
 use lib.ListN.{getD}
-use mir.Val.{boolByte}
 use Rattle.frames.proofs.Entries.{list-of-four}
 use Rattle.lent_answers.specs.Solved.{flag}
+use Rattle.lent_answers.proofs.WriteLaws.{as-flag}
 use Rattle.lent_answers.proofs.solved.flags.Statement.{statement}
 use Rattle.lent_answers.proofs.solved.flags.Tie as tie
-
-as-flag : (b : Bool) → boolByte b ≡ flag b
-as-flag true = refl
-as-flag false = refl
 
 returns : tie.Need-returns
 returns c =

@@ -1,0 +1,15 @@
+-- `p3p::plate::p3p_plate_exchange` meets its contract. Assumes nothing.
+use borrow.Author.Needs.{needs}
+use Rattle.p3p.proofs.PlateAsRead.{as-exchanged}
+use Rattle.p3p.proofs.plate.p3p_plate_exchange.Statement.{statement}
+use Rattle.p3p.proofs.plate.p3p_plate_exchange.Tie as tie
+
+returns : tie.Need-returns
+returns c =
+    let outcome = c .before .before .before in
+    let found = as-exchanged _ _ (outcome .before .plate-in .ensures) _ _ (outcome .exchange .ensures) in
+    rw (← found) (c .write-plate .ensures)
+
+pub p3p-plate-exchange-spec : {M : Type 1} → statement M
+p3p-plate-exchange-spec =
+    tie.close (tie.spec (λ c _. search needs) (λ c _. search needs) (λ c _. search needs) returns)

@@ -1,0 +1,20 @@
+-- `p3p::plate::p3p_plate_scale` meets its contract. Assumes nothing.
+use borrow.Author.Needs.{needs}
+use mir.Syntax.{w32}
+use mir.ValLaws.{toZ-ofZ}
+use Rattle.p3p.proofs.PlateAsRead.{as-scaled}
+use Rattle.p3p.proofs.plate.p3p_plate_scale.Statement.{statement}
+use Rattle.p3p.proofs.plate.p3p_plate_scale.Tie as tie
+
+returns : tie.Need-returns
+returns c =
+    let outcome = c .before .before .before in
+    let plate = outcome .before in
+    let start = plate .before .before .before in
+    let k = start .args .k in
+    let found = as-scaled _ _ (plate .plate-in .ensures) k (rw (toZ-ofZ w32 k (start .fits .k)) at (outcome .times-power .ensures)) in
+    rw (← found) (c .write-plate .ensures)
+
+pub p3p-plate-scale-spec : {M : Type 1} → statement M
+p3p-plate-scale-spec =
+    tie.close (tie.spec (λ c _. search needs) (λ c _. search needs) (λ c _. search needs) returns)
