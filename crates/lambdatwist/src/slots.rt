@@ -74,7 +74,7 @@ pub(crate) fn store(
 }
 
 // The solutions that `count` filled slots hold.
-pub(crate) fn held(
+pub fn held(
     count: usize,
     slots: [[f64; 12]; 4],
     updates: [u32; 4],

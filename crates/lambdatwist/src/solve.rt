@@ -65,7 +65,7 @@ pub fn refused(number: u32) -> Answer
     answered(number, Solutions::empty())
 }
 
-fn if_kept(solutions: Solutions) -> Answer
+pub fn if_kept(solutions: Solutions) -> Answer
     requires { ⌜ solutions .count ≤ 4 ⌝ }
     ensures { λ r. ⌜ r ≡ Solve.ifKept solutions ⌝ }
 {
@@ -134,7 +134,7 @@ fn solve_root(
     solve_candidates(input, measured, found, slots, updates, lifted)
 }
 
-fn solve_cubic(
+pub fn solve_cubic(
     input: P3pInput,
     measured: Measured,
     c: Coefficients,
@@ -201,9 +201,9 @@ fn solve_best_conditioned_permutation(input: P3pInput, retries: u32) -> Answer
 // ---- the entry: the first turn of the cycle is written out, so that the common way through it is
 // compiled by itself (docs/DECISIONS.md)
 
-// An ordering that is usable. The slots are in a function of their own, so that they take no stack
-// beside a retry's; solve_ordered repeats these lines (docs/DECISIONS.md).
-pub fn solve_usable(input: P3pInput, measured: Measured, c: Coefficients) -> Answer
+// The given ordering, which is usable. The slots are in a function of their own, so that they take
+// no stack beside a retry's; solve_ordered repeats these lines (docs/DECISIONS.md).
+fn solve_given(input: P3pInput, measured: Measured, c: Coefficients) -> Answer
     ensures { λ r. ⌜ r ≡ Solve.solveCubic input measured c .value ⌝ }
 {
     let mut slots = [[0.0; 12]; 4];
@@ -226,5 +226,5 @@ pub fn solve(world: World, bearings: Bearings) -> Answer
     if is_unusable(cubic) {
         return solve_best_conditioned_permutation(input, 0);
     }
-    solve_usable(input, measured, cubic)
+    solve_given(input, measured, cubic)
 }

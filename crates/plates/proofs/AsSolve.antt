@@ -1,5 +1,6 @@
 -- A solve with a plate that is worked out from its points is the solve of demand 2 on them, every
 -- refusal included: `plate-solves`. Assumes nothing.
+use Prim.Native.Nat.{ℕ}
 use mathlib.Core.Path.{_≡_, refl, ap, sym, subst, _∙_}
 use mathlib.Core.Bool.{Bool, true, false, not}
 use lib.Ieee.{Float, le, binary64, mul}
@@ -14,14 +15,14 @@ use Rattle.orderings.specs.Measure.{measureWith, measure, measuredCubic}
 use Rattle.orderings.specs.Permutation.{bestPermutation}
 use Rattle.lambdatwist.specs.Solve.{refused, orderedOr, bestOr, solveOrdered, solve, solveCubic}
 use Rattle.plates.specs.Plate.{withBasis, plateOf, Consistent}
-use Rattle.plates.specs.Ordering.{bestOrdering}
+use Rattle.plates.specs.Ordering.{orderedRays, orderedEdges, bestOrdering}
 use Rattle.plates.specs.SolvePlate.{sourceOf, measurePlate, measureOrdering, solveMeasured}
 use Rattle.plates.specs.SolvePlate.{solveBestOrdering, solvePlate}
 use Rattle.plates.specs.Types.{World, Bearings, SquaredEdges, P3pInput, Basis, Inverse}
 use Rattle.plates.specs.Types.{Singular, Source, Made, Stored, Lacking, Measured, Answer}
 use Rattle.plates.specs.Types.{Plate, Conditioned, Ordering}
 use Rattle.plates.proofs.SourceLaws.{Same, as-it-is, cubic-same}
-use Rattle.plates.proofs.OrderingLaws.{edgesOf, SameOrdering, best-same}
+use Rattle.plates.proofs.OrderingLaws.{edgesOf, orderedWorld, SameOrdering, best-same}
 
 abbrev limit : Float
 limit = mul binary64 sixtyFour epsilon
@@ -35,47 +36,48 @@ if-same true x y = x
 if-same false x y = y
 
 -- ---- the retry: the best ordering's edges are those of its points
-measured-same : (world : World) (bearings : Bearings)
-    → measureOrdering world (edgesOf world) bearings .value ≡ measure world bearings .value
-unfolding measureOrdering measure measureWith edgeVectors squaredEdges
-measured-same world bearings = refl
-
 module _ (input : P3pInput) where
+  abbrev edges : SquaredEdges
+  edges = edgesOf (input .world)
+
   abbrev byStored : Ordering → Traced Answer
   byStored o =
       if le (o .condition) limit then pure (refused 2)
-      else (measureOrdering (o .world) (o .squares) (o .bearings)
+      else (measureOrdering input edges (o .i) (o .j) (o .k)
       >>= solveMeasured (pure (refused 2)) input)
 
   abbrev byPoints : Float → World → Bearings → Traced Answer
   byPoints condition world bearings =
       if le condition limit then pure (refused 2) else solveOrdered 0 input world bearings
 
-  usable-same : (world : World) (bearings : Bearings) {squares : SquaredEdges}
-      → edgesOf world ≡ squares
-      → Same (measureOrdering world squares bearings >>= solveMeasured (pure (refused 2)) input)
-      (solveOrdered 0 input world bearings)
+  -- where the stored edges of an ordering are those of its points, it is measured alike
+  measured-same : (i j k : ℕ)
+      → edgesOf (orderedWorld input i j k) ≡ orderedEdges edges i j k
+      → measureOrdering input edges i j k .value
+      ≡ measure (orderedWorld input i j k) (orderedRays (input .bearings) i j k) .value
+  unfolding measureOrdering measure edgeVectors
+  measured-same i j k e = rw e
+
+  usable-same : (i j k : ℕ)
+      → edgesOf (orderedWorld input i j k) ≡ orderedEdges edges i j k
+      → Same (measureOrdering input edges i j k >>= solveMeasured (pure (refused 2)) input)
+      (solveOrdered 0 input (orderedWorld input i j k) (orderedRays (input .bearings) i j k))
   unfolding solveOrdered orderedOr solveMeasured
-  usable-same world bearings e =
-      subst (λ (squares : SquaredEdges).
-      Same (measureOrdering world squares bearings >>= solveMeasured (pure (refused 2)) input)
-      (solveOrdered 0 input world bearings)) e
-      (record {
-        value = ap (λ (m : Measured). solveMeasured (pure (refused 2)) input m .value)
-            (measured-same world bearings);
-      })
+  usable-same i j k e = record {
+    value = ap (λ (m : Measured). solveMeasured (pure (refused 2)) input m .value)
+        (measured-same i j k e);
+  }
 
   ordering-same : {c : Conditioned} {o : Ordering}
-      → SameOrdering c o
+      → SameOrdering input c o
       → Same (byStored o) (byPoints (c .condition) (c .world) (c .bearings))
   ordering-same {c} {o} same = record {
     value = if-same (le (o .condition) limit) as-it-is
-        (usable-same (o .world) (o .bearings) (same .squares)) .value
+        (usable-same (o .i) (o .j) (o .k) (same .squares)) .value
         ∙ sym (λ i. byPoints (same .condition i) (same .world i) (same .bearings i) .value);
   }
 
-  retry-same : Same (solveBestOrdering input (edgesOf (input .world)))
-      (bestOr (solveOrdered 0) input)
+  retry-same : Same (solveBestOrdering input edges) (bestOr (solveOrdered 0) input)
   unfolding solveBestOrdering bestOr
   retry-same = record { value = ordering-same (best-same input) .value }
 

@@ -2,6 +2,7 @@
 -- stored edges serve every ordering, and the stored inverse, or its lack, only the given one (others
 -- make theirs from the points)". It is `solve` of lambdatwist's specs/Solve otherwise, with its one
 -- retry written out.
+use Prim.Native.Nat.{ℕ}
 use mathlib.Core.Bool.{Bool, not}
 use lib.Ieee.{le}
 use Rattle.ieee754.specs.Literal.{sixtyFour, epsilon}
@@ -11,8 +12,9 @@ use Rattle.p3p_common.specs.Input.{inputFinite}
 use Rattle.orderings.specs.Cubic.{isUnusable}
 use Rattle.orderings.specs.Measure.{measureWith, measuredCubic}
 use Rattle.lambdatwist.specs.Solve.{refused, solveCubic}
-use Rattle.plates.specs.Ordering.{bestOrdering}
-use Rattle.plates.specs.Types.{Matrix3, World, Bearings, SquaredEdges, P3pInput, Source, Made}
+use Rattle.plates.specs.Target.{target}
+use Rattle.plates.specs.Ordering.{orderedRays, orderedEdges, bestOrdering}
+use Rattle.plates.specs.Types.{Matrix3, Bearings, SquaredEdges, P3pInput, Source, Made}
 use Rattle.plates.specs.Types.{Stored, Lacking, Measured, Answer, Plate}
 
 -- ---- what is measured, by the stored edges
@@ -24,11 +26,16 @@ measurePlate plate bearings =
     measureWith (plate .world .p0) (sourceOf (plate .invertible) (plate .inverse)) (plate .edges)
     bearings
 
-unfoldable pub measureOrdering : World → SquaredEdges → Bearings → Traced Measured
-measureOrdering world squares bearings = do
-  d01 ← vecSub (world .p0) (world .p1)
-  d02 ← vecSub (world .p0) (world .p2)
-  measureWith (world .p0) (Made d01 d02) squares bearings
+-- targets i, j and k first, second and third: the inverse is made from the points
+unfoldable pub measureOrdering : P3pInput → SquaredEdges → ℕ → ℕ → ℕ → Traced Measured
+measureOrdering input edges i j k =
+    let p0 = target (input .world) i in
+    let p1 = target (input .world) j in
+    let p2 = target (input .world) k in
+    do
+      d01 ← vecSub p0 p1
+      d02 ← vecSub p0 p2
+      measureWith p0 (Made d01 d02) (orderedEdges edges i j k) (orderedRays (input .bearings) i j k)
 
 -- ---- the solve of an ordering, with what is done where it is unusable
 unfoldable pub solveMeasured : Traced Answer → P3pInput → Measured → Traced Answer
@@ -40,11 +47,11 @@ solveMeasured retry input measured = do
 -- the retry, which has none left
 unfoldable pub solveBestOrdering : P3pInput → SquaredEdges → Traced Answer
 solveBestOrdering input edges = do
-  best ← bestOrdering input edges
+  best ← bestOrdering edges (input .bearings)
   limit ← ! sixtyFour ⊗ ! epsilon
   if le (best .condition) limit then pure (refused 2)
       else (do
-        measured ← measureOrdering (best .world) (best .squares) (best .bearings)
+        measured ← measureOrdering input edges (best .i) (best .j) (best .k)
         solveMeasured (pure (refused 2)) input measured)
 
 unfoldable pub solvePlate : Plate → Bearings → Traced Answer

@@ -1,18 +1,24 @@
 // The solve with a plate: the solve of lambdatwist.rs by the stored squared edges, and in the given
 // ordering by the stored inverse basis.
 ghost use mathlib.Core.Path.{_≡_};
+ghost use Rattle.lambdatwist.specs.Solve.{solveCubic};
 ghost use Rattle.plates.specs.SolvePlate as SolvePlate;
 use crate::ordering::best_ordering;
+use crate::ordering::ordered_edges;
+use crate::ordering::ordered_rays;
 use crate::plate::Plate;
+use crate::target::target;
 use frames::bearings::Bearings;
 use frames::squared_edges::SquaredEdges;
-use frames::world::World;
 use ieee754::literal::EPSILON;
+use lambdatwist::slots::held;
 use lambdatwist::solve::Answer;
+use lambdatwist::solve::if_kept;
 use lambdatwist::solve::refused;
-use lambdatwist::solve::solve_usable;
+use lambdatwist::solve::solve_cubic;
 use linalg::matrix3::Matrix3;
 use orderings::basis::Source;
+use orderings::cubic::Coefficients;
 use orderings::cubic::is_unusable;
 use orderings::measured::Measured;
 use orderings::measured::measure_with;
@@ -41,29 +47,42 @@ fn measure_plate(plate: Plate, bearings: Bearings) -> Measured
 }
 
 // What is measured in another: its inverse basis is made from the points.
-fn measure_ordering(world: World, squares: SquaredEdges, bearings: Bearings) -> Measured
-    ensures { λ r. ⌜ r ≡ SolvePlate.measureOrdering world squares bearings .value ⌝ }
+fn measure_ordering(input: P3pInput, edges: SquaredEdges, i: u32, j: u32, k: u32) -> Measured
+    ensures { λ r. ⌜ r ≡ SolvePlate.measureOrdering input edges i j k .value ⌝ }
 {
-    let p0 = world.p0;
-    let p1 = world.p1;
-    let p2 = world.p2;
+    let world = input.world;
+    let bearings = input.bearings;
+    let p0 = target(world, i);
+    let p1 = target(world, j);
+    let p2 = target(world, k);
     let d01 = p0.sub(p1);
     let d02 = p0.sub(p2);
-    measure_with(p0, Source::Made(d01, d02), squares, bearings)
+    let squares = ordered_edges(edges, i, j, k);
+    let rays = ordered_rays(bearings, i, j, k);
+    measure_with(p0, Source::Made(d01, d02), squares, rays)
+}
+
+// An ordering that is usable, as solve_given of crate lambdatwist has it (docs/DECISIONS.md).
+fn solve_usable(input: P3pInput, measured: Measured, c: Coefficients) -> Answer
+    ensures { λ r. ⌜ r ≡ solveCubic input measured c .value ⌝ }
+{
+    let mut slots = [[0.0; 12]; 4];
+    let mut updates = [0u32; 4];
+    let mut lifted = [false; 4];
+    let count = solve_cubic(input, measured, c, &mut slots, &mut updates, &mut lifted);
+    if_kept(held(count, slots, updates, lifted))
 }
 
 // solve_best_conditioned_permutation, and the solve of that ordering without a retry.
 fn solve_best_ordering(input: P3pInput, edges: SquaredEdges) -> Answer
     ensures { λ r. ⌜ r ≡ SolvePlate.solveBestOrdering input edges .value ⌝ }
 {
-    let best = best_ordering(input, edges);
+    let bearings = input.bearings;
+    let best = best_ordering(edges, bearings);
     if best.condition <= 64.0 * EPSILON {
         return refused(2);
     }
-    let world = best.world;
-    let squares = best.squares;
-    let bearings = best.bearings;
-    let measured = measure_ordering(world, squares, bearings);
+    let measured = measure_ordering(input, edges, best.i, best.j, best.k);
     let cubic = measured_cubic(measured);
     if is_unusable(cubic) {
         return refused(2);

@@ -44,7 +44,7 @@ returns-3 c =
       ← finite .before .input-finite .ensures,
       finite .if1 .left,
     )
-    (c .solve-usable .ensures
+    (c .solve-given .ensures
     ∙ usable _ (args .world) (args .bearings) (measured .measure .ensures)
     (tested .before .before .measured-cubic .ensures)
     1 (sym (tested .before .is-unusable .ensures) ∙ tested .if2 .left))

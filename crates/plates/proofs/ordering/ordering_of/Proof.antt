@@ -6,10 +6,14 @@ use Rattle.plates.proofs.ordering.ordering_of.Tie as tie
 
 returns : tie.Need-returns
 unfolding ordering
-returns c = cc
+returns c =
+    let rays = c .before in
+    rw (
+      ← rays .before .ordered-edges .ensures,
+      ← rays .ordered-rays .ensures,
+      ← c .condition-of-edges .ensures,
+    )
 
 pub ordering-of-spec : {M : Type 1} → statement M
 ordering-of-spec =
-    tie.close (tie.spec (λ c _. search needs) (λ c _. search needs) (λ c _. search needs)
-    (λ c _. search needs) (λ c _. search needs) (λ c _. search needs) (λ c _. search needs)
-    (λ c _. search needs) (λ c _. search needs) (λ c _. search needs) returns)
+    tie.close (tie.spec (λ c _. search needs) (λ c _. search needs) (λ c _. search needs) returns)

@@ -7,12 +7,22 @@ use Rattle.plates.proofs.solve_plate.measure_ordering.Tie as tie
 returns : tie.Need-returns
 unfolding measureOrdering
 returns c =
+    let squares = c .before .before in
+    let first = squares .before .before in
+    let third = first .before in
     rw (
-      ← c .before .before .sub .ensures,
-      ← c .before .sub2 .ensures,
+      ← third .before .before .target .ensures,
+      ← third .before .target2 .ensures,
+      ← third .target3 .ensures,
+      ← first .sub .ensures,
+      ← squares .before .sub2 .ensures,
+      ← squares .ordered-edges .ensures,
+      ← c .before .ordered-rays .ensures,
     )
     (c .measure-with .ensures)
 
 pub measure-ordering-spec : {M : Type 1} → statement M
 measure-ordering-spec =
-    tie.close (tie.spec (λ c _. search needs) (λ c _. search needs) (λ c _. search needs) returns)
+    tie.close (tie.spec (λ c _. search needs) (λ c _. search needs) (λ c _. search needs)
+    (λ c _. search needs) (λ c _. search needs) (λ c _. search needs) (λ c _. search needs)
+    (λ c _. search needs) returns)

@@ -19,8 +19,7 @@ unfolding solveBestOrdering solveMeasured
 returns-2 c =
     let tested = c .before in
     let measured = tested .before .before .before in
-    let fields = measured .before .before in
-    let limited = fields .before .before in
+    let limited = measured .before in
     rw (
       ← limited .before .before .best-ordering .ensures,
       limited .if1 .left,
@@ -36,8 +35,7 @@ unfolding solveBestOrdering solveMeasured
 returns-3 c =
     let tested = c .before in
     let measured = tested .before .before .before in
-    let fields = measured .before .before in
-    let limited = fields .before .before in
+    let limited = measured .before in
     rw (
       ← limited .before .before .best-ordering .ensures,
       limited .if1 .left,
