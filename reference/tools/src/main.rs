@@ -16,6 +16,7 @@ mod orders;
 #[cfg(port)]
 mod peers;
 mod pieces;
+mod plates;
 #[cfg(port)]
 mod port;
 mod random;
