@@ -20,6 +20,7 @@ mod plates;
 #[cfg(port)]
 mod port;
 mod random;
+mod runs;
 mod stored;
 mod table;
 mod vectors;
@@ -38,6 +39,8 @@ reference pieces COUNT FUNCTION..  the same on COUNT random inputs of each funct
 reference choices COUNT [SEED]   how many choices document 02, §2, changes, of COUNT random frames
                                  of each kind
 reference lifts COUNT [SEED]     how many poses are lifted, of COUNT random frames of each kind
+reference plates COUNT [SEED]    COUNT operations on plates and solves with them, in runs, by the
+                                 port and the second copy
 reference bench [COUNT]          how long a solve takes, the port beside the unchanged copy and,
                                  where P3P_PEERS was set, other solvers (COUNT frames of a sort)
 reference frames COUNT FILE      COUNT random frames of each kind but the last, eighteen words a
@@ -73,6 +76,10 @@ fn main() {
         ["lifts", count] => number(count).and_then(|count| lifts::run(count, vectors::SEED)),
         ["lifts", count, seed] => {
             number(count).and_then(|count| number(seed).and_then(|seed| lifts::run(count, seed)))
+        }
+        ["plates", count] => number(count).and_then(|count| runs::run(count, vectors::SEED)),
+        ["plates", count, seed] => {
+            number(count).and_then(|count| number(seed).and_then(|seed| runs::run(count, seed)))
         }
         #[cfg(port)]
         ["bench"] => bench::run(4096, vectors::SEED),
