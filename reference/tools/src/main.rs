@@ -20,6 +20,7 @@ mod plates;
 #[cfg(port)]
 mod port;
 mod random;
+mod reached;
 mod runs;
 mod stored;
 mod table;

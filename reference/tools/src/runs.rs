@@ -4,9 +4,9 @@
 
 use crate::frames::part;
 use crate::pieces::plates::{
-    any_plated, exponent, new_point, plate_of, plate_words, tampered, target,
+    any_plated, at_limit, exponent, new_point, plate_of, plate_words, tampered, target,
 };
-use crate::plates::{self, Plate};
+use crate::plates::Plate;
 #[cfg(port)]
 use crate::port;
 use crate::random::{Random, Vector};
@@ -106,16 +106,15 @@ impl Run {
         Ok(())
     }
 
-    /// Times 2^k, k near that which brings a coordinate to a limit or any.
+    /// Times 2^k; every fourth time a coordinate was brought near a limit of number 13 for it.
     fn scale(&mut self, r: &mut Random, counts: &mut Counts) -> Result<(), String> {
-        let x = self.plate.points[r.index()][r.index()];
-        let to_limit = match r.below(4) {
-            0 if x != 0.0 && x.is_finite() => {
-                r.pick(&[-1023, -1022, 1023, 1024]) - plates::leading(x)
-            }
-            _ => 65,
-        };
-        let k = if to_limit.abs() <= 64 { to_limit } else { exponent(r) };
+        let k = exponent(r);
+        if r.chance(4) {
+            let target = r.index();
+            let mut point = self.plate.points[target];
+            point[r.index()] = at_limit(k.clamp(-64, 64), r);
+            self.operate("plate_replace", &[vec![target as u64], bits(&point)].concat(), counts)?;
+        }
         if self.operate("plate_scale", &[k as u64], counts)? {
             let power = crate::random::power(k);
             self.fourth.0 = self.fourth.0.map(|x| x * power);

@@ -4,7 +4,7 @@
 use super::{Input, any_frame, words};
 use crate::frames::{self, Frame, part};
 use crate::plates::Plate;
-use crate::random::{Random, Vector, nudge, power};
+use crate::random::{Random, Vector, nudge, plus, power, times};
 
 fn of(points: [Vector; 3]) -> Plate {
     Plate::of(points, copy_second::basis)
@@ -138,7 +138,7 @@ pub fn exponent(r: &mut Random) -> i64 {
 }
 
 /// A coordinate that times 2^k comes to a limit of number 13, or a little to one side of it.
-fn at_limit(k: i64, r: &mut Random) -> f64 {
+pub fn at_limit(k: i64, r: &mut Random) -> f64 {
     let near = |limit: f64, r: &mut Random| {
         let places = r.pick(&[-2, -1, -1, 0, 0, 0, 1]);
         f64::from_bits((limit.to_bits() as i64 + places).max(0) as u64)
@@ -167,9 +167,16 @@ pub(super) fn scale(r: &mut Random) -> Input {
     [plate_words(&plate), vec![k as u64]].concat()
 }
 
+/// Of the plates made otherwise some are whole plates moved aside, with the numbers from before.
 pub(super) fn solve(r: &mut Random) -> Input {
     let f = any_plated(r);
-    let plate = perhaps_tampered(plate_of(&f), r);
+    let mut plate = plate_of(&f);
+    if r.chance(6) {
+        let aside = times(r.cube(), power(r.between(-30, 4)));
+        plate.points = plate.points.map(|point| plus(point, aside));
+    } else {
+        plate = perhaps_tampered(plate, r);
+    }
     [plate_words(&plate), words(&f[9..18])].concat()
 }
 
