@@ -4,10 +4,11 @@
 # of a fast cube root now and then must, one that scores a target behind the camera, one that takes
 # a discriminant of zero for a lifted one, and one that marks a pose because it stands twice. Of the
 # solve about the first target must: differences from the second, the second carried as the origin,
-# a translation moved back to the world, and a checking target that is not moved. Of plates: the
-# stored inverse used in another ordering, or made where it is lacking; stored edges not permuted, or
-# those of the points in other orderings; a limit of number 13 by the rounded product; questions in
-# another order; only that worked out anew which an operation changes; a refusal that writes.
+# a translation moved back to the world, and a checking target that is not moved. Of plates must:
+# the stored inverse used in another ordering, or made where it is lacking; stored edges not
+# permuted, or those of the points in other orderings; a limit of number 13 by the rounded product;
+# questions in another order; only that worked out anew which an operation changes; a refusal that
+# writes.
 set -euo pipefail
 here=$(cd "$(dirname "$0")" && pwd)
 sources=$(realpath "${1:?usage: stub.sh SOURCES}")

@@ -80,7 +80,8 @@ extern "C" fn p3p_plate_scale(plate: &mut [f64; 21], has_inverse: &mut u32, k: i
         let power = f64::from_bits(((1023 + k) as u64) << 52);
         let points = old.points.map(|point| point.map(|x| x * power));
         let within = |&x: &f64| x == 0.0 || x.is_finite() && x.abs() >= f64::MIN_POSITIVE;
-        let lost = coordinates.iter().zip(points.as_flattened()).any(|(x, y)| *x != 0.0 && *y == 0.0);
+        let lost =
+            coordinates.iter().zip(points.as_flattened()).any(|(x, y)| *x != 0.0 && *y == 0.0);
         if points.as_flattened().iter().all(within) && !lost {
             (number, new) = (0, Plate::of(points, basis));
         }

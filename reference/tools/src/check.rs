@@ -93,12 +93,11 @@ fn parse_input(name: &str, words: &str) -> Vec<u64> {
         "plate_exchange" => &[21, 22, 23],
         _ => &[],
     };
+    let whole = |word: &str| word.parse::<i64>().unwrap() as u64;
     let input: Vec<u64> = words
         .split(' ')
         .enumerate()
-        .map(|(index, word)| {
-            if decimal.contains(&index) { word.parse::<i64>().unwrap() as u64 } else { hex(word) }
-        })
+        .map(|(index, word)| if decimal.contains(&index) { whole(word) } else { hex(word) })
         .collect();
     let with_target = name == "about" && input.len() == 24;
     assert!(with_target || input.len() == table::find(name).takes, "{name}");

@@ -170,9 +170,8 @@ pub fn print(folder: &Path) -> Result<(), String> {
                 counts.of(label, outcome).to_string()
             }
         };
-        let [frames_yes, frames_no] = [true, false].map(|outcome| {
-            if is_own(label) { String::new() } else { shown(&frames, outcome) }
-        });
+        let [frames_yes, frames_no] = [true, false]
+            .map(|outcome| if is_own(label) { String::new() } else { shown(&frames, outcome) });
         let [all_yes, all_no] = [true, false].map(|outcome| shown(&all, outcome));
         println!(
             "| {label} | {frames_yes} | {frames_no} | {all_yes} | {all_no} | {} |",

@@ -32,8 +32,8 @@ const USAGE: &str = "\
 reference check FILE..           the copies, and the port where it is linked, over vectors written
                                  as text, every answer required
 reference vectors FOLDER         write the stored vectors
-reference coverage FOLDER        which branches of the Rust and of the choice the stored vectors
-                                 reach
+reference coverage FOLDER        which branches of the Rust, of the choice and of plates the stored
+                                 vectors reach
 reference orders                 nalgebra's orders of operations, with a witness for each
 reference beside [COUNT [SEED]]  the port and both copies on the same random inputs
 reference pieces COUNT FUNCTION..  the same on COUNT random inputs of each function named

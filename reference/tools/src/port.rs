@@ -54,12 +54,7 @@ unsafe extern "C" {
         target: u32,
         point: *const f64,
     ) -> u32;
-    fn p3p_plate_exchange(
-        plate: *mut f64,
-        has_inverse: *mut u32,
-        first: u32,
-        second: u32,
-    ) -> u32;
+    fn p3p_plate_exchange(plate: *mut f64, has_inverse: *mut u32, first: u32, second: u32) -> u32;
     fn p3p_plate_scale(plate: *mut f64, has_inverse: *mut u32, k: i32) -> u32;
     fn p3p_plate_solve(
         plate: *const f64,
@@ -290,7 +285,7 @@ struct Lent {
 }
 
 impl Lent {
-    /// Any number but 0 says that there is an inverse; which one is passed, a bit of the plate says.
+    /// Any number but 0 says that there is an inverse; the plate's first word picks one.
     fn read(words: &[u64]) -> Lent {
         let yes = [1, 2, 1 << 31, u32::MAX][words[0] as usize % 4];
         Lent {
@@ -319,12 +314,8 @@ fn operate(name: &str, input: &[u64]) -> Vec<u64> {
     let number = unsafe {
         match name {
             "plate_make" => p3p_plate_make([0, 3, 6].map(point).as_ptr().cast(), plate, flag),
-            "plate_replace" => {
-                p3p_plate_replace(plate, flag, whole(input[22]), point(23).as_ptr())
-            }
-            "plate_exchange" => {
-                p3p_plate_exchange(plate, flag, whole(input[22]), whole(input[23]))
-            }
+            "plate_replace" => p3p_plate_replace(plate, flag, whole(input[22]), point(23).as_ptr()),
+            "plate_exchange" => p3p_plate_exchange(plate, flag, whole(input[22]), whole(input[23])),
             _ => p3p_plate_scale(plate, flag, signed(input[22])),
         }
     };

@@ -4,7 +4,7 @@
 
 use crate::frames::part;
 use crate::pieces::plates::{
-    any_plated, at_limit, exponent, new_point, plate_of, plate_words, tampered, target,
+    any_plated, at_limit, exponent, new_point, plate_words, tampered, target,
 };
 use crate::plates::Plate;
 #[cfg(port)]
@@ -154,22 +154,16 @@ pub fn run(count: u64, seed: u64) -> Result<(), String> {
     let mut run = Run::make(&mut r, &mut counts)?;
     for _ in 1..count {
         match r.below(16) {
-            0 => run = Run::make(&mut r, &mut counts)?,
-            1..4 => run.replace(&mut r, &mut counts)?,
-            4..6 => run.exchange(&mut r, &mut counts)?,
-            6..9 => run.scale(&mut r, &mut counts)?,
+            0..2 => run = Run::make(&mut r, &mut counts)?,
+            2..5 => run.replace(&mut r, &mut counts)?,
+            5..7 => run.exchange(&mut r, &mut counts)?,
+            7..9 => run.scale(&mut r, &mut counts)?,
             _ => run.solve(&mut r, &mut counts)?,
         }
         if r.chance(8) {
             run.plate = tampered(&run.plate, &mut r);
             run.own = false;
             counts.altered += 1;
-        }
-        // Far from where it began no pose is left: a new frame.
-        if r.chance(32) {
-            let f = any_plated(&mut r);
-            run.bearings = [3, 4, 5].map(|index| part(&f, index));
-            (run.plate, run.own) = (plate_of(&f), true);
         }
     }
     print(&counts);

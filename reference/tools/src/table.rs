@@ -46,10 +46,10 @@ pub const FUNCTIONS: &[Function] = &[
     // count, 4 x 12, origin, target, bearing -> number, best, score
     function("choice_about", 58, 3),
     // A plate: points (9), squared edges (3), inverse (9), 0 or 1 (has an inverse).
-    function("plate_make", 9, 23),     // points -> number, plate
-    function("plate_replace", 26, 23), // plate, target, point -> number, plate
+    function("plate_make", 9, 23),      // points -> number, plate
+    function("plate_replace", 26, 23),  // plate, target, point -> number, plate
     function("plate_exchange", 24, 23), // plate, target, target -> number, plate
-    function("plate_scale", 23, 23),   // plate, k in two's complement -> number, plate
+    function("plate_scale", 23, 23),    // plate, k in two's complement -> number, plate
     // plate, bearings -> number, count, 4 x (updates, lifted, 12)
     function("plate_solve", 31, 58),
 ];
@@ -132,9 +132,7 @@ macro_rules! answers {
             fn operate(name: &str, input: &[u64]) -> (u32, Plate) {
                 let basis = $copy::basis;
                 match name {
-                    "plate_make" => {
-                        plates::make([0, 3, 6].map(|at| doubles(&input[at..])), basis)
-                    }
+                    "plate_make" => plates::make([0, 3, 6].map(|at| doubles(&input[at..])), basis),
                     "plate_replace" => {
                         plates::replace(&plate(input), input[22], doubles(&input[23..]), basis)
                     }

@@ -21,7 +21,7 @@ pub fn any_plated(r: &mut Random) -> Frame {
     if r.chance(3) { frames::retried(r) } else { any_frame(r) }
 }
 
-pub fn plate_of(f: &Frame) -> Plate {
+fn plate_of(f: &Frame) -> Plate {
     of([0, 1, 2].map(|index| part(f, index)))
 }
 
@@ -284,9 +284,8 @@ pub(super) fn hand_replace() -> Vec<Input> {
 /// Every two targets and numbers that are none, on plates of all sorts, and on one that holds a
 /// number that is not finite.
 pub(super) fn hand_exchange() -> Vec<Input> {
-    let exchanged = |plate: &Plate, first: u64, second: u64| {
-        [plate_words(plate), vec![first, second]].concat()
-    };
+    let exchanged =
+        |plate: &Plate, first: u64, second: u64| [plate_words(plate), vec![first, second]].concat();
     let mut list = Vec::new();
     for plate in sorts(POINTS) {
         for first in 0..4 {
@@ -346,8 +345,7 @@ fn seen() -> (Plate, [f64; 9]) {
 /// One plate before one camera, made in many ways; numbers that are not finite in its points, in
 /// what it stores and in the bearings.
 pub(super) fn hand_solve() -> Vec<Input> {
-    let solved =
-        |plate: &Plate, bearings: &[f64]| [plate_words(plate), words(bearings)].concat();
+    let solved = |plate: &Plate, bearings: &[f64]| [plate_words(plate), words(bearings)].concat();
     let (plate, bearings) = seen();
     let mut others = vec![
         plate,
