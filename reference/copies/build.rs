@@ -4,8 +4,8 @@
 //! at fce50650ac, or a folder with the three files under their flattened names.
 //! copy-asis is the test copy; copy-second the second copy, made from the first;
 //! copy-counted the second copy with a counter at each branch; copy-flags the second copy
-//! for reading the processor's exception flags. Each has beside its lambdatwist.rs a further copy of
-//! it, plates.rs, which plates.edit makes for the solve with a plate.
+//! for reading the processor's exception flags. Each has beside its lambdatwist.rs a further
+//! copy of it, plates.rs, which plates.edit makes for the solve with a plate.
 //!
 //! An edit: a line `@ FILE FUNCTION [K/N | all/N]`, then lines `- old`, then lines
 //! `+ new`. Within that function (`*`: within the file) the old text must stand
