@@ -4,7 +4,11 @@
 # of a fast cube root now and then must, one that scores a target behind the camera, one that takes
 # a discriminant of zero for a lifted one, and one that marks a pose because it stands twice. Of the
 # solve about the first target must: differences from the second, the second carried as the origin,
-# a translation moved back to the world, and a checking target that is not moved.
+# a translation moved back to the world, and a checking target that is not moved. Of plates must:
+# the stored inverse used in another ordering, or made where it is lacking; stored edges not
+# permuted, or those of the points in other orderings; a limit of number 13 by the rounded product;
+# questions in another order; only that worked out anew which an operation changes; a refusal that
+# writes.
 set -euo pipefail
 here=$(cd "$(dirname "$0")" && pwd)
 sources=$(realpath "${1:?usage: stub.sh SOURCES}")
@@ -12,11 +16,13 @@ build() {
   (
     cd "$here"
     export P3P_SOURCES=$sources
-    cargo build --quiet --release --offline -p stub --target-dir "target/$1" ${2:-}
+    cargo build --quiet --release --offline -p stub --target-dir target/stub ${2:-}
+    mkdir -p "target/$1"
+    cp target/stub/release/libstub.a "target/$1/"
   )
 }
 compare() { # STAND-IN COMMAND..
-  P3P_PORT=$here/target/$1/release/libstub.a "$here/run" "$sources" "${@:2}"
+  P3P_PORT=$here/target/$1/libstub.a "$here/run" "$sources" "${@:2}"
 }
 must_find() { # STAND-IN COMMAND..
   difference=$here/target/$1/difference
@@ -35,7 +41,11 @@ compare right beside 50000 | tail -n 1
 compare right pieces 50000 fast_cbrt | tail -n 1
 compare right check "$here/inputs/cbrt.txt" | tail -n 1
 compare right pieces 50000 about choice_about | tail -n 1
-for wrong in pose score behind root kind mark about origin target world; do
+plates="plate_make plate_replace plate_exchange plate_scale plate_solve"
+compare right pieces 50000 $plates | tail -n 1
+compare right plates 200000 | tail -n 1
+for wrong in pose score behind root kind mark about origin target world \
+  inverse lack permuted edges limit order changed writes; do
   build wrong-$wrong --features=wrong-$wrong
 done
 must_find wrong-pose beside 50000
@@ -54,3 +64,16 @@ must_find wrong-world beside 50000
 must_find wrong-world pieces 50000 about
 must_find wrong-target beside 50000
 must_find wrong-target pieces 50000 choice_about
+for wrong in inverse lack permuted edges limit order changed writes; do
+  must_find wrong-$wrong plates 200000
+done
+for wrong in inverse lack permuted edges; do
+  must_find wrong-$wrong pieces 50000 plate_solve
+done
+for wrong in limit order changed writes; do
+  must_find wrong-$wrong pieces 50000 plate_scale
+done
+must_find wrong-order pieces 50000 plate_replace
+must_find wrong-changed pieces 50000 plate_replace
+must_find wrong-changed pieces 50000 plate_exchange
+must_find wrong-writes pieces 50000 plate_make

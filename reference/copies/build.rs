@@ -4,7 +4,8 @@
 //! at fce50650ac, or a folder with the three files under their flattened names.
 //! copy-asis is the test copy; copy-second the second copy, made from the first;
 //! copy-counted the second copy with a counter at each branch; copy-flags the second copy
-//! for reading the processor's exception flags.
+//! for reading the processor's exception flags. Each has beside its lambdatwist.rs a further
+//! copy of it, plates.rs, which plates.edit makes for the solve with a plate.
 //!
 //! An edit: a line `@ FILE FUNCTION [K/N | all/N]`, then lines `- old`, then lines
 //! `+ new`. Within that function (`*`: within the file) the old text must stand
@@ -38,11 +39,8 @@ fn main() {
 
     let mut texts: Vec<String> = FILES.iter().map(|(_, path)| read(&sources, path)).collect();
     let mut labels = Vec::new();
-    for script in scripts {
-        let path = edits.join(format!("{script}.edit"));
-        println!("cargo:rerun-if-changed={}", path.display());
-        let script = fs::read_to_string(&path).unwrap_or_else(|e| panic!("{path:?}: {e}"));
-        let list = parse(&script);
+    for name in scripts {
+        let list = parse(&script(&edits.join(format!("{name}.edit"))));
         for (index, (name, _)) in FILES.iter().enumerate() {
             texts[index] = apply(&texts[index], name, &list);
         }
@@ -51,11 +49,20 @@ fn main() {
     for ((name, _), text) in FILES.iter().zip(&texts) {
         fs::write(out.join(name), text).unwrap();
     }
+    let list = parse(&script(&edits.join("plates.edit")));
+    assert!(list.iter().all(|edit| edit.file == "lambdatwist.rs"), "plates.edit");
+    fs::write(out.join("plates.rs"), apply(&texts[2], "lambdatwist.rs", &list)).unwrap();
     let module =
         |name: &str| format!("#[path = {:?}]\npub mod {name};\n", out.join(format!("{name}.rs")));
     fs::write(out.join("shared.rs"), module("polynomial")).unwrap();
-    fs::write(out.join("p3p.rs"), module("common") + &module("lambdatwist")).unwrap();
+    let p3p = ["common", "lambdatwist", "plates"].map(module).concat();
+    fs::write(out.join("p3p.rs"), p3p).unwrap();
     fs::write(out.join("labels.rs"), format!("&{labels:?}")).unwrap();
+}
+
+fn script(path: &Path) -> String {
+    println!("cargo:rerun-if-changed={}", path.display());
+    fs::read_to_string(path).unwrap_or_else(|e| panic!("{path:?}: {e}"))
 }
 
 fn read(sources: &Path, path: &str) -> String {

@@ -13,6 +13,7 @@ pub mod flags;
 pub mod listed;
 pub mod reach;
 pub mod record;
+pub mod stored;
 
 pub type SolverResult<T> = Result<T, SolverError>;
 
@@ -77,6 +78,7 @@ pub mod pose {
     }
 
     pub mod p3p {
+        use crate::stored::Stored;
         use nalgebra::{Point3, UnitVector3};
 
         include!(concat!(env!("OUT_DIR"), "/p3p.rs"));
@@ -84,11 +86,20 @@ pub mod pose {
         pub(crate) fn solve(world: [Point3<f64>; 3], bearings: [UnitVector3<f64>; 3]) -> usize {
             lambdatwist::LambdaTwistP3pSolver::solve_solver_minimal(world, bearings).len()
         }
+
+        pub(crate) fn solve_stored(
+            world: [Point3<f64>; 3],
+            bearings: [UnitVector3<f64>; 3],
+            stored: impl Stored,
+        ) -> usize {
+            plates::LambdaTwistP3pSolver::solve_solver_minimal(world, bearings, stored).len()
+        }
     }
 }
 
 use pose::p3p::{common, lambdatwist};
 use shared::polynomial;
+use stored::Stored;
 
 /// A whole answer: refusal number (0 if none), count, and four slots of twelve words
 /// (rotation by columns, translation) with their update counts, and whether a pair of roots that
@@ -114,13 +125,25 @@ fn words(matrix: &Matrix3<f64>) -> [f64; 9] {
     std::array::from_fn(|index| matrix.as_slice()[index])
 }
 
+fn world(input: &[f64]) -> [Point3<f64>; 3] {
+    std::array::from_fn(|index| Point3::from(vector(&input[3 * index..])))
+}
+
+fn bearings(input: &[f64]) -> [UnitVector3<f64>; 3] {
+    std::array::from_fn(|index| UnitVector3::new_unchecked(vector(&input[3 * index..])))
+}
+
 /// The reference: solve_solver_minimal on three world points and three bearings.
 pub fn solve(input: &[f64; 18]) -> Answer {
-    let world = std::array::from_fn(|index| Point3::from(vector(&input[3 * index..])));
-    let bearings =
-        std::array::from_fn(|index| UnitVector3::new_unchecked(vector(&input[9 + 3 * index..])));
     record::start();
-    let count = pose::p3p::solve(world, bearings);
+    let count = pose::p3p::solve(world(input), bearings(&input[9..]));
+    record::answer(count)
+}
+
+/// The same with a plate's stored numbers (document 02, §4).
+pub fn solve_stored(points: &[f64; 9], directions: &[f64; 9], stored: impl Stored) -> Answer {
+    record::start();
+    let count = pose::p3p::solve_stored(world(points), bearings(directions), stored);
     record::answer(count)
 }
 

@@ -39,6 +39,18 @@ pub fn listed(index: usize) {
     }
 }
 
+/// The inverse bases' labels, which stand in copies/stored.rs.
+pub const STORED: [&str; 2] =
+    ["plate, given ordering: inverse stored", "plate, other ordering: inverse made"];
+
+/// An inverse basis or its lack is taken (noted in copy-counted alone).
+pub fn stored<T>(index: usize, inverse: Option<T>) -> Option<T> {
+    if !LABELS.is_empty() {
+        at(STORED[index], inverse.is_some());
+    }
+    inverse
+}
+
 /// What was reached since the last call.
 pub fn take() -> Vec<(&'static str, bool)> {
     REACHED.with(|list| std::mem::take(&mut *list.borrow_mut()))

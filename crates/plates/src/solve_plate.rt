@@ -62,8 +62,9 @@ fn measure_ordering(input: P3pInput, edges: SquaredEdges, i: u32, j: u32, k: u32
     measure_with(p0, Source::Made(d01, d02), squares, rays)
 }
 
-// An ordering that is usable, as solve_given of crate lambdatwist has it (docs/DECISIONS.md).
-fn solve_usable(input: P3pInput, measured: Measured, c: Coefficients) -> Answer
+// The given ordering, which is usable. As in crate lambdatwist the slots are in a function of their
+// own, and solve_best_ordering repeats these lines (docs/DECISIONS.md).
+fn solve_given(input: P3pInput, measured: Measured, c: Coefficients) -> Answer
     ensures { λ r. ⌜ r ≡ solveCubic input measured c .value ⌝ }
 {
     let mut slots = [[0.0; 12]; 4];
@@ -87,7 +88,18 @@ fn solve_best_ordering(input: P3pInput, edges: SquaredEdges) -> Answer
     if is_unusable(cubic) {
         return refused(2);
     }
-    solve_usable(input, measured, cubic)
+    let mut slots = [[0.0; 12]; 4];
+    let mut updates = [0u32; 4];
+    let mut lifted = [false; 4];
+    let count = solve_cubic(
+        input,
+        measured,
+        cubic,
+        &mut slots,
+        &mut updates,
+        &mut lifted,
+    );
+    if_kept(held(count, slots, updates, lifted))
 }
 
 // The poses of a plate and the bearings to its targets.
@@ -105,5 +117,5 @@ pub fn solve_plate(plate: Plate, bearings: Bearings) -> Answer
     if is_unusable(cubic) {
         return solve_best_ordering(input, edges);
     }
-    solve_usable(input, measured, cubic)
+    solve_given(input, measured, cubic)
 }

@@ -1,13 +1,16 @@
 //! The second copy behind the port's C interface: it stands in for the port to try the comparison
 //! itself. With a feature it is wrong in a last bit now and then, scores a target behind the
 //! camera, takes a discriminant of zero for a lifted one, marks a pose because it stands twice,
-//! solves about the second point or carries it, moves the translation back to the world, or does
-//! not move the checking target, which must be found.
+//! solves about the second point or carries it, moves the translation back to the world, does not
+//! move the checking target, or is wrong about plates (plated.rs), which must be found.
 
 #[path = "../../tools/src/about.rs"]
 mod about;
 #[path = "../../tools/src/choice.rs"]
 mod choice;
+mod plated;
+#[path = "../../tools/src/plates.rs"]
+mod plates;
 
 use copy_second::Answer;
 use copy_second::listed::Listed;

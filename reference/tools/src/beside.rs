@@ -23,6 +23,11 @@ const ASKED: &[&str] = &[
     "totalorder",
     "about",
     "choice_about",
+    "plate_make",
+    "plate_replace",
+    "plate_exchange",
+    "plate_scale",
+    "plate_solve",
 ];
 
 /// Functions that are only compared between the copies.
@@ -152,7 +157,7 @@ fn places(a: u64, b: u64) -> u64 {
 }
 
 #[cfg(port)]
-fn difference(name: &str, input: &[u64], second: &[u64], ported: &[u64]) -> String {
+pub fn difference(name: &str, input: &[u64], second: &[u64], ported: &[u64]) -> String {
     let words =
         |list: &[u64]| list.iter().map(|word| format!("{word:016x}")).collect::<Vec<_>>().join(" ");
     format!(

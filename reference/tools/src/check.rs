@@ -3,7 +3,9 @@
 //!
 //! A line: `LABEL words -> answer`, and where the unchanged Rust differs ` | asis answer`.
 //! LABEL is a function's name, or for a frame its kind. A line of `about` has eighteen words, or
-//! twenty-four and then the best by the choice about the first point, as a frame has.
+//! twenty-four and then the best by the choice about the first point, as a frame has. Of a plate
+//! (points, edges, inverse, 0 or 1) an operation answers `number N` and a plate, a solve as a frame
+//! does but without a best; target numbers and k are decimal.
 
 #[cfg(port)]
 use crate::port;
@@ -83,15 +85,19 @@ fn hex(word: &str) -> u64 {
 }
 
 fn parse_input(name: &str, words: &str) -> Vec<u64> {
-    let decimal = match name {
-        "refine" => Some(9),
-        "choice" | "choice_about" => Some(0),
-        _ => None,
+    let decimal: &[usize] = match name {
+        "refine" => &[9],
+        "choice" | "choice_about" => &[0],
+        "plate_solve" => &[21],
+        "plate_replace" | "plate_scale" => &[21, 22],
+        "plate_exchange" => &[21, 22, 23],
+        _ => &[],
     };
+    let whole = |word: &str| word.parse::<i64>().unwrap() as u64;
     let input: Vec<u64> = words
         .split(' ')
         .enumerate()
-        .map(|(index, word)| if decimal == Some(index) { word.parse().unwrap() } else { hex(word) })
+        .map(|(index, word)| if decimal.contains(&index) { whole(word) } else { hex(word) })
         .collect();
     let with_target = name == "about" && input.len() == 24;
     assert!(with_target || input.len() == table::find(name).takes, "{name}");
@@ -138,6 +144,11 @@ fn parse_answer(name: &str, answer: &str, gives: usize) -> Vec<u64> {
         ("about", _) => return parse_about(&tokens, gives),
         (_, "refused") => vec![number(1)],
         (_, "none") => vec![0],
+        ("plate_solve", _) => [vec![0, number(1)], parse_poses(&tokens[2..])].concat(),
+        ("plate_make" | "plate_replace" | "plate_exchange" | "plate_scale", _) => {
+            let doubles = tokens[2..23].iter().map(|word| hex(word));
+            [number(1)].into_iter().chain(doubles).chain([number(23)]).collect()
+        }
         ("frame", _) => [vec![0, number(1), number(3)], parse_poses(&tokens[4..])].concat(),
         ("quadratic", kind) => {
             let kind = ["two", "zero", "lifted"].iter().position(|name| *name == kind).unwrap();

@@ -1,7 +1,8 @@
-//! Which branches of the Rust and of the choice the stored vectors reach, as a table.
+//! Which branches of the Rust, of the choice and of plates the stored vectors reach, as a table.
 
 use crate::about;
 use crate::choices;
+use crate::reached;
 use crate::stored;
 use crate::table;
 use copy_counted::reach;
@@ -23,6 +24,8 @@ impl Counts {
             reached.extend(choices::reached(count, &poses, &target, &bearing));
         }
         reached.extend(reached_about(name, input));
+        let of_plates = reached::reached(name, input, &reached);
+        reached.extend(of_plates);
         for &outcome in &reached {
             *self.0.entry(outcome).or_default() += 1;
         }
@@ -62,6 +65,12 @@ fn reached_about(name: &str, input: &[u64]) -> Vec<(&'static str, bool)> {
         }
         _ => vec![],
     }
+}
+
+/// The tests that no stored frame asks.
+fn is_own(label: &str) -> bool {
+    let [tests, ordered, stored] = [&reached::TESTS[..], &reached::ORDERED, &reach::STORED];
+    [&ABOUT, tests, ordered, stored].iter().any(|labels| labels.contains(&label))
 }
 
 /// Labels of places, which have no false side.
@@ -130,9 +139,7 @@ fn note(
     Ok(match reason {
         Some((far, why)) if claimed || by_all > 0 => Some(format!("{side}: {far}: {why}")),
         _ if by_all == 0 => Some(format!("{side}: {NOT_REACHED}")),
-        _ if by_frames == 0 && !ABOUT.contains(&label) => {
-            Some(format!("{side}: by no stored frame"))
-        }
+        _ if by_frames == 0 && !is_own(label) => Some(format!("{side}: by no stored frame")),
         _ => None,
     })
 }
@@ -141,12 +148,13 @@ const NOT_REACHED: &str = "NOT REACHED";
 
 pub fn print(folder: &Path) -> Result<(), String> {
     let [(frames, frame_count), (all, total)] = count(folder)?;
-    println!("\n## Tests of the Rust and of the choice, and which way they came out\n");
+    println!("\n## Tests of the Rust, of the choice and of plates, and which way they came out\n");
     println!("{frame_count} frames, {total} vectors in all\n");
     println!("| test | frames: yes | frames: no | all vectors: yes | all vectors: no | |");
     println!("|---|---:|---:|---:|---:|---|");
     let mut missing = 0;
-    let own = choices::TESTS.iter().chain(&ABOUT);
+    let plates = reached::TESTS.iter().chain(&reached::ORDERED).chain(&reach::STORED);
+    let own = choices::TESTS.iter().chain(&ABOUT).chain(plates);
     for &label in reach::LABELS.iter().chain(own).chain(&reach::LISTED) {
         let outcomes: &[bool] = if is_place(label) { &[true] } else { &[true, false] };
         let notes: Vec<Option<String>> = outcomes
@@ -162,9 +170,8 @@ pub fn print(folder: &Path) -> Result<(), String> {
                 counts.of(label, outcome).to_string()
             }
         };
-        let [frames_yes, frames_no] = [true, false].map(|outcome| {
-            if ABOUT.contains(&label) { String::new() } else { shown(&frames, outcome) }
-        });
+        let [frames_yes, frames_no] = [true, false]
+            .map(|outcome| if is_own(label) { String::new() } else { shown(&frames, outcome) });
         let [all_yes, all_no] = [true, false].map(|outcome| shown(&all, outcome));
         println!(
             "| {label} | {frames_yes} | {frames_no} | {all_yes} | {all_no} | {} |",

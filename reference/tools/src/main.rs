@@ -16,9 +16,12 @@ mod orders;
 #[cfg(port)]
 mod peers;
 mod pieces;
+mod plates;
 #[cfg(port)]
 mod port;
 mod random;
+mod reached;
+mod runs;
 mod stored;
 mod table;
 mod vectors;
@@ -29,14 +32,16 @@ const USAGE: &str = "\
 reference check FILE..           the copies, and the port where it is linked, over vectors written
                                  as text, every answer required
 reference vectors FOLDER         write the stored vectors
-reference coverage FOLDER        which branches of the Rust and of the choice the stored vectors
-                                 reach
+reference coverage FOLDER        which branches of the Rust, of the choice and of plates the stored
+                                 vectors reach
 reference orders                 nalgebra's orders of operations, with a witness for each
 reference beside [COUNT [SEED]]  the port and both copies on the same random inputs
 reference pieces COUNT FUNCTION..  the same on COUNT random inputs of each function named
 reference choices COUNT [SEED]   how many choices document 02, §2, changes, of COUNT random frames
                                  of each kind
 reference lifts COUNT [SEED]     how many poses are lifted, of COUNT random frames of each kind
+reference plates COUNT [SEED]    COUNT operations on plates and solves with them, in runs, by the
+                                 port and the second copy
 reference bench [COUNT]          how long a solve takes, the port beside the unchanged copy and,
                                  where P3P_PEERS was set, other solvers (COUNT frames of a sort)
 reference frames COUNT FILE      COUNT random frames of each kind but the last, eighteen words a
@@ -72,6 +77,10 @@ fn main() {
         ["lifts", count] => number(count).and_then(|count| lifts::run(count, vectors::SEED)),
         ["lifts", count, seed] => {
             number(count).and_then(|count| number(seed).and_then(|seed| lifts::run(count, seed)))
+        }
+        ["plates", count] => number(count).and_then(|count| runs::run(count, vectors::SEED)),
+        ["plates", count, seed] => {
+            number(count).and_then(|count| number(seed).and_then(|seed| runs::run(count, seed)))
         }
         #[cfg(port)]
         ["bench"] => bench::run(4096, vectors::SEED),

@@ -47,6 +47,24 @@ unsafe extern "C" {
         best: *mut u32,
         score: *mut f64,
     ) -> u32;
+    fn p3p_plate_make(points: *const f64, plate: *mut f64, has_inverse: *mut u32) -> u32;
+    fn p3p_plate_replace(
+        plate: *mut f64,
+        has_inverse: *mut u32,
+        target: u32,
+        point: *const f64,
+    ) -> u32;
+    fn p3p_plate_exchange(plate: *mut f64, has_inverse: *mut u32, first: u32, second: u32) -> u32;
+    fn p3p_plate_scale(plate: *mut f64, has_inverse: *mut u32, k: i32) -> u32;
+    fn p3p_plate_solve(
+        plate: *const f64,
+        has_inverse: u32,
+        bearings: *const f64,
+        poses: *mut f64,
+        updates: *mut u32,
+        lifted: *mut u32,
+        count: *mut u32,
+    ) -> u32;
 }
 
 /// What lent memory holds before a call: a refusal must leave it.
@@ -71,6 +89,11 @@ pub const OFFERED: &[&str] = &[
     "totalorder",
     "about",
     "choice_about",
+    "plate_make",
+    "plate_replace",
+    "plate_exchange",
+    "plate_scale",
+    "plate_solve",
 ];
 
 pub fn answer(name: &str, input: &[u64]) -> Vec<u64> {
@@ -96,6 +119,8 @@ pub fn answer(name: &str, input: &[u64]) -> Vec<u64> {
                 [49, 52, 55].map(|at| std::array::from_fn(|index| d(at + index)));
             choose_about(&poses, whole(input[0]), &origin, &target, &bearing).to_vec()
         }
+        "plate_make" | "plate_replace" | "plate_exchange" | "plate_scale" => operate(name, input),
+        "plate_solve" => plate_solve(input),
         "sqrt" => vec![word(unsafe { p3p_sqrt(d(0)) })],
         "cbrt" => vec![word(unsafe { p3p_cbrt(d(0)) })],
         "fma" => vec![word(unsafe { p3p_fma(d(0), d(1), d(2)) })],
@@ -250,4 +275,75 @@ fn frame(input: &[f64; 24]) -> Vec<u64> {
     let bearing: [f64; 3] = std::array::from_fn(|index| input[21 + index]);
     let [_, best, _] = choose(&s.poses, s.count, &target, &bearing);
     [0, s.count as u64, best].into_iter().chain(s.slots()).collect()
+}
+
+/// A plate in lent memory: points, squared edges, inverse, and whether there is one.
+#[derive(Clone, Copy)]
+struct Lent {
+    plate: [f64; 21],
+    has_inverse: u32,
+}
+
+impl Lent {
+    /// Any number but 0 says that there is an inverse; the plate's first word picks one.
+    fn read(words: &[u64]) -> Lent {
+        let yes = [1, 2, 1 << 31, u32::MAX][words[0] as usize % 4];
+        Lent {
+            plate: std::array::from_fn(|at| f64::from_bits(words[at])),
+            has_inverse: if words[21] == 0 { 0 } else { yes },
+        }
+    }
+
+    fn bits(&self) -> ([u64; 21], u32) {
+        (self.plate.map(f64::to_bits), self.has_inverse)
+    }
+}
+
+/// The number and the plate then. A refusal must leave the memory as it was, bit for bit; a refused
+/// making stands for a plate of plus zeros without inverse.
+fn operate(name: &str, input: &[u64]) -> Vec<u64> {
+    let making = name == "plate_make";
+    let old = if making {
+        Lent { plate: [LENT; 21], has_inverse: LENT_WHOLE }
+    } else {
+        Lent::read(input)
+    };
+    let mut new = old;
+    let (plate, flag) = (new.plate.as_mut_ptr(), &raw mut new.has_inverse);
+    let point = |at: usize| -> [f64; 3] { [0, 1, 2].map(|i| f64::from_bits(input[at + i])) };
+    let number = unsafe {
+        match name {
+            "plate_make" => p3p_plate_make([0, 3, 6].map(point).as_ptr().cast(), plate, flag),
+            "plate_replace" => p3p_plate_replace(plate, flag, whole(input[22]), point(23).as_ptr()),
+            "plate_exchange" => p3p_plate_exchange(plate, flag, whole(input[22]), whole(input[23])),
+            _ => p3p_plate_scale(plate, flag, signed(input[22])),
+        }
+    };
+    if number != 0 && new.bits() != old.bits() {
+        return refused(number, false, 23);
+    }
+    if number != 0 && making {
+        return refused(number, true, 23);
+    }
+    let flag = if number == 0 { new.has_inverse as u64 } else { input[21] };
+    [number as u64].into_iter().chain(new.plate.map(word)).chain([flag]).collect()
+}
+
+fn signed(word: u64) -> i32 {
+    (word as i64).clamp(i32::MIN as i64, i32::MAX as i64) as i32
+}
+
+fn plate_solve(input: &[u64]) -> Vec<u64> {
+    let lent = Lent::read(input);
+    let bearings: [f64; 9] = std::array::from_fn(|at| f64::from_bits(input[22 + at]));
+    let mut s = Solve::lent();
+    let [updates, lifted] = [s.updates.as_mut_ptr(), s.lifted.as_mut_ptr()];
+    let [plate, bearings] = [lent.plate.as_ptr(), bearings.as_ptr()];
+    let (flag, poses) = (lent.has_inverse, s.poses.as_mut_ptr());
+    s.number =
+        unsafe { p3p_plate_solve(plate, flag, bearings, poses, updates, lifted, &mut s.count) };
+    if s.number != 0 {
+        return refused(s.number, s.left(), 58);
+    }
+    [0, s.count as u64].into_iter().chain(s.slots()).collect()
 }

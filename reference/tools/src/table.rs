@@ -4,6 +4,7 @@
 
 use crate::about;
 use crate::choice;
+use crate::plates::{self, Plate};
 
 pub struct Function {
     pub name: &'static str,
@@ -44,6 +45,13 @@ pub const FUNCTIONS: &[Function] = &[
     function("about", 18, 61),
     // count, 4 x 12, origin, target, bearing -> number, best, score
     function("choice_about", 58, 3),
+    // A plate: points (9), squared edges (3), inverse (9), 0 or 1 (has an inverse).
+    function("plate_make", 9, 23),      // points -> number, plate
+    function("plate_replace", 26, 23),  // plate, target, point -> number, plate
+    function("plate_exchange", 24, 23), // plate, target, target -> number, plate
+    function("plate_scale", 23, 23),    // plate, k in two's complement -> number, plate
+    // plate, bearings -> number, count, 4 x (updates, lifted, 12)
+    function("plate_solve", 31, 58),
 ];
 
 pub fn find(name: &str) -> &'static Function {
@@ -58,13 +66,26 @@ pub fn word(x: f64) -> u64 {
     if x.is_nan() { 0x7ff8_0000_0000_0000 } else { x.to_bits() }
 }
 
-fn doubles<const N: usize>(words: &[u64]) -> [f64; N] {
+pub fn doubles<const N: usize>(words: &[u64]) -> [f64; N] {
     std::array::from_fn(|index| f64::from_bits(words[index]))
 }
 
 fn found<const N: usize>(answer: Option<[f64; N]>) -> Vec<u64> {
     let mut words = vec![answer.is_some() as u64];
     words.extend(answer.unwrap_or([0.0; N]).map(word));
+    words
+}
+
+/// The plate that an input begins with.
+pub fn plate(words: &[u64]) -> Plate {
+    Plate::read(&doubles::<21>(words), words[21] != 0)
+}
+
+/// What an operation on a plate answers.
+fn operated((number, plate): (u32, Plate)) -> Vec<u64> {
+    let mut words = vec![number as u64];
+    words.extend(plate.doubles().map(word));
+    words.push(plate.has_inverse as u64);
     words
 }
 
@@ -99,6 +120,27 @@ macro_rules! answers {
                 let refused = $copy::Answer { refusal: 1, ..Default::default() };
                 let answer = about::moved(input).map_or(refused, |moved| $copy::solve(&moved));
                 (answer, about::carried(input, answer.refusal))
+            }
+
+            /// The solve with a plate.
+            pub fn plate_solve(plate: &Plate, bearings: &[f64; 9]) -> $copy::Answer {
+                let stored = $copy::stored::Numbers::new(plate.edges, plate.stored_inverse());
+                $copy::solve_stored(&plate.world(), bearings, stored)
+            }
+
+            /// An operation on a plate, by its name.
+            fn operate(name: &str, input: &[u64]) -> (u32, Plate) {
+                let basis = $copy::basis;
+                match name {
+                    "plate_make" => plates::make([0, 3, 6].map(|at| doubles(&input[at..])), basis),
+                    "plate_replace" => {
+                        plates::replace(&plate(input), input[22], doubles(&input[23..]), basis)
+                    }
+                    "plate_exchange" => {
+                        plates::exchange(&plate(input), input[22], input[23], basis)
+                    }
+                    _ => plates::scale(&plate(input), input[22] as i64, basis),
+                }
             }
 
             /// Four slots of updates, mark and twelve words.
@@ -147,6 +189,14 @@ macro_rules! answers {
                         let (answer, origin) = about(&doubles(input));
                         let head = [answer.refusal as u64, answer.count as u64];
                         head.into_iter().chain(origin.map(word)).chain(slots(&answer)).collect()
+                    }
+                    "plate_make" | "plate_replace" | "plate_exchange" | "plate_scale" => {
+                        operated(operate(name, input))
+                    }
+                    "plate_solve" => {
+                        let answer = plate_solve(&plate(input), &doubles(&input[22..]));
+                        let head = [answer.refusal as u64, answer.count as u64];
+                        head.into_iter().chain(slots(&answer)).collect()
                     }
                     "quadratic" => match $copy::quadratic(d(0), d(1)) {
                         Ok((kind, roots)) => {

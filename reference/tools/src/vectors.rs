@@ -209,6 +209,14 @@ fn summary(name: &str, records: &[Vec<u64>]) -> String {
         "cubic" => format!("numbers {}", tally(0)),
         "refine" => format!("updates {}", tally(0)),
         "choice" | "choice_about" => format!("numbers {}; best {}", tally(0), tally(1)),
+        "plate_make" | "plate_replace" | "plate_exchange" | "plate_scale" => {
+            let inverse = tally_where(22, |answer| answer[0] == 0);
+            format!("numbers {}; inverse {inverse}", tally(0))
+        }
+        "plate_solve" => {
+            let poses = pose_summary(records, takes, 2);
+            format!("refusals {}; poses {}; {poses}", tally(0), tally(1))
+        }
         "push" => {
             let pushed = records.iter().filter(|record| record[takes] > record[takes - 1]).count();
             format!("pushed 0: {}, 1: {pushed}; poses {}", records.len() - pushed, tally(0))

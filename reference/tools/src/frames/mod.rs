@@ -61,6 +61,11 @@ pub const ABOUT: &[(&str, usize, fn(&mut Random) -> Frame)] = &[
 /// All kinds but the last, `behind`, whose points and bearings are those of other kinds.
 pub const SOLVED: usize = KINDS.len() - 1;
 
+/// A frame whose solve goes on to another ordering, or nearly.
+pub fn retried(r: &mut Random) -> Frame {
+    if r.chance(2) { degenerate::retry(r) } else { degenerate::retry_near(r) }
+}
+
 fn frame(world: [Vector; 3], bearings: [Vector; 3], target: Vector, bearing: Vector) -> Frame {
     let parts =
         [world[0], world[1], world[2], bearings[0], bearings[1], bearings[2], target, bearing];

@@ -3,6 +3,7 @@
 mod eigen;
 mod gates;
 mod origins;
+pub mod plates;
 mod poses;
 mod push;
 mod refine;
@@ -54,6 +55,11 @@ fn kinds(name: &str) -> (Vec<Input>, usize, fn(&mut Random) -> Input) {
         // vectors.rs stores frames of each kind beside the hand-made ones.
         "about" => (origins::hand_about(), 0, origins::about),
         "choice_about" => (origins::hand_choices_about(), 94, origins::choice_about),
+        "plate_make" => (plates::hand_make(), 150, plates::make),
+        "plate_replace" => (plates::hand_replace(), 150, plates::replace),
+        "plate_exchange" => (plates::hand_exchange(), 100, plates::exchange),
+        "plate_scale" => (plates::hand_scale(), 150, plates::scale),
+        "plate_solve" => (plates::hand_solve(), 200, plates::solve),
         _ => panic!("no function {name}"),
     }
 }

@@ -1,5 +1,8 @@
 -- `plates::solve_plate::solve_best_ordering` meets its contract. Assumes nothing.
 use borrow.Author.Needs.{needs}
+use mathlib.Core.Path.{_∙_, ap}
+use Rattle.lambdatwist.specs.LentSlots.{held}
+use Rattle.lambdatwist.specs.Solve.{ifKept}
 use Rattle.plates.specs.SolvePlate.{solveMeasured, solveBestOrdering}
 use Rattle.plates.proofs.solve_plate.solve_best_ordering.Statement.{statement}
 use Rattle.plates.proofs.solve_plate.solve_best_ordering.Tie as tie
@@ -30,10 +33,17 @@ returns-2 c =
       ← c .refused2 .ensures,
     )
 
+if-kept-requires : tie.Need-if-kept-requires
+unfolding held
+if-kept-requires c κs = rw (c .held .ensures) (c .before .solve-cubic .ensures .few)
+
 returns-3 : tie.Need-returns-3
 unfolding solveBestOrdering solveMeasured
 returns-3 c =
-    let tested = c .before in
+    let after-held = c .before in
+    let after-solve-cubic = after-held .before in
+    let lent = after-solve-cubic .before .before .before in
+    let tested = lent .before in
     let measured = tested .before .before .before in
     let limited = measured .before in
     rw (
@@ -44,10 +54,12 @@ returns-3 c =
       ← tested .before .is-unusable .ensures,
       tested .if2 .left,
     )
-    (c .solve-usable .ensures)
+    (c .if-kept .ensures
+    ∙ ap ifKept (after-held .held .ensures)
+    ∙ after-solve-cubic .solve-cubic .ensures .same)
 
 pub solve-best-ordering-spec : {M : Type 1} → statement M
 solve-best-ordering-spec =
     tie.close (tie.spec (λ c _. search needs) (λ c _. search needs) returns (λ c _. search needs)
     (λ c _. search needs) (λ c _. search needs) (λ c _. search needs) returns-2
-    (λ c _. search needs) returns-3)
+    (λ c _. search needs) (λ c _. search needs) if-kept-requires returns-3)

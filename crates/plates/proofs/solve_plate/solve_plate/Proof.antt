@@ -42,7 +42,7 @@ returns-3 c =
       ← tested .before .is-unusable .ensures,
       tested .if2 .left,
     )
-    (c .solve-usable .ensures)
+    (c .solve-given .ensures)
 
 pub solve-plate-spec : {M : Type 1} → statement M
 solve-plate-spec =
