@@ -115,10 +115,15 @@ module _ (world : World) (bearings : Bearings) where
   of-basis Singular e =
       if-same (not (inputFinite input)) as-it-is (given-same Lacking e) .value
 
+-- ---- a plate worked out from points, and one that could have been
+pub points-solve : (world : World) (bearings : Bearings)
+    → solvePlate (plateOf world .value) bearings .value ≡ solve world bearings .value
+unfolding plateOf
+points-solve world bearings = of-basis world bearings (made world bearings) refl
+
 pub plate-solves : (plate : Plate) (bearings : Bearings)
     → Consistent plate
     → solvePlate plate bearings .value ≡ solve (plate .world) bearings .value
-unfolding plateOf
 plate-solves plate bearings consistent =
     ap (λ (p : Plate). solvePlate p bearings .value) consistent
-    ∙ of-basis (plate .world) bearings (made (plate .world) bearings) refl
+    ∙ points-solve (plate .world) bearings

@@ -2,6 +2,7 @@
 -- consequence of demand 1 (`one-answer`). Assumes nothing.
 use mathlib.Core.Path.{subst⁻¹}
 use mathlib.Core.Logic.{⊎-elim}
+use mathlib.Core.Bool.{Bool}
 use mathlib.Core.List.{List}
 use Prim.Native.Nat.{ℕ}
 use lib.Dec.{T}
@@ -13,9 +14,9 @@ use Rattle.frames.specs.Poses.{zeroPose}
 use Rattle.p3p_common.specs.PoseSlots as slots
 use Rattle.p3p_common.proofs.SlotLaws.{none-filled}
 use Rattle.lambdatwist.specs.Solve.{solve}
-use Rattle.theorems.specs.OneAnswer.{Refused, OneAnswer, refused-1, refused-2, refused-3}
+use Rattle.theorems.specs.OneAnswer.{Refused, NamedAnswer, refused-1, refused-2, refused-3}
 use Rattle.theorems.specs.OneAnswer.{accepted}
-use Rattle.theorems.specs.Types.{Pose, World, Bearings, P3pInput, Answer}
+use Rattle.theorems.specs.Types.{Pose, World, Bearings, Answer}
 use Rattle.theorems.proofs.OneAnswer.{one-answer}
 
 abbrev pub FiniteTranslations : List Pose → Type 0
@@ -39,7 +40,9 @@ refused-finite r =
     subst⁻¹ FiniteTranslations (r .poses)
     (filled-finite 0 _ (none-filled slots.FinitePose zeroPose))
 
-answer-finite : {input : P3pInput} {a : Answer} → OneAnswer input a → FiniteTranslations (a .poses)
+answer-finite : {finite none : Bool} {a : Answer}
+    → NamedAnswer finite none a
+    → FiniteTranslations (a .poses)
 answer-finite (refused-1 f r) = refused-finite r
 answer-finite (refused-2 f o r) = refused-finite r
 answer-finite (refused-3 f o r) = refused-finite r

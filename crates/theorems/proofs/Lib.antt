@@ -7,7 +7,7 @@ pub mod OneAnswer
 pub mod OneAnswerAbout
 pub mod OneRetry
 pub mod LiftedEigenvalues
-mod TimesPower
+pub mod TimesPower
 mod FiniteTranslation
 pub mod ScalingRule
 pub mod ScalingRuleAbout

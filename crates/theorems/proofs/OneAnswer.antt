@@ -1,7 +1,7 @@
 -- Demand 1 of the mission, as specs/OneAnswer.antt states it: the answer to eighteen doubles is one
 -- to four finite poses or number 1, 2 or 3. Assumes nothing.
-use mathlib.Core.Path.{refl}
-use mathlib.Core.Bool.{Bool, not, _||_}
+use mathlib.Core.Path.{_≡_, refl, subst⁻¹}
+use mathlib.Core.Bool.{Bool, not, _&&_, _||_}
 use Prim.Native.Nat.{ℕ}
 use native.Mathlib.Nat.{pos-of-ne-zero}
 use lib.Dec.{T, T-not, eqb}
@@ -9,7 +9,7 @@ use mir.Facts.{T-not-not}
 use lib.Ieee.{Float, binary64, mul, le}
 use lib.Ieee.Fits.{and-i, eq→eqb}
 use Rattle.ieee754.specs.Literal.{sixtyFour, epsilon}
-use Rattle.ieee754.specs.Traced.{Traced, pure, _>>=_, _⊘_, !_}
+use Rattle.ieee754.specs.Traced.{Traced, pure, _>>=_, if_then_else_, _⊘_, !_}
 use Rattle.ieee754.proofs.Tests.{or-left, or-right, neither, not-both-left, not-both-right}
 use Rattle.ieee754.proofs.Tests.{either-way}
 use Rattle.polynomial.specs.declared.Roots.the-variants as roots
@@ -29,7 +29,8 @@ use Rattle.orderings.specs.Permutation.{bestPermutation}
 use Rattle.lambdatwist.specs.Solve.{answered, refused, ifKept, stopped, solveCandidates, solveRoot}
 use Rattle.lambdatwist.specs.Solve.{solveCubic, orderedOr, bestOr, solveOrdered, solve}
 use Rattle.theorems.specs.OneAnswer.{Accepted, Refused, orderingUnusable, noOrdering}
-use Rattle.theorems.specs.OneAnswer.{OneAnswer, refused-1, refused-2, refused-3, accepted}
+use Rattle.theorems.specs.OneAnswer.{NamedAnswer, refused-1, refused-2, refused-3, accepted}
+use Rattle.theorems.specs.OneAnswer.{OneAnswer}
 use Rattle.theorems.specs.Types.{Vector3, Matrix3, Roots, World, Bearings, P3pInput, Basis}
 use Rattle.theorems.specs.Types.{Inverse, Singular, Solutions, Eigensystem, Found, NotFound}
 use Rattle.theorems.specs.Types.{Ratio, Real, NotReal, Coefficients, Candidates, Answer}
@@ -37,7 +38,7 @@ use Rattle.theorems.specs.Types.{Measured}
 use Rattle.lambdatwist.proofs.KeptPoses.{poses-kept}
 
 -- ---- the two kinds of answer
-refused-so : (n : ℕ) → Refused n (refused n)
+pub refused-so : (n : ℕ) → Refused n (refused n)
 unfolding refused answered empty
 refused-so n =
     record { refusal = refl; count = refl; poses = refl; updates = refl; lifted = refl }
@@ -123,35 +124,57 @@ module _ (P : Answer → Type 0) (three : P (refused 3))
         (polishedCubicRoot (over (c .cubic2)) (over (c .cubic1)) (over (c .cubic0)) .value)
         (solveRoot input measured) solveRoot-gives
 
--- ---- question 2: the given ordering, or else the best of the others
-module _ (input : P3pInput) (finite : T (inputFinite input)) where
-  -- one ordering: what it leads to where it is unusable, and where it is usable
-  ordering-one : (retry : P3pInput → Traced Answer) (world : World) (bearings : Bearings)
-      → (T (orderingUnusable world bearings) → OneAnswer input (retry input .value))
-      → (T (not (orderingUnusable world bearings)) → T (not (noOrdering input)))
-      → OneAnswer input (orderedOr retry input world bearings .value)
-  unfolding orderedOr orderingUnusable
-  ordering-one retry world bearings unusable usable =
-      either-way (λ (m : Traced Answer). OneAnswer input (m .value))
-      (orderingUnusable world bearings) unusable
-      (λ u.
-      solveCubic-gives (OneAnswer input) (refused-3 finite (usable u) (refused-so 3))
-      (λ a. accepted finite (usable u)) input _ _)
+-- ---- question 2, of one ordering: what it leads to where it is unusable, and where it is usable
+pub ordering-one : (finite unusable none : Bool) (retry : Traced Answer) (input : P3pInput)
+    (measured : Measured) (c : Coefficients)
+    → T finite
+    → (T unusable → NamedAnswer finite none (retry .value))
+    → (T (not unusable) → T (not none))
+    → NamedAnswer finite none ((if unusable then retry else solveCubic input measured c) .value)
+ordering-one finite unusable none retry input measured c f again usable =
+    either-way (λ (m : Traced Answer). NamedAnswer finite none (m .value)) unusable again
+    (λ u.
+    solveCubic-gives (NamedAnswer finite none) (refused-3 f (usable u) (refused-so 3))
+    (λ a. accepted f (usable u)) input measured c)
 
-  orderings-one : OneAnswer input (solveOrdered 1 input (input .world) (input .bearings) .value)
-  unfolding solveOrdered bestOr noOrdering
-  orderings-one =
+-- of two: the given one, or else another, where its condition is not too low. `solved` is that
+-- one's turn, which has no retry.
+pub orderings-one : (finite given low other : Bool) (retry solved : Traced Answer)
+    (input : P3pInput) (measured : Measured) (c : Coefficients)
+    → T finite
+    → retry .value ≡ (if low then pure (refused 2) else solved) .value
+    → (T (not low)
+    → (T other → NamedAnswer finite (given && (low || other)) (refused 2))
+    → (T (not other) → T (not (given && (low || other))))
+    → NamedAnswer finite (given && (low || other)) (solved .value))
+    → NamedAnswer finite (given && (low || other))
+    ((if given then retry else solveCubic input measured c) .value)
+orderings-one finite given low other retry solved input measured c f is turn =
+    let none = given && (low || other) in
+    ordering-one finite given none retry input measured c f
+    (λ g.
+    subst⁻¹ (NamedAnswer finite none) is
+    (either-way (λ (m : Traced Answer). NamedAnswer finite none (m .value)) low
+    (λ l. refused-2 f (and-i given (low || other) g (or-left low other l)) (refused-so 2))
+    (λ n. turn n
+    (λ o. refused-2 f (and-i given (low || other) g (or-right low other o)) (refused-so 2))
+    (λ u. not-both-right given (low || other) (neither low other n u)))))
+    (not-both-left given (low || other))
+
+-- ---- of the eighteen doubles
+module _ (input : P3pInput) (finite : T (inputFinite input)) where
+  given-one : OneAnswer input (solveOrdered 1 input (input .world) (input .bearings) .value)
+  unfolding solveOrdered orderedOr bestOr noOrdering orderingUnusable
+  given-one =
       let best = bestPermutation input .value in
-      let given : Bool = orderingUnusable (input .world) (input .bearings) in
       let low : Bool = le (best .condition) (mul binary64 sixtyFour epsilon) in
       let other : Bool = orderingUnusable (best .world) (best .bearings) in
-      ordering-one (bestOr (solveOrdered 0)) (input .world) (input .bearings)
-      (λ g. either-way (λ (m : Traced Answer). OneAnswer input (m .value)) low
-      (λ l. refused-2 finite (and-i given (low || other) g (or-left low other l)) (refused-so 2))
-      (λ n. ordering-one (λ _. pure (refused 2)) (best .world) (best .bearings)
-      (λ o. refused-2 finite (and-i given (low || other) g (or-right low other o)) (refused-so 2))
-      (λ u. not-both-right given (low || other) (neither low other n u))))
-      (not-both-left given (low || other))
+      orderings-one (inputFinite input) (orderingUnusable (input .world) (input .bearings)) low other
+      (bestOr (solveOrdered 0) input) (solveOrdered 0 input (best .world) (best .bearings)) input _ _
+      finite refl
+      (λ n again usable.
+      ordering-one (inputFinite input) other (noOrdering input) (pure (refused 2)) input _ _ finite
+      again usable)
 
 pub one-answer : (world : World) (bearings : Bearings)
     → OneAnswer (record { world = world; bearings = bearings }) (solve world bearings .value)
@@ -160,4 +183,4 @@ one-answer world bearings =
     let input : P3pInput = record { world = world; bearings = bearings } in
     either-way (λ (m : Traced Answer). OneAnswer input (m .value)) (not (inputFinite input))
     (λ not-finite. refused-1 not-finite (refused-so 1))
-    (λ finite. orderings-one input (T-not-not (inputFinite input) finite))
+    (λ finite. given-one input (T-not-not (inputFinite input) finite))

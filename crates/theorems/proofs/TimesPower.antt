@@ -53,7 +53,7 @@ module _ (k : ℤ) where
   times-at x x' f g h =
       record { scaled = scaled x x' f g h ∙ ap (λ (t : ℤ). scale t x) (sym (ℤ-once k)) }
 
-  times-scale : (x : Float) → T (finite x) → Times k x (scale k x)
+  pub times-scale : (x : Float) → T (finite x) → Times k x (scale k x)
   unfolding scale
   times-scale nan f = absurd f
   times-scale (inf s) f = absurd f

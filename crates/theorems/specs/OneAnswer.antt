@@ -47,19 +47,14 @@ noOrdering input =
     && (le (best .condition) (mul binary64 sixtyFour epsilon)
     || orderingUnusable (best .world) (best .bearings))
 
--- ---- number 1 where one of the eighteen is not finite, and only there; of finite ones, number 2
---      where there is no usable ordering, and only there; otherwise poses, or number 3
-pub data OneAnswer (input : P3pInput) (answer : Answer) : Type 0 where
-  refused-1 : T (not (inputFinite input)) → Refused 1 answer → OneAnswer input answer
-  refused-2 : T (inputFinite input)
-      → T (noOrdering input)
-      → Refused 2 answer
-      → OneAnswer input answer
-  refused-3 : T (inputFinite input)
-      → T (not (noOrdering input))
-      → Refused 3 answer
-      → OneAnswer input answer
-  accepted : T (inputFinite input)
-      → T (not (noOrdering input))
-      → Accepted answer
-      → OneAnswer input answer
+-- ---- number 1 where question 1 is answered by no, and only there; of others, number 2 where there
+--      is no usable ordering, and only there; otherwise poses, or number 3
+pub data NamedAnswer (finite none : Bool) (answer : Answer) : Type 0 where
+  refused-1 : T (not finite) → Refused 1 answer → NamedAnswer finite none answer
+  refused-2 : T finite → T none → Refused 2 answer → NamedAnswer finite none answer
+  refused-3 : T finite → T (not none) → Refused 3 answer → NamedAnswer finite none answer
+  accepted : T finite → T (not none) → Accepted answer → NamedAnswer finite none answer
+
+-- of the eighteen doubles, are they all finite?
+abbrev pub OneAnswer : P3pInput → Answer → Type 0
+OneAnswer input answer = NamedAnswer (inputFinite input) (noOrdering input) answer

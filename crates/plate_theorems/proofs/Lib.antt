@@ -1,0 +1,3 @@
+-- The theorems about plates.
+pub mod OneAnswerPlate
+pub mod ScaledPlate

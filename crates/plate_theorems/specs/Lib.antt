@@ -1,0 +1,3 @@
+-- What the theorems about plates say.
+pub mod OneAnswerPlate
+pub mod ScaledPlate
