@@ -6,7 +6,18 @@ use Rattle.lent_answers.proofs.plate.plate_in.Tie as tie
 
 returns : tie.Need-returns
 unfolding plateIn
-returns c = cc
+returns c =
+    let third = c .before in
+    let second = third .before .before in
+    let first = second .before .before in
+    let second-edge = first .before .before .before in
+    rw (
+      c .from-columns .ensures,
+      third .vector-at3 .ensures,
+      second .vector-at2 .ensures,
+      first .vector-at .ensures,
+      second-edge .before .before .world-at .ensures,
+    )
 
 pub plate-in-spec : {M : Type 1} → statement M
 plate-in-spec =

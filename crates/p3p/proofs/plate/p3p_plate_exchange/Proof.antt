@@ -7,7 +7,11 @@ use Rattle.p3p.proofs.plate.p3p_plate_exchange.Tie as tie
 returns : tie.Need-returns
 returns c =
     let outcome = c .before .before .before in
-    let found = as-exchanged _ _ (outcome .before .plate-in .ensures) _ _ (outcome .exchange .ensures) in
+    let plate = outcome .before in
+    let start = plate .before .before .before in
+    let found =
+    as-exchanged _ _ (plate .plate-in .ensures) (start .args .first) (start .args .second)
+    (outcome .exchange .ensures) in
     rw (← found) (c .write-plate .ensures)
 
 pub p3p-plate-exchange-spec : {M : Type 1} → statement M

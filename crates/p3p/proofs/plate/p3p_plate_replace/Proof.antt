@@ -9,7 +9,10 @@ returns c =
     let outcome = c .before .before .before in
     let point = outcome .before in
     let plate = point .before .before in
-    let found = as-replaced _ _ (plate .plate-in .ensures) _ _ (point .vector-at .ensures) (outcome .replace .ensures) in
+    let start = plate .before .before .before in
+    let found =
+    as-replaced _ _ (plate .plate-in .ensures) (start .args .target) _ (point .vector-at .ensures)
+    (outcome .replace .ensures) in
     rw (← found) (c .write-plate .ensures)
 
 pub p3p-plate-replace-spec : {M : Type 1} → statement M

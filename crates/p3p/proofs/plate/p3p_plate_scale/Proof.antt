@@ -12,7 +12,9 @@ returns c =
     let plate = outcome .before in
     let start = plate .before .before .before in
     let k = start .args .k in
-    let found = as-scaled _ _ (plate .plate-in .ensures) k (rw (toZ-ofZ w32 k (start .fits .k)) at (outcome .times-power .ensures)) in
+    let same = toZ-ofZ w32 k (start .fits .k) in
+    let found =
+    as-scaled _ _ (plate .plate-in .ensures) k (rw same at (outcome .times-power .ensures)) in
     rw (← found) (c .write-plate .ensures)
 
 pub p3p-plate-scale-spec : {M : Type 1} → statement M
