@@ -2,7 +2,7 @@
  *
  * Each function's result, and what it leaves in the memory that is lent to it, is proved equal to a
  * definition for every input, infinities and NaNs too (crates/p3p). None allocates or keeps state:
- * each may be called from several threads at once. A solve was measured to take 4.8 KiB of stack at
+ * each may be called from several threads at once. A solve was measured to take 4.6 KiB of stack at
  * most (docs/BENCHMARKS.md); the others take less. Under lazy binding the first call takes the
  * loader's 1 to 3 KiB more: link with -Wl,-z,now.
  *
@@ -127,8 +127,9 @@ uint32_t p3p_choose_about(const double poses[48], uint32_t count, const double o
  * A plate is twenty-one doubles and a number, in memory of yours.
  *
  * plate        the three world points, each x, y, z; from 9 on the squared edges between targets 0
- *              and 1, 0 and 2, 1 and 2; from 12 on the inverse of the basis of the points in the
- *              given order, by columns, or nine plus zeros where there is none.
+ *              and 1, 0 and 2, 1 and 2; from 12 on, by columns, the inverse of the matrix whose
+ *              columns are p0 - p1, p0 - p2 and their cross product, or nine plus zeros where it
+ *              has none, as where the points lie in a line.
  * has_inverse  1 where there is an inverse, else 0. Where it is read, any other number than 0
  *              counts as 1.
  *

@@ -241,14 +241,14 @@ int main(int argc, char **argv) {
         return 1;
     }
     printf("%d frames of one plate, %d turns: medians, and between what nine tenths of the turns "
-           "lie\n| plate | with / without | | without, ns | | with, ns | | making one, ns | | poses "
-           "a frame |\n|---|---:|---|---:|---|---:|---|---:|---|---:|\n",
+           "lie\n| plate | with / without | | without, ns | | with, ns | | making one, ns | "
+           "| poses a frame |\n|---|---:|---|---:|---|---:|---|---:|---|---:|\n",
            FRAMES, turns);
     for (int sort = 0; sort < SORTS; sort++)
         print_sort(sort, turns, differ[sort]);
     printf("\nFrames whose answer with a plate is another than without\n"
-           "| plate | as made | a squared edge, the next double | an entry of the inverse, the next "
-           "double | said to have no inverse |\n|---|---:|---:|---:|---:|\n");
+           "| plate | as made | a squared edge, the next double | an entry of the inverse, "
+           "the next double | said to have no inverse |\n|---|---:|---:|---:|---:|\n");
     for (int sort = 0; sort < SORTS; sort++) {
         printf("| %s |", name_of(sort));
         for (int which = 0; which < PLATES; which++)

@@ -5,8 +5,8 @@ use crate::refusal::Refusal;
 use crate::sys::{self, Slot};
 use std::array;
 
-/// Three world points, with what a solve works out from them alone: their squared edges, and the
-/// inverse of their basis. Each operation that is not refused leaves a plate whose stored numbers
+/// Three world points, with what a solve works out from them alone: their squared edges, and an
+/// inverse matrix. Each operation that is not refused leaves a plate whose stored numbers
 /// are, bit for bit, worked out from its points; a refused one leaves the plate as it was. Targets
 /// have the numbers 0, 1 and 2.
 ///
@@ -37,8 +37,8 @@ pub struct Plate {
 #[derive(Clone, Copy, Debug, PartialEq)]
 pub struct StoredPlate {
     /// The three world points, each x, y, z; from 9 on the squared edges between targets 0 and 1,
-    /// 0 and 2, 1 and 2; from 12 on the inverse of the basis of the points in the given order, by
-    /// columns, or nine plus zeros where there is none.
+    /// 0 and 2, 1 and 2; from 12 on the three columns of the inverse that [`Plate::inverse`] has,
+    /// or nine plus zeros where there is none.
     pub numbers: [f64; 21],
     /// Whether there is an inverse.
     pub has_inverse: bool,
@@ -119,8 +119,8 @@ impl Plate {
         self.vector(9)
     }
 
-    /// The three columns of the inverse of the basis of the points in the given order. None where
-    /// it has no inverse, as where the points lie in a line.
+    /// The three columns of the inverse of the matrix whose columns are p0 - p1, p0 - p2 and their
+    /// cross product. None where it has none, as where the points lie in a line.
     pub fn inverse(&self) -> Option<[[f64; 3]; 3]> {
         self.stored.has_inverse.then(|| [12, 15, 18].map(|at| self.vector(at)))
     }

@@ -208,6 +208,22 @@ fn a_plate_brought_back_is_taken_as_it_is() {
     assert_eq!(plate_bits(&mended), plate_bits(&plate));
 }
 
+/// A plate of the targets less the first has the poses of the solve about the first target.
+#[test]
+fn a_plate_of_differences_serves_grid_jobs() {
+    let place = [691_000.3, 5_334_000.7, 512.1];
+    let world = POINTS.map(|p| [p[0] + place[0], p[1] + place[1], p[2] + place[2]]);
+    let [p0, ..] = world;
+    let plate = made(&world.map(|p| [p[0] - p0[0], p[1] - p0[1], p[2] - p0[2]]));
+    let bearings = seen(&POINTS, [0.1, -0.2, 2.0]);
+    let (poses, about) =
+        (plate.solve(&bearings).unwrap(), p3p::solve_about(&world, &bearings).unwrap());
+    assert_eq!(poses.len(), about.len());
+    for (a, b) in poses.iter().zip(&about) {
+        assert_eq!((a.rotation, a.translation), (b.rotation(), b.origin_in_camera()));
+    }
+}
+
 /// Of a plate times 2^k the rotations are the same and the translations times 2^k.
 #[test]
 fn a_scaled_plate_has_scaled_translations() {
