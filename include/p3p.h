@@ -2,7 +2,7 @@
  *
  * Each function's result, and what it leaves in the memory that is lent to it, is proved equal to a
  * definition for every input, infinities and NaNs too (crates/p3p). None allocates or keeps state:
- * each may be called from several threads at once. A solve was measured to take 4.8 KiB of stack at
+ * each may be called from several threads at once. A solve was measured to take 4.6 KiB of stack at
  * most (docs/BENCHMARKS.md); the others take less. Under lazy binding the first call takes the
  * loader's 1 to 3 KiB more: link with -Wl,-z,now.
  *
@@ -24,10 +24,10 @@
 #include <stddef.h>
 #include <stdint.h>
 
-#define P3P_VERSION "0.3.1"
+#define P3P_VERSION "0.3.2"
 #define P3P_VERSION_MAJOR 0
 #define P3P_VERSION_MINOR 3
-#define P3P_VERSION_PATCH 1
+#define P3P_VERSION_PATCH 2
 
 #ifdef __cplusplus
 extern "C" {
@@ -36,7 +36,7 @@ extern "C" {
 /* Why there is no answer. */
 enum p3p_refusal {
     /* solve: one of the eighteen doubles is an infinity or a NaN; about the first target also a
-     * difference */
+     * difference. plate_make, plate_replace: a coordinate of a given point is */
     P3P_INPUT_NOT_FINITE = 1,
     /* solve: no ordering of the points is usable */
     P3P_NO_USABLE_ORDERING = 2,
@@ -55,7 +55,14 @@ enum p3p_refusal {
     /* read_record: bytes of the record are missing */
     P3P_RECORD_CUT_SHORT = 9,
     /* choose: no pose has a finite score, as where each puts the target behind the camera */
-    P3P_NO_FINITE_SCORE = 10
+    P3P_NO_FINITE_SCORE = 10,
+    /* plate_replace, plate_exchange: a target's number is above 2 */
+    P3P_NO_SUCH_TARGET = 11,
+    /* plate_scale: k is not from -64 to 64 */
+    P3P_POWER_OUT_OF_RANGE = 12,
+    /* plate_scale: a coordinate is an infinity or a NaN, or its exact scaled value has a magnitude
+     * of 2^1024 or more, or is not zero and has one below 2^-1022 */
+    P3P_COORDINATE_OUT_OF_RANGE = 13
 };
 
 /* ---- the three-point pose solver */
@@ -113,6 +120,58 @@ uint32_t p3p_solve_about(const double input[18], double poses[48], uint32_t upda
 uint32_t p3p_choose_about(const double poses[48], uint32_t count, const double origin[3],
                           const double target[3], const double bearing[3], uint32_t *best,
                           double *score);
+
+/* ---- a plate that serves many frames: what a solve works out from the three world points alone is
+ *      worked out once and stored with them (docs/USING.md)
+ *
+ * A plate is twenty-one doubles and a number, in memory of yours.
+ *
+ * plate        the three world points, each x, y, z; from 9 on the squared edges between targets 0
+ *              and 1, 0 and 2, 1 and 2; from 12 on, by columns, the inverse of the matrix whose
+ *              columns are p0 - p1, p0 - p2 and their cross product, or nine plus zeros where it
+ *              has none, as where the points lie in a line.
+ * has_inverse  1 where there is an inverse, else 0. Where it is read, any other number than 0
+ *              counts as 1.
+ *
+ * Targets have the numbers 0, 1 and 2. What p3p_plate_make, _replace, _exchange and _scale store
+ * is, bit for bit, worked out from the points that they store, whatever the plate held before; a
+ * squared edge that overflows is stored as infinite, and nothing is refused for it. A refusal
+ * writes nothing: the plate is as it was. */
+
+/* The plate of three points, each x, y, z. Returns 0, or 1. */
+uint32_t p3p_plate_make(const double points[9], double plate[21], uint32_t *has_inverse);
+
+/* Puts one target of a plate at another point. The plate's other points are not asked about: a NaN
+ * in them stays. Returns 0, or 1 where the given point is not finite, or 11; 1 is asked first. */
+uint32_t p3p_plate_replace(double plate[21], uint32_t *has_inverse, uint32_t target,
+                           const double point[3]);
+
+/* Puts each of two targets of a plate in the other's place. A target may be exchanged with itself:
+ * the points stay, and the stored numbers are worked out anew. Returns 0, or 11. */
+uint32_t p3p_plate_exchange(double plate[21], uint32_t *has_inverse, uint32_t first,
+                            uint32_t second);
+
+/* Multiplies all coordinates of a plate by 2^k, which is exact; zeros keep their sign. With k = 0
+ * the points stay, and the stored numbers are worked out anew, but a subnormal coordinate is 13
+ * then too. Returns 0, or 12, or 13; 12 is asked first. */
+uint32_t p3p_plate_scale(double plate[21], uint32_t *has_inverse, int32_t k);
+
+/* The poses from which the targets of a plate are seen at three bearings. Of a plate that the
+ * functions above have written it is, bit for bit, what p3p_solve gives of the plate's points and
+ * the bearings, the refusals too.
+ *
+ * plate, has_inverse    also as they were kept elsewhere, in a file say, and brought back. They are
+ *          taken as they are. Where they are not those of the plate's points: the stored squared
+ *          edges serve every ordering of the targets; the stored inverse, or its lack, serves the
+ *          given ordering alone, and the others make theirs from the points; the first question,
+ *          whose refusal is 1, looks at the points and the bearings alone.
+ *          p3p_plate_exchange(plate, &has_inverse, 0, 0) works the stored numbers out anew.
+ * bearings the directions to targets 0, 1 and 2, each x, y, z, of unit length as for p3p_solve.
+ * poses, updates, lifted, count    as for p3p_solve.
+ * Returns 0, or 1, 2 or 3. */
+uint32_t p3p_plate_solve(const double plate[21], uint32_t has_inverse, const double bearings[9],
+                         double poses[48], uint32_t updates[4], uint32_t lifted[4],
+                         uint32_t *count);
 
 /* ---- a frame's record */
 

@@ -1,8 +1,8 @@
 #!/usr/bin/env bash
 # All figures of a solve in one run: the library's size, the stack that a solve and the other
 # functions take, the times beside the Rust's and, where target/peers is (bench/peers/fetch.sh),
-# other solvers'; the records a second of the program poses; and, where perf is installed, what the
-# time goes into.
+# other solvers'; a solve with a plate beside one without; the records a second of the program
+# poses; and, where perf is installed, what the time goes into.
 #   bench/solve/run.sh SOURCES     SOURCES: the Rust's original sources (reference/README.md), its
 #                                  path from the repository's root or from /
 # Needs gcc, python3, GNU time and what reference/README.md names; for other solvers g++.
@@ -19,9 +19,9 @@ rt staticlib p3p | tail -1
 rt check poses | tail -1
 # Bound at the start (now): else the loader, which looks a function of the C library up when it is
 # first called, can add stack of its own to the first frame's.
-for program in stack repeat; do
+for program in stack repeat plates; do
     gcc -O2 -Wall -Wextra -Wl,-z,now -o "$out/$program" "bench/solve/$program.c" "$library" \
-        -lpthread
+        -lpthread -lm
 done
 if [ -d "$peers" ]; then
     # Of OpenCV's static library only what a solve calls is kept, which needs no other library.
@@ -41,6 +41,10 @@ size "$library"
 echo
 echo "## Times"
 P3P_PORT=$library reference/run "$1" bench
+
+echo
+echo "## With a plate"
+"$out/plates"
 
 echo
 echo "## The program poses"

@@ -1,7 +1,7 @@
 // The deepest stack of one solve, and the stack of one call of each other function: each call is
 // made on a thread whose stack was filled with a known byte, and the lowest byte that changed is
 // found. Prints, in bytes below the frame of the function that makes the call, the deepest solve of
-// the stored frames, plain and about the first target, and then the other functions.
+// the stored frames, plain, about the first target and with a plate, and then the other functions.
 //   stack FRAMES
 #include "../../include/p3p.h"
 #include "frames.h"
@@ -12,10 +12,12 @@ enum { AREA = 1 << 18, FILL = 0xa5 };
 
 static double input[18], poses[48], frame[24], origin[3], first, second, score;
 static const double target[3] = {0.5, 0.375, 0.125}, bearing[3] = {0.0, 0.6, 0.8};
+static const double axes[9] = {1.0, 0.0, 0.0, 0.0, 1.0, 0.0, 0.0, 0.0, 1.0};
 // The first of these poses moves nothing: the target lies before the camera, so it has a score.
 static const double unmoved[48] = {[0] = 1.0, [4] = 1.0, [8] = 1.0};
 static const uint8_t record[P3P_RECORD_SIZE] = {0, 193, 1};
-static uint32_t updates[4], lifted[4], count, best;
+static double plate[21]; // of the frame
+static uint32_t updates[4], lifted[4], count, best, has_inverse;
 static volatile uintptr_t above;
 static volatile double number = 0.3; // unknown to the compiler
 
@@ -23,6 +25,10 @@ static volatile double number = 0.3; // unknown to the compiler
 #define OTHERS(EACH)                                                     \
     EACH(choose, p3p_choose(unmoved, 4, target, bearing, &best, &score)) \
     EACH(choose_about, p3p_choose_about(unmoved, 4, origin, target, bearing, &best, &score)) \
+    EACH(plate_make, p3p_plate_make(axes, plate, &has_inverse))          \
+    EACH(plate_replace, p3p_plate_replace(plate, &has_inverse, 2, target)) \
+    EACH(plate_exchange, p3p_plate_exchange(plate, &has_inverse, 0, 1))  \
+    EACH(plate_scale, p3p_plate_scale(plate, &has_inverse, 1))           \
     EACH(read_record, p3p_read_record(record, sizeof record, frame))     \
     EACH(quadratic, p3p_quadratic(-3.0, number, &first, &second))        \
     EACH(quadratic_kind, p3p_quadratic_kind(-3.0, number, &first, &second, &best)) \
@@ -48,6 +54,8 @@ static volatile double number = 0.3; // unknown to the compiler
 CALLER(nothing, )
 CALLER(solve, p3p_solve(input, poses, updates, lifted, &count))
 CALLER(solve_about, p3p_solve_about(input, poses, updates, lifted, &count, origin))
+CALLER(plate_solve,
+       p3p_plate_solve(plate, has_inverse, input + 9, poses, updates, lifted, &count))
 OTHERS(CALLER)
 
 static const struct {
@@ -79,20 +87,24 @@ int main(int argc, char **argv) {
         return 1;
     }
     // what a thread that does nothing writes as it ends is no part of a solve
-    size_t deepest = 0, about = 0, idle = depth(area, call_nothing);
+    size_t deepest = 0, about = 0, with_plate = 0, idle = depth(area, call_nothing);
     long frames = 0, at = 0;
     while (next_input(file, input)) {
         size_t used = depth(area, call_solve), used_about = depth(area, call_solve_about);
         frames++;
         about = used_about > about ? used_about : about;
+        if (p3p_plate_make(input, plate, &has_inverse) == 0) {
+            size_t used_plate = depth(area, call_plate_solve);
+            with_plate = used_plate > with_plate ? used_plate : with_plate;
+        }
         if (used > deepest) {
             deepest = used;
             at = frames;
         }
     }
     printf("%ld frames; deepest stack of a solve: %zu bytes (frame %ld); about the first target: "
-           "%zu; of a thread that does nothing: %zu\n",
-           frames, deepest, at, about, idle);
+           "%zu; with a plate: %zu; of a thread that does nothing: %zu\n",
+           frames, deepest, at, about, with_plate, idle);
     for (size_t i = 0; i < sizeof others / sizeof others[0]; i++)
         printf("%s: %zu\n", others[i].name, depth(area, others[i].call));
     return frames == 0;

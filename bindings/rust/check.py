@@ -40,8 +40,13 @@ CHANGES = [
 OTHER_HOLES = {
     "plate": ("[0.25, -0.5, 0.0]", "[0.25, -0.5, 0.000001]"),
     "grid": ("5334000.0, 512.125]", "5334000.0, 512.125001]"),
+    "one_plate": ("[0.25, -0.5, 0.0]", "[0.25, -0.5, 0.000001]"),
 }
-PRINTED = {"plate": "include/example.txt", "grid": "include/grid.txt"}
+PRINTED = {
+    "plate": "include/example.txt",
+    "grid": "include/grid.txt",
+    "one_plate": "include/plate.txt",
+}
 
 
 def cargo(command, library, given=b"", folder=CRATE):

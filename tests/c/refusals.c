@@ -3,6 +3,7 @@
  * to see a write. With any argument each call is expected to return one more, which must be found
  * wrong. Prints how many of the calls went wrong. */
 #include "p3p.h"
+#include <float.h>
 #include <math.h>
 #include <stdio.h>
 #include <string.h>
@@ -11,8 +12,8 @@ enum { PATTERN = 0xa5 };
 
 /* All memory that is lent to be written. */
 static struct {
-    double poses[48], origin[3], first, second, root, score, frame[24];
-    uint32_t updates[4], lifted[4], count, best, kind;
+    double poses[48], origin[3], first, second, root, score, frame[24], plate[21];
+    uint32_t updates[4], lifted[4], count, best, kind, has_inverse;
 } lent;
 
 static uint32_t calls, wrong, added;
@@ -79,6 +80,134 @@ static void solves(void)
     input[0] = -1e308;
     input[3] = 1e308;
     expect("solve_about, a difference overflows", P3P_INPUT_NOT_FINITE, solve_about(input));
+}
+
+/* Plates. The operations' plate is the pattern, or one that was made into the lent memory: then a
+ * copy of it tells what was written. */
+
+static double made[21];
+static uint32_t made_inverse;
+
+static uint32_t make(const double points[9])
+{
+    return p3p_plate_make(points, lent.plate, &lent.has_inverse);
+}
+
+static uint32_t replace(uint32_t target, double x)
+{
+    const double point[3] = {x, 0.5, 0.25};
+    return p3p_plate_replace(lent.plate, &lent.has_inverse, target, point);
+}
+
+static uint32_t exchange(uint32_t first, uint32_t second)
+{
+    return p3p_plate_exchange(lent.plate, &lent.has_inverse, first, second);
+}
+
+static uint32_t scale(int32_t k)
+{
+    return p3p_plate_scale(lent.plate, &lent.has_inverse, k);
+}
+
+/* Puts a plate into the lent memory, with its first coordinate changed. */
+static void place(double x)
+{
+    memcpy(lent.plate, made, sizeof made);
+    lent.plate[0] = x;
+    lent.has_inverse = 7; /* as good as 1, and not what an operation writes */
+}
+
+/* What an operation did to a plate that was placed: it must be as it was after a refusal, and have
+ * the inverse written after an answer. */
+static void expect_placed(const char *call, uint32_t expected, double x, uint32_t number)
+{
+    double old[21];
+    memcpy(old, made, sizeof made);
+    old[0] = x;
+    calls++;
+    if (number != expected + added
+        || (number != 0) != (lent.has_inverse == 7 && memcmp(old, lent.plate, sizeof old) == 0)) {
+        wrong++;
+        if (added == 0)
+            printf("%s: %u in place of %u\n", call, number, expected);
+    }
+    memset(&lent, PATTERN, sizeof lent);
+}
+
+static uint32_t solve_plate(double x, uint32_t has_inverse, const double bearings[9])
+{
+    double plate[21];
+    memcpy(plate, made, sizeof made);
+    plate[0] = x;
+    return p3p_plate_solve(plate, has_inverse, bearings, lent.poses, lent.updates, lent.lifted,
+                           &lent.count);
+}
+
+static void operations(void)
+{
+    const double points[9] = {0, 0, 0, 0.4, 0, 0, 0, 0.3, 0.05};
+    const double infinite[9] = {0, 0, 0, 0.4, 0, 0, 0, 0.3, INFINITY};
+    const double least = DBL_MIN, most = 2 / DBL_MIN; /* 2^-1022, 2^1023 */
+    expect("plate_make, an infinity", P3P_INPUT_NOT_FINITE, make(infinite));
+    expect("plate_make, a plate", 0, make(points));
+    p3p_plate_make(points, made, &made_inverse);
+    place(0);
+    expect_placed("plate_replace, a NaN, and no target", P3P_INPUT_NOT_FINITE, 0, replace(3, NAN));
+    place(0);
+    expect_placed("plate_replace, no target", P3P_NO_SUCH_TARGET, 0, replace(3, 1));
+    place(NAN);
+    expect_placed("plate_replace beside a NaN", 0, NAN, replace(2, 1));
+    place(0);
+    expect_placed("plate_exchange, no first", P3P_NO_SUCH_TARGET, 0, exchange(4000000000u, 0));
+    place(0);
+    expect_placed("plate_exchange, no second", P3P_NO_SUCH_TARGET, 0, exchange(2, 3));
+    place(0);
+    expect_placed("plate_exchange", 0, 0, exchange(0, 2));
+    place(0);
+    expect_placed("plate_exchange with itself", 0, 0, exchange(1, 1));
+    place(NAN);
+    expect_placed("plate_scale, 2^65 and a NaN", P3P_POWER_OUT_OF_RANGE, NAN, scale(65));
+    place(0);
+    expect_placed("plate_scale, 2^-65", P3P_POWER_OUT_OF_RANGE, 0, scale(-65));
+    place(NAN);
+    expect_placed("plate_scale, a NaN", P3P_COORDINATE_OUT_OF_RANGE, NAN, scale(64));
+    place(most);
+    expect_placed("plate_scale, to 2^1024", P3P_COORDINATE_OUT_OF_RANGE, most, scale(1));
+    place(least);
+    expect_placed("plate_scale, to 2^-1023", P3P_COORDINATE_OUT_OF_RANGE, least, scale(-1));
+    place(least / 2);
+    expect_placed("plate_scale, a subnormal by 1", P3P_COORDINATE_OUT_OF_RANGE, least / 2,
+                  scale(0));
+    place(least / 2);
+    expect_placed("plate_scale, a subnormal to 2^-1022", 0, least / 2, scale(1));
+    place(-0.0);
+    expect_placed("plate_scale", 0, -0.0, scale(-64));
+}
+
+static void plate_solves(void)
+{
+    double bearings[9];
+    for (int k = 0; k < 3; k++) {
+        double x = made[3 * k], y = made[3 * k + 1], z = made[3 * k + 2] + 2;
+        double length = p3p_sqrt(x * x + y * y + z * z);
+        bearings[3 * k] = x / length;
+        bearings[3 * k + 1] = y / length;
+        bearings[3 * k + 2] = z / length;
+    }
+    expect("plate_solve", 0, solve_plate(0, made_inverse, bearings));
+    expect("plate_solve, inverse by another number", 0, solve_plate(0, 1u << 31, bearings));
+    expect("plate_solve, no inverse", P3P_NO_POSE, solve_plate(0, 0, bearings));
+    expect("plate_solve, a point not finite", P3P_INPUT_NOT_FINITE,
+           solve_plate(INFINITY, made_inverse, bearings));
+    made[12] = NAN; /* of the inverse, which the first question does not look at */
+    expect("plate_solve, an inverse not finite", P3P_NO_POSE,
+           solve_plate(0, made_inverse, bearings));
+    made[9] = INFINITY; /* of the squared edges */
+    expect("plate_solve, an edge not finite", P3P_NO_USABLE_ORDERING,
+           solve_plate(0, made_inverse, bearings));
+    bearings[8] = NAN;
+    expect("plate_solve, a bearing not finite", P3P_INPUT_NOT_FINITE,
+           solve_plate(0, made_inverse, bearings));
 }
 
 /* four times the pose that moves nothing, about zero or about a point */
@@ -154,6 +283,8 @@ int main(int argc, char **argv)
     added = argc > 1 ? 1 : 0;
     memset(&lent, PATTERN, sizeof lent);
     solves();
+    operations();
+    plate_solves();
     choices();
     roots();
     records();

@@ -2,7 +2,7 @@
 """The library from C, C++ and Python: the examples of include/ and every refusal.
 
     tests/c/run.py LIBRARY             LIBRARY: the path of libp3p.a
-    tests/c/run.py LIBRARY --store     rewrite example.txt, grid.txt and records.txt of include/
+    tests/c/run.py LIBRARY --store     rewrite the examples' outputs in include/
 
 The examples are compiled as C99 and as C++ with all warnings as errors, and must print what is
 stored in include/; of the sample they must list what samples/listing.txt does. inputs.py beside
@@ -23,7 +23,7 @@ import inputs
 
 WARNINGS = ["-Wall", "-Wextra", "-pedantic", "-Werror"]
 LANGUAGES = {"c": ["cc", "-std=c99"], "c++": ["c++", "-std=c++11"]}
-STORED = {name: f"include/{name}.txt" for name in ("example", "grid", "records")}
+STORED = {name: f"include/{name}.txt" for name in ("example", "grid", "plate", "records")}
 SAMPLE, LISTING = inputs.read("samples/frames.bin"), "samples/listing.txt"
 
 
@@ -74,7 +74,7 @@ def run_examples(folder, language, library):
 
 def compare_examples(compared, folder, language, library):
     printed, programs = run_examples(folder, language, library)
-    for name in ("example", "grid"):
+    for name in ("example", "grid", "plate"):
         compared.equal(f"{name} ({language})", printed[name], read(STORED[name]))
     for run in inputs.runs():
         command = ["sh", "-c", f'exec "$0" {run.redirected}', programs["records"]]
@@ -97,11 +97,17 @@ CHANGES = [
 OTHER_HOLES = {
     "example": ("{0.25, -0.5, 0.0}", "{0.25, -0.5, 0.000001}"),
     "grid": ("5334000.0, 512.125}", "5334000.0, 512.125001}"),
+    "plate": ("{0.25, -0.5, 0.0}", "{0.25, -0.5, 0.000001}"),
 }
-# Changes of grid.c's numbers, and what it says then.
-GRID_CHANGES = [
-    ("{691000.75, 5334000.5, 512.125}", "{INFINITY, 0.0, 0.0}", "refused 1\n"),
-    ("{0.075, 0.25, 2.4}", "{0.0, 0.0, 0.0}", "refused 10\n"),
+# Changes of the numbers of grid.c and plate.c, and the last line that they print then.
+REFUSED = [
+    ("grid", "{691000.75, 5334000.5, 512.125}", "{INFINITY, 0.0, 0.0}", "refused 1"),
+    ("grid", "{0.075, 0.25, 2.4}", "{0.0, 0.0, 0.0}", "refused 10"),
+    ("plate", "{0.0, 0.0, 0.0, 0.5,", "{0.0, 0.0, INFINITY, 0.5,", "refused 1"),
+    ("plate", "0.0, 0.375, 0.0}", "1.0, 0.0, 0.0}", "refused 3"),
+    ("plate", "{0.0, 0.376, 0.001}", "{0.0, NAN, 0.001}", "refused 1"),
+    # seen in the fourth frame alone, by the plate that was brought back
+    ("plate", "{0.0, 0.376, 0.001}", "{1.0, 0.0, 0.0}", "refused 3"),
 ]
 
 
@@ -113,14 +119,15 @@ def build_changed(old, new, language, folder, library, name="example"):
 
 
 def compare_changes(compared, folder, language, library):
-    """What example.c says where there is no answer, or none that is confirmed."""
+    """What the examples say where there is no answer, or none that is confirmed."""
     for old, new, begin in CHANGES:
         program = build_changed(old, new, language, folder, library)
         last = output([program], b"", 1).splitlines()[-1]
         compared.equal(f"example with {new}", last[: len(begin)] + "\n", begin + "\n")
-    for old, new, said in GRID_CHANGES:
-        program = build_changed(old, new, language, folder, library, "grid")
-        compared.equal(f"grid with {new}", output([program], b"", 1), said)
+    for name, old, new, said in REFUSED:
+        program = build_changed(old, new, language, folder, library, name)
+        last = output([program], b"", 1).splitlines()[-1]
+        compared.equal(f"{name} with {new}", last + "\n", said + "\n")
     for name, change in OTHER_HOLES.items():
         other = output([build_changed(*change, language, folder, library, name)])
         compared.different(f"{name} ({language}), another hole", other, read(STORED[name]))
@@ -158,7 +165,8 @@ def compare_page(compared, folder, library):
     example = read(STORED["example"])
     # example.py solves the same plate, and prints less
     python = example[example.index("best") :]
-    expected = example + read(STORED["grid"]) + read(STORED["records"]) + python
+    others = "".join(read(STORED[name]) for name in ("grid", "plate", "records"))
+    expected = example + others + python
     found = output(["sh", "-e", "-c", page_commands(folder, library)])
     compared.equal("include/README.md's commands", found, expected)
 

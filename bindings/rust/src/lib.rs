@@ -22,6 +22,10 @@
 //! let [x, y, z] = poses[choice.index].apply(&[691000.35, 5334000.6, 512.125]);
 //! assert!((x - 0.1).abs() < 1e-8 && (y - 0.1).abs() < 1e-8 && (z - 2.0).abs() < 1e-8);
 //!
+//! // A plate that serves many frames is made once.
+//! let known = p3p::Plate::new(&[p0, p1, p2])?;
+//! assert_eq!(known.solve(&[f0, f1, f2]), p3p::solve(&[p0, p1, p2], &[f0, f1, f2]));
+//!
 //! // What has no answer is refused, with the reason.
 //! let nowhere = [[f64::INFINITY, 0.0, 0.0], [0.0; 3], [0.0; 3]];
 //! assert_eq!(p3p::solve(&nowhere, &[f0, f1, f2]), Err(p3p::Refusal::InputNotFinite));
@@ -34,6 +38,7 @@
 
 mod about;
 mod bearing;
+mod plate;
 mod poses;
 mod records;
 mod refusal;
@@ -43,6 +48,7 @@ mod sys;
 
 pub use about::{choose_about, solve_about, PoseAbout, PosesAbout};
 pub use bearing::normalise;
+pub use plate::{Plate, StoredPlate};
 pub use poses::{choose, solve, Choice, Pose, Poses};
 pub use records::{read_record, records, Frame, Records, RECORD_SIZE};
 pub use refusal::Refusal;

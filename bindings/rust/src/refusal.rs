@@ -6,7 +6,8 @@ use std::fmt;
 #[derive(Clone, Copy, Debug, PartialEq, Eq, Hash)]
 #[non_exhaustive]
 pub enum Refusal {
-    /// One of the solver's eighteen numbers is an infinity or a NaN.
+    /// One of the solver's eighteen numbers, or a coordinate given to a plate, is an infinity or a
+    /// NaN.
     InputNotFinite = 1,
     /// No ordering of the solver's points is usable.
     NoUsableOrdering = 2,
@@ -26,6 +27,12 @@ pub enum Refusal {
     RecordCutShort = 9,
     /// No pose has a finite score, as where each puts the target behind the camera.
     NoFiniteScore = 10,
+    /// A plate has no target of that number: they are 0, 1 and 2.
+    NoSuchTarget = 11,
+    /// The power of two by which a plate is to be multiplied is not from -64 to 64.
+    PowerOutOfRange = 12,
+    /// A coordinate of a plate to be multiplied is not finite, or leaves the normal range.
+    CoordinateOutOfRange = 13,
 }
 
 impl Refusal {
@@ -48,6 +55,9 @@ impl Refusal {
             8 => Self::RecordVersion,
             9 => Self::RecordCutShort,
             10 => Self::NoFiniteScore,
+            11 => Self::NoSuchTarget,
+            12 => Self::PowerOutOfRange,
+            13 => Self::CoordinateOutOfRange,
             _ => unreachable!("no refusal has the number {number}"),
         })
     }
@@ -66,6 +76,9 @@ impl fmt::Display for Refusal {
             Self::RecordVersion => "the record's version is not 1",
             Self::RecordCutShort => "bytes of the record are missing",
             Self::NoFiniteScore => "no pose has a finite score",
+            Self::NoSuchTarget => "the plate has no target of that number",
+            Self::PowerOutOfRange => "the power of two is not from -64 to 64",
+            Self::CoordinateOutOfRange => "a coordinate is not finite or leaves the normal range",
         })
     }
 }

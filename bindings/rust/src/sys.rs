@@ -56,6 +56,34 @@ extern "C" {
         best: &mut u32,
         score: &mut f64,
     ) -> u32;
+    // A plate's twenty-one doubles: points, squared edges, inverse by columns.
+    pub fn p3p_plate_make(
+        points: &[[f64; 3]; 3],
+        plate: &mut [f64; 21],
+        has_inverse: &mut u32,
+    ) -> u32;
+    pub fn p3p_plate_replace(
+        plate: &mut [f64; 21],
+        has_inverse: &mut u32,
+        target: u32,
+        point: &[f64; 3],
+    ) -> u32;
+    pub fn p3p_plate_exchange(
+        plate: &mut [f64; 21],
+        has_inverse: &mut u32,
+        first: u32,
+        second: u32,
+    ) -> u32;
+    pub fn p3p_plate_scale(plate: &mut [f64; 21], has_inverse: &mut u32, k: i32) -> u32;
+    pub fn p3p_plate_solve(
+        plate: &[f64; 21],
+        has_inverse: u32,
+        bearings: &[[f64; 3]; 3],
+        poses: &mut [Slot; 4],
+        updates: &mut [u32; 4],
+        lifted: &mut [u32; 4],
+        count: &mut u32,
+    ) -> u32;
     // `bytes` must be readable for `length` bytes.
     pub fn p3p_read_record(bytes: *const u8, length: usize, frame: &mut [[f64; 3]; 8]) -> u32;
 }

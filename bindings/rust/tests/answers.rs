@@ -82,6 +82,9 @@ fn refusals_have_their_numbers() {
     assert_eq!(Refusal::RecordLength.number(), 7);
     assert_eq!(Refusal::RecordVersion.number(), 8);
     assert_eq!(Refusal::RecordCutShort.number(), 9);
+    assert_eq!(Refusal::NoSuchTarget.number(), 11);
+    assert_eq!(Refusal::PowerOutOfRange.number(), 12);
+    assert_eq!(Refusal::CoordinateOutOfRange.number(), 13);
     assert_eq!(Refusal::InputNotFinite.to_string(), "a number of the input is not finite");
     assert_eq!(Refusal::RecordVersion.to_string(), "the record's version is not 1");
 }
