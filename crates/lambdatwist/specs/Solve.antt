@@ -49,8 +49,8 @@ stopped = pure (refused 3)
 
 -- ---- the stages of `solve_ordered`, from the last to the first
 
--- let Some(world_inverse) = world_basis_inverse(d01, d02) else { .. }, and the poses; of a plate the
--- basis is the stored one
+-- let Some(world_inverse) = world_basis_inverse(d01, d02) else { .. }, and the poses; of a plate
+-- the basis is the stored one
 unfoldable pub solveCandidates : P3pInput → Measured → Candidates → Traced Answer
 solveCandidates input measured found = do
   basis ← basisOf (measured .source)

@@ -1,5 +1,5 @@
-// A plate over a lent array and a lent number: nine doubles of points, the three squared edges, nine
-// of the inverse by columns; and whether there is an inverse.
+// A plate over a lent array and a lent number: nine doubles of points, the three squared edges,
+// nine of the inverse by columns; and whether there is an inverse.
 ghost use mathlib.Core.Path.{_≡_};
 ghost use Rattle.lent_answers.specs.Plated as Plated;
 use frames::lent::vector_at;

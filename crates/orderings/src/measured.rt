@@ -17,8 +17,8 @@ use frames::squared_edges::SquaredEdges;
 use frames::world::World;
 use linalg::vector3::Vector3;
 
-// The first point, where the inverse basis comes from, the squared edges, the bearings, their cosines
-// and the factors of these.
+// The first point, where the inverse basis comes from, the squared edges, the bearings, their
+// cosines and the factors of these.
 pub struct Measured {
     pub p0: Vector3,
     pub source: Source,

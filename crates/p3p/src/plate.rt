@@ -1,5 +1,5 @@
-// A plate, the operations on it and the solve with it, over lent memory (document 02, §4). The plate
-// is read before anything is written, and a refusal writes nothing.
+// A plate, the operations on it and the solve with it, over lent memory (document 02, §4). The
+// plate is read before anything is written, and a refusal writes nothing.
 ghost use mathlib.Core.Path.{_≡_};
 ghost use Rattle.lent_answers.specs.Solved.{posesAfter, updatesAfter, liftedAfter, countAfter};
 ghost use Rattle.lent_answers.specs.Plated.{plateAfter, inverseAfter};

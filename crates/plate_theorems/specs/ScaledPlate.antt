@@ -1,6 +1,6 @@
--- The scaling rule for a plate multiplied by 2 ^ k (document 02, §4; demand 3 of the mission): where
--- the multiplication is not refused and the rule's premise holds of the two solves of the points,
--- the two answers with the plates are alike. Its proof is `scaled-plate` in the proofs.
+-- The scaling rule for a plate multiplied by 2 ^ k (document 02, §4; demand 3 of the mission):
+-- where the multiplication is not refused and the rule's premise holds of the two solves of the
+-- points, the two answers with the plates are alike. Its proof is `scaled-plate` in the proofs.
 use mathlib.Core.Path.{_≡_}
 use lib.IntN.{ℤ}
 use lib.Dec.{T}

@@ -1,5 +1,5 @@
--- The plate: document 02, §4, "three world points, the three squared edges, the inverse basis of the
--- given ordering and whether that inverse exists (plus zeros if not)".
+-- The plate: document 02, §4, "three world points, the three squared edges, the inverse basis of
+-- the given ordering and whether that inverse exists (plus zeros if not)".
 use mathlib.Core.Path.{_≡_}
 use mathlib.Core.Bool.{true, false}
 use Rattle.ieee754.specs.Literal.{plusZero}

@@ -1,7 +1,7 @@
 -- The solve with a plate: document 02, §4, "question 1 looks at its points and the bearings, the
--- stored edges serve every ordering, and the stored inverse, or its lack, only the given one (others
--- make theirs from the points)". It is `solve` of lambdatwist's specs/Solve otherwise, with its one
--- retry written out.
+-- stored edges serve every ordering, and the stored inverse, or its lack, only the given one
+-- (others make theirs from the points)". It is `solve` of lambdatwist's specs/Solve otherwise, with
+-- its one retry written out.
 use Prim.Native.Nat.{ℕ}
 use mathlib.Core.Bool.{Bool, not}
 use lib.Ieee.{le}

@@ -1,7 +1,7 @@
--- Multiplying all coordinates by 2^k: document 02, §4, "k outside -64 to 64 is 12, a coordinate that
--- is nonfinite, or whose exact scaled value has magnitude 2^1024 or more, or a nonzero one below
--- 2^-1022, is 13, asked in that order". `scalable` is the test of 13, the other way round, and the
--- product is exact.
+-- Multiplying all coordinates by 2^k: document 02, §4, "k outside -64 to 64 is 12, a coordinate
+-- that is nonfinite, or whose exact scaled value has magnitude 2^1024 or more, or a nonzero one
+-- below 2^-1022, is 13, asked in that order". `scalable` is the test of 13, the other way round,
+-- and the product is exact.
 use mathlib.Core.Bool.{Bool, not, _&&_}
 use lib.IntN.{ℤ}
 use Rattle.ieee754.specs.Traced.{if_then_else_}
