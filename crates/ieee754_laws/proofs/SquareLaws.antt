@@ -74,9 +74,11 @@ square-sum : (f : Format) (s t : Bool) (a b c : ℕ)
 unfolding sum
 square-sum f true true a b c = one-sign f true true a b c
 square-sum f true false a b c =
-    ap (λ (n : ℕ). square f (round f true n c)) (add-comm a b) ∙ square-round f true false (b + a) c
+    ap (λ (n : ℕ). square f (round f true n c)) (add-comm a b)
+    ∙ square-round f true false (b + a) c
 square-sum f false true a b c =
-    ap (λ (n : ℕ). square f (round f false n c)) (add-comm a b) ∙ square-round f false true (b + a) c
+    ap (λ (n : ℕ). square f (round f false n c)) (add-comm a b)
+    ∙ square-round f false true (b + a) c
 square-sum f false false a b c = one-sign f false false a b c
 
 pub square-difference : (f : Format) (x y : Float) → square f (sub f x y) ≡ square f (sub f y x)

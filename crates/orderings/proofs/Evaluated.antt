@@ -12,6 +12,6 @@ use Rattle.orderings.specs.Permutation.{withCondition, better, bestOf, b
 
 unfoldable pub evaluated : Unit {0}
 unfolding vectors-evaluated edgeVectors squaredEdges cosine cosines squaredSines bearingFactors
-    cubicCoefficients coefficientScale isUnusable basisOf measureWith measure measuredCubic foldedScale
-    leadingShare conditionOfEdges leadingCubicCondition withCondition better bestOf bestPermutation
+    cubicCoefficients coefficientScale isUnusable basisOf measureWith measure measuredCubic
+    foldedScale leadingShare conditionOfEdges leadingCubicCondition withCondition better bestOf bestPermutation
 evaluated = tt

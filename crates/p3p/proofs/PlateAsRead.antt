@@ -22,7 +22,8 @@ pub as-made : (points : List Float) {world : World} {o : Outcome}
 unfolding made
 as-made points w e = rw w at e
 
-module _ (xs : List Float) (hasInverse : ℕ) {plate : Plate} (p : plate ≡ plateIn xs hasInverse) where
+module _ (xs : List Float) (hasInverse : ℕ) {plate : Plate}
+    (p : plate ≡ plateIn xs hasInverse) where
   pub as-replaced : (target : ℕ) (point : List Float) {v : Vector3} {o : Outcome}
       → v ≡ vectorAt point 0
       → o ≡ replace plate target v

@@ -1,5 +1,7 @@
-// A plate, the operations on it and the solve with it, over lent memory (document 02, §4). The
-// plate is read before anything is written, and a refusal writes nothing.
+// A plate, the operations on it and the solve with it, over lent memory (document 02, §4): nine
+// doubles of points, the squared edges 01, 02 and 12, nine of the inverse by columns, and beside
+// these 21 whether there is an inverse. Targets have the numbers 0, 1 and 2. A refusal writes
+// nothing, of a making too.
 ghost use mathlib.Core.Path.{_≡_};
 ghost use Rattle.lent_answers.specs.Solved.{posesAfter, updatesAfter, liftedAfter, countAfter};
 ghost use Rattle.lent_answers.specs.Plated.{plateAfter, inverseAfter};
@@ -24,8 +26,11 @@ pub extern "C" fn p3p_plate_make(
     has_inverse: &mut u32,
 ) -> u32
     ensures { λ r. ⌜ r ≡ made (now (points .entry)) .refusal ⌝ }
-    ensures { λ _. ⌜ now (plate .exit) ≡ plateAfter (made (now (points .entry))) (now (plate .entry)) ⌝ }
-    ensures { λ _. ⌜ now («has_inverse» .exit) ≡ inverseAfter (made (now (points .entry))) (now («has_inverse» .entry)) ⌝ }
+    ensures { λ _.
+        ⌜ now (plate .exit) ≡ plateAfter (made (now (points .entry))) (now (plate .entry)) ⌝ }
+    ensures { λ _.
+        ⌜ now («has_inverse» .exit)
+        ≡ inverseAfter (made (now (points .entry))) (now («has_inverse» .entry)) ⌝ }
 {
     let world = world_at(points, 0);
     write_plate(make(world), plate, has_inverse)
@@ -39,9 +44,23 @@ pub extern "C" fn p3p_plate_replace(
     target: u32,
     point: &[f64; 3],
 ) -> u32
-    ensures { λ r. ⌜ r ≡ replaced (now (plate .entry)) (now («has_inverse» .entry)) target (now (point .entry)) .refusal ⌝ }
-    ensures { λ _. ⌜ now (plate .exit) ≡ plateAfter (replaced (now (plate .entry)) (now («has_inverse» .entry)) target (now (point .entry))) (now (plate .entry)) ⌝ }
-    ensures { λ _. ⌜ now («has_inverse» .exit) ≡ inverseAfter (replaced (now (plate .entry)) (now («has_inverse» .entry)) target (now (point .entry))) (now («has_inverse» .entry)) ⌝ }
+    ensures { λ r.
+        ⌜ r
+        ≡ replaced (now (plate .entry)) (now («has_inverse» .entry)) target
+        (now (point .entry))
+        .refusal ⌝ }
+    ensures { λ _.
+        ⌜ now (plate .exit)
+        ≡ plateAfter
+        (replaced (now (plate .entry)) (now («has_inverse» .entry)) target
+        (now (point .entry)))
+        (now (plate .entry)) ⌝ }
+    ensures { λ _.
+        ⌜ now («has_inverse» .exit)
+        ≡ inverseAfter
+        (replaced (now (plate .entry)) (now («has_inverse» .entry)) target
+        (now (point .entry)))
+        (now («has_inverse» .entry)) ⌝ }
 {
     let old = plate_in(plate, *has_inverse);
     let moved = vector_at(point, 0);
@@ -56,9 +75,20 @@ pub extern "C" fn p3p_plate_exchange(
     first: u32,
     second: u32,
 ) -> u32
-    ensures { λ r. ⌜ r ≡ exchanged (now (plate .entry)) (now («has_inverse» .entry)) first second .refusal ⌝ }
-    ensures { λ _. ⌜ now (plate .exit) ≡ plateAfter (exchanged (now (plate .entry)) (now («has_inverse» .entry)) first second) (now (plate .entry)) ⌝ }
-    ensures { λ _. ⌜ now («has_inverse» .exit) ≡ inverseAfter (exchanged (now (plate .entry)) (now («has_inverse» .entry)) first second) (now («has_inverse» .entry)) ⌝ }
+    ensures { λ r.
+        ⌜ r
+        ≡ exchanged (now (plate .entry)) (now («has_inverse» .entry)) first second
+        .refusal ⌝ }
+    ensures { λ _.
+        ⌜ now (plate .exit)
+        ≡ plateAfter
+        (exchanged (now (plate .entry)) (now («has_inverse» .entry)) first second)
+        (now (plate .entry)) ⌝ }
+    ensures { λ _.
+        ⌜ now («has_inverse» .exit)
+        ≡ inverseAfter
+        (exchanged (now (plate .entry)) (now («has_inverse» .entry)) first second)
+        (now («has_inverse» .entry)) ⌝ }
 {
     let old = plate_in(plate, *has_inverse);
     write_plate(exchange(old, first, second), plate, has_inverse)
@@ -67,9 +97,20 @@ pub extern "C" fn p3p_plate_exchange(
 // The plate with all coordinates multiplied by 2^k. Returns 0, 12 or 13.
 #[no_mangle]
 pub extern "C" fn p3p_plate_scale(plate: &mut [f64; 21], has_inverse: &mut u32, k: i32) -> u32
-    ensures { λ r. ⌜ r ≡ scaled (now (plate .entry)) (now («has_inverse» .entry)) k .refusal ⌝ }
-    ensures { λ _. ⌜ now (plate .exit) ≡ plateAfter (scaled (now (plate .entry)) (now («has_inverse» .entry)) k) (now (plate .entry)) ⌝ }
-    ensures { λ _. ⌜ now («has_inverse» .exit) ≡ inverseAfter (scaled (now (plate .entry)) (now («has_inverse» .entry)) k) (now («has_inverse» .entry)) ⌝ }
+    ensures { λ r.
+        ⌜ r
+        ≡ scaled (now (plate .entry)) (now («has_inverse» .entry)) k
+        .refusal ⌝ }
+    ensures { λ _.
+        ⌜ now (plate .exit)
+        ≡ plateAfter
+        (scaled (now (plate .entry)) (now («has_inverse» .entry)) k)
+        (now (plate .entry)) ⌝ }
+    ensures { λ _.
+        ⌜ now («has_inverse» .exit)
+        ≡ inverseAfter
+        (scaled (now (plate .entry)) (now («has_inverse» .entry)) k)
+        (now («has_inverse» .entry)) ⌝ }
 {
     let old = plate_in(plate, *has_inverse);
     write_plate(times_power(old, k), plate, has_inverse)

@@ -57,7 +57,10 @@ module _ (k : ℤ) where
       }
 
   -- ---- three
-  world-doubles : (w : World) → T (worldScalable k w) → DoubleWorld w → DoubleWorld (scaledWorld k w)
+  world-doubles : (w : World)
+      → T (worldScalable k w)
+      → DoubleWorld w
+      → DoubleWorld (scaledWorld k w)
   unfolding scaledWorld
   world-doubles w h d =
       let each = points-scalable k w h in

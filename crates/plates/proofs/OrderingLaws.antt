@@ -52,12 +52,11 @@ module _ (input : P3pInput) where
   unfolding permutation.withCondition leadingCubicCondition edgeVectors squaredEdges ordering
       orderedRays
   one-ordering i j k first second third =
+      let rays = orderedRays (input .bearings) i j k in
       let same : edgesOf (orderedWorld i j k) ≡ stored i j k =
       λ at. record { a01 = first at; a02 = second at; a12 = third at } in
       record {
-        condition =
-            ap (λ (e : SquaredEdges). conditionOfEdges e (orderedRays (input .bearings) i j k) .value)
-            same;
+        condition = ap (λ (e : SquaredEdges). conditionOfEdges e rays .value) same;
         world = refl;
         bearings = refl;
         squares = same;

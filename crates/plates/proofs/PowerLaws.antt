@@ -24,7 +24,8 @@ pub points-scalable : (k : ℤ) (world : World)
     × T (pointScalable k (world .p2))
 unfolding worldScalable
 points-scalable k world h =
-    three (pointScalable k (world .p0)) (pointScalable k (world .p1)) (pointScalable k (world .p2)) h
+    three (pointScalable k (world .p0)) (pointScalable k (world .p1))
+    (pointScalable k (world .p2)) h
 
 pub not-refused : (plate : Plate) (k : ℤ)
     → timesPower plate k .refusal ≡ 0

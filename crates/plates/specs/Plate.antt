@@ -13,10 +13,18 @@ use Rattle.plates.specs.Types.{World, SquaredEdges, Basis, Inverse, Sing
 
 -- points, their squared edges, and the basis of the given ordering
 unfoldable pub withBasis : World → SquaredEdges → Basis → Plate
-withBasis world edges (Inverse inverse) =
-    record { world = world; edges = edges; invertible = true; inverse = inverse }
-withBasis world edges Singular =
-    record { world = world; edges = edges; invertible = false; inverse = fromColumns zeros zeros zeros }
+withBasis world edges (Inverse inverse) = record {
+  world = world;
+  edges = edges;
+  invertible = true;
+  inverse = inverse;
+}
+withBasis world edges Singular = record {
+  world = world;
+  edges = edges;
+  invertible = false;
+  inverse = fromColumns zeros zeros zeros;
+}
 
 -- the plate worked out from three points: the first lines of `solve_ordered` (lambdatwist.rs), and
 -- its world_basis_inverse(d01, d02)

@@ -1,4 +1,5 @@
--- Targets, and what belongs to them, by number: 0, 1 and 2.
+-- Targets, and what belongs to them, by number: 0, 1 and 2. The operations refuse other numbers
+-- first; here they count as 2.
 use Prim.Native.Nat.{ℕ}
 use lib.Dec.{eqb}
 use lib.Ieee.{Float}

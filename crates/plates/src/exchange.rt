@@ -4,8 +4,8 @@ ghost use Rattle.plates.specs.Exchange.{exchanged, exchange};
 use crate::outcome::Outcome;
 use crate::outcome::done;
 use crate::plate::Plate;
-use crate::target::target;
-use crate::target::with_target;
+use crate::targets::target;
+use crate::targets::with_target;
 use frames::world::World;
 
 // The world with each of two targets in the other's place.

@@ -7,5 +7,5 @@ pub mod outcome;
 pub mod plate;
 pub mod replace;
 pub mod solve_plate;
-pub mod target;
+pub mod targets;
 pub mod times_power;

@@ -3,8 +3,8 @@
 ghost use mathlib.Core.Path.{_≡_};
 ghost use Rattle.plates.specs.Ordering.{orderedRays, orderedEdges, ordering, better};
 ghost use Rattle.plates.specs.Ordering.{bestOrdering};
-use crate::target::opposite;
-use crate::target::ray;
+use crate::targets::opposite;
+use crate::targets::ray;
 use frames::bearings::Bearings;
 use frames::squared_edges::SquaredEdges;
 use orderings::condition::condition_of_edges;

@@ -42,7 +42,7 @@ fn with_basis(world: World, edges: SquaredEdges, basis: Basis) -> Plate
 }
 
 // The plate of three points, worked out as solve_ordered (lambdatwist.rs) does.
-pub fn plate_of(world: World) -> Plate
+pub(crate) fn plate_of(world: World) -> Plate
     ensures { λ r. ⌜ r ≡ plateOf world .value ⌝ }
 {
     let vectors = edge_vectors(world);
@@ -53,7 +53,7 @@ pub fn plate_of(world: World) -> Plate
 }
 
 // Plus zeros, without inverse.
-pub fn zero_plate() -> Plate
+pub(crate) fn zero_plate() -> Plate
     ensures { λ r. ⌜ r ≡ zeroPlate ⌝ }
 {
     let zeros = Vector3::zeros();

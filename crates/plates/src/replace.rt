@@ -4,7 +4,7 @@ ghost use Rattle.plates.specs.Replace as Replace;
 use crate::outcome::Outcome;
 use crate::outcome::done;
 use crate::plate::Plate;
-use crate::target::with_target;
+use crate::targets::with_target;
 use linalg::vector3::Vector3;
 
 // Refused with 1 where the new point is not finite, then with 11 where there is no such target. The

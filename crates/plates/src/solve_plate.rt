@@ -7,7 +7,7 @@ use crate::ordering::best_ordering;
 use crate::ordering::ordered_edges;
 use crate::ordering::ordered_rays;
 use crate::plate::Plate;
-use crate::target::target;
+use crate::targets::target;
 use frames::bearings::Bearings;
 use frames::squared_edges::SquaredEdges;
 use ieee754::literal::EPSILON;

@@ -10,7 +10,7 @@ use ieee754_parts::format::LEADING;
 use ieee754_parts::pack::pack_finite;
 
 // 2^k: LEADING is 2^52, at 2^(k + 1022) / 2^1074.
-pub fn power_of_two(k: i32) -> f64
+fn power_of_two(k: i32) -> f64
     requires { ⌜ T (inReach k) ⌝ }
     ensures { λ r. ⌜ r ≡ fin false 1 k ⌝ }
 {

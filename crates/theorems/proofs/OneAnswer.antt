@@ -169,9 +169,9 @@ module _ (input : P3pInput) (finite : T (inputFinite input)) where
       let best = bestPermutation input .value in
       let low : Bool = le (best .condition) (mul binary64 sixtyFour epsilon) in
       let other : Bool = orderingUnusable (best .world) (best .bearings) in
-      orderings-one (inputFinite input) (orderingUnusable (input .world) (input .bearings)) low other
-      (bestOr (solveOrdered 0) input) (solveOrdered 0 input (best .world) (best .bearings)) input _ _
-      finite refl
+      orderings-one (inputFinite input) (orderingUnusable (input .world) (input .bearings)) low
+      other (bestOr (solveOrdered 0) input) (solveOrdered 0 input (best .world) (best .bearings))
+      input _ _ finite refl
       (λ n again usable.
       ordering-one (inputFinite input) other (noOrdering input) (pure (refused 2)) input _ _ finite
       again usable)

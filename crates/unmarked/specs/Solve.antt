@@ -48,7 +48,8 @@ stopped = pure (refused 3)
 
 -- ---- the stages of `solve_ordered`, from the last to the first
 
--- let Some(world_inverse) = world_basis_inverse(d01, d02) else { .. }, and the poses
+-- let Some(world_inverse) = world_basis_inverse(d01, d02) else { .. }, and the poses (`basisOf` is
+-- since document 02, §4)
 unfoldable pub solveCandidates : P3pInput → Measured → Candidates → Traced Answer
 solveCandidates input measured found = do
   basis ← basisOf (measured .source)

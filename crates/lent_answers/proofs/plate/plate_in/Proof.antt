@@ -10,13 +10,14 @@ returns c =
     let third = c .before in
     let second = third .before .before in
     let first = second .before .before in
-    let second-edge = first .before .before .before in
+    let third-edge = first .before .before in
+    let first-edge = third-edge .before .before in
     rw (
       c .from-columns .ensures,
       third .vector-at3 .ensures,
       second .vector-at2 .ensures,
       first .vector-at .ensures,
-      second-edge .before .before .world-at .ensures,
+      first-edge .before .world-at .ensures,
     )
 
 pub plate-in-spec : {M : Type 1} → statement M

@@ -6,9 +6,12 @@ use Rattle.p3p.proofs.plate.p3p_plate_exchange.Tie as tie
 
 returns : tie.Need-returns
 returns c =
-    let outcome = c .before .before .before in
+    -- the two lent places are handed on
+    let lent = c .before .before in
+    let outcome = lent .before in
     let plate = outcome .before in
-    let start = plate .before .before .before in
+    let flag = plate .before .before in
+    let start = flag .before in
     let found =
     as-exchanged _ _ (plate .plate-in .ensures) (start .args .first) (start .args .second)
     (outcome .exchange .ensures) in

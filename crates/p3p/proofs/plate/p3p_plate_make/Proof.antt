@@ -6,7 +6,9 @@ use Rattle.p3p.proofs.plate.p3p_plate_make.Tie as tie
 
 returns : tie.Need-returns
 returns c =
-    let outcome = c .before .before .before in
+    -- the two lent places are handed on
+    let lent = c .before .before in
+    let outcome = lent .before in
     rw (← as-made _ (outcome .before .world-at .ensures) (outcome .make .ensures))
     (c .write-plate .ensures)
 

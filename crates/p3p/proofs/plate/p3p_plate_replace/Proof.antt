@@ -6,10 +6,13 @@ use Rattle.p3p.proofs.plate.p3p_plate_replace.Tie as tie
 
 returns : tie.Need-returns
 returns c =
-    let outcome = c .before .before .before in
+    -- the two lent places are handed on
+    let lent = c .before .before in
+    let outcome = lent .before in
     let point = outcome .before in
     let plate = point .before .before in
-    let start = plate .before .before .before in
+    let flag = plate .before .before in
+    let start = flag .before in
     let found =
     as-replaced _ _ (plate .plate-in .ensures) (start .args .target) _ (point .vector-at .ensures)
     (outcome .replace .ensures) in

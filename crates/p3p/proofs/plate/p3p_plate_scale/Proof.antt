@@ -8,9 +8,12 @@ use Rattle.p3p.proofs.plate.p3p_plate_scale.Tie as tie
 
 returns : tie.Need-returns
 returns c =
-    let outcome = c .before .before .before in
+    -- the two lent places are handed on
+    let lent = c .before .before in
+    let outcome = lent .before in
     let plate = outcome .before in
-    let start = plate .before .before .before in
+    let flag = plate .before .before in
+    let start = flag .before in
     let k = start .args .k in
     let same = toZ-ofZ w32 k (start .fits .k) in
     let found =

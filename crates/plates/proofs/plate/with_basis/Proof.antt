@@ -20,4 +20,5 @@ returns-2 c =
 
 pub with-basis-spec : {M : Type 1} → statement M
 with-basis-spec =
-    tie.close (tie.spec (λ c _. search needs) (λ c. search needs) (λ c. search needs) (λ c _. search needs) returns returns-2)
+    tie.close (tie.spec (λ c _. search needs) (λ c. search needs) (λ c. search needs)
+    (λ c _. search needs) returns returns-2)

@@ -21,13 +21,14 @@ returns-2 : tie.Need-returns-2
 unfolding solveBestOrdering solveMeasured
 returns-2 c =
     let tested = c .before in
-    let measured = tested .before .before .before in
+    let cubic = tested .before .before in
+    let measured = cubic .before in
     let limited = measured .before in
     rw (
       ← limited .before .before .best-ordering .ensures,
       limited .if1 .left,
       ← measured .measure-ordering .ensures,
-      ← tested .before .before .measured-cubic .ensures,
+      ← cubic .measured-cubic .ensures,
       ← tested .before .is-unusable .ensures,
       tested .if2 .taken,
       ← c .refused2 .ensures,
@@ -42,15 +43,16 @@ unfolding solveBestOrdering solveMeasured
 returns-3 c =
     let after-held = c .before in
     let after-solve-cubic = after-held .before in
-    let lent = after-solve-cubic .before .before .before in
-    let tested = lent .before in
-    let measured = tested .before .before .before in
+    let two-lent = after-solve-cubic .before .before in
+    let tested = two-lent .before .before in
+    let cubic = tested .before .before in
+    let measured = cubic .before in
     let limited = measured .before in
     rw (
       ← limited .before .before .best-ordering .ensures,
       limited .if1 .left,
       ← measured .measure-ordering .ensures,
-      ← tested .before .before .measured-cubic .ensures,
+      ← cubic .measured-cubic .ensures,
       ← tested .before .is-unusable .ensures,
       tested .if2 .left,
     )

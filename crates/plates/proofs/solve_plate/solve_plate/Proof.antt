@@ -18,12 +18,13 @@ returns-2 : tie.Need-returns-2
 unfolding solvePlate solveMeasured
 returns-2 c =
     let tested = c .before in
-    let measured = tested .before .before .before in
+    let cubic = tested .before .before in
+    let measured = cubic .before in
     rw (
       ← measured .before .before .input-finite .ensures,
       measured .before .if1 .left,
       ← measured .measure-plate .ensures,
-      ← tested .before .before .measured-cubic .ensures,
+      ← cubic .measured-cubic .ensures,
       ← tested .before .is-unusable .ensures,
       tested .if2 .taken,
     )
@@ -33,12 +34,13 @@ returns-3 : tie.Need-returns-3
 unfolding solvePlate solveMeasured
 returns-3 c =
     let tested = c .before in
-    let measured = tested .before .before .before in
+    let cubic = tested .before .before in
+    let measured = cubic .before in
     rw (
       ← measured .before .before .input-finite .ensures,
       measured .before .if1 .left,
       ← measured .measure-plate .ensures,
-      ← tested .before .before .measured-cubic .ensures,
+      ← cubic .measured-cubic .ensures,
       ← tested .before .is-unusable .ensures,
       tested .if2 .left,
     )

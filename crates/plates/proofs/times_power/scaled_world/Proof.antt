@@ -40,4 +40,5 @@ returns c =
 
 pub scaled-world-spec : {M : Type 1} → statement M
 scaled-world-spec =
-    tie.close (tie.spec scaled-point-requires scaled-point-requires-2 scaled-point-requires-3 returns)
+    tie.close (tie.spec scaled-point-requires scaled-point-requires-2 scaled-point-requires-3
+    returns)

@@ -1,4 +1,5 @@
-// Targets, and what belongs to them, by number: 0, 1 and 2.
+// Targets, and what belongs to them, by number: 0, 1 and 2. The operations refuse other numbers
+// first; here they count as 2.
 ghost use mathlib.Core.Path.{_≡_};
 ghost use Rattle.plates.specs.Target.{target, ray, opposite, withTarget};
 use frames::bearings::Bearings;
@@ -6,7 +7,7 @@ use frames::squared_edges::SquaredEdges;
 use frames::world::World;
 use linalg::vector3::Vector3;
 
-pub fn target(world: World, number: u32) -> Vector3
+pub(crate) fn target(world: World, number: u32) -> Vector3
     ensures { λ r. ⌜ r ≡ target world number ⌝ }
 {
     let p0 = world.p0;
@@ -22,7 +23,7 @@ pub fn target(world: World, number: u32) -> Vector3
 }
 
 // The bearing to a target.
-pub fn ray(bearings: Bearings, number: u32) -> Vector3
+pub(crate) fn ray(bearings: Bearings, number: u32) -> Vector3
     ensures { λ r. ⌜ r ≡ ray bearings number ⌝ }
 {
     let f0 = bearings.f0;
@@ -38,7 +39,7 @@ pub fn ray(bearings: Bearings, number: u32) -> Vector3
 }
 
 // The squared edge opposite to a target, between the other two.
-pub fn opposite(edges: SquaredEdges, number: u32) -> f64
+pub(crate) fn opposite(edges: SquaredEdges, number: u32) -> f64
     ensures { λ r. ⌜ r ≡ opposite edges number ⌝ }
 {
     if number == 0 {
@@ -51,7 +52,7 @@ pub fn opposite(edges: SquaredEdges, number: u32) -> f64
 }
 
 // The world with one target moved to a point.
-pub fn with_target(world: World, number: u32, point: Vector3) -> World
+pub(crate) fn with_target(world: World, number: u32, point: Vector3) -> World
     ensures { λ r. ⌜ r ≡ withTarget world number point ⌝ }
 {
     let p0 = world.p0;
