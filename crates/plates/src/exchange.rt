@@ -4,7 +4,7 @@ ghost use Rattle.plates.specs.Exchange.{exchanged, exchange};
 use crate::outcome::Outcome;
 use crate::outcome::done;
 use crate::plate::Plate;
-use crate::targets::target;
+use crate::targets::target_of;
 use crate::targets::with_target;
 use frames::world::World;
 
@@ -12,8 +12,8 @@ use frames::world::World;
 fn exchanged(world: World, first: u32, second: u32) -> World
     ensures { λ r. ⌜ r ≡ exchanged world first second ⌝ }
 {
-    let p = target(world, first);
-    let q = target(world, second);
+    let p = target_of(world, first);
+    let q = target_of(world, second);
     with_target(with_target(world, first, q), second, p)
 }
 

@@ -7,7 +7,7 @@ use crate::ordering::best_ordering;
 use crate::ordering::ordered_edges;
 use crate::ordering::ordered_rays;
 use crate::plate::Plate;
-use crate::targets::target;
+use crate::targets::target_of;
 use frames::bearings::Bearings;
 use frames::squared_edges::SquaredEdges;
 use ieee754::literal::EPSILON;
@@ -52,9 +52,9 @@ fn measure_ordering(input: P3pInput, edges: SquaredEdges, i: u32, j: u32, k: u32
 {
     let world = input.world;
     let bearings = input.bearings;
-    let p0 = target(world, i);
-    let p1 = target(world, j);
-    let p2 = target(world, k);
+    let p0 = target_of(world, i);
+    let p1 = target_of(world, j);
+    let p2 = target_of(world, k);
     let d01 = p0.sub(p1);
     let d02 = p0.sub(p2);
     let squares = ordered_edges(edges, i, j, k);

@@ -7,7 +7,7 @@ use frames::squared_edges::SquaredEdges;
 use frames::world::World;
 use linalg::vector3::Vector3;
 
-pub(crate) fn target(world: World, number: u32) -> Vector3
+pub(crate) fn target_of(world: World, number: u32) -> Vector3
     ensures { λ r. ⌜ r ≡ target world number ⌝ }
 {
     let p0 = world.p0;

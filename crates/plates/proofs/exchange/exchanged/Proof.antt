@@ -9,8 +9,8 @@ unfolding exchanged
 returns c =
     let moved = c .before in
     rw (
-      ← moved .before .before .target .ensures,
-      ← moved .before .target2 .ensures,
+      ← moved .before .before .target-of .ensures,
+      ← moved .before .target-of2 .ensures,
       ← moved .with-target .ensures,
     )
     (c .with-target2 .ensures)

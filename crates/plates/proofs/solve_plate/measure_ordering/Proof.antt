@@ -11,9 +11,9 @@ returns c =
     let first = squares .before .before in
     let third = first .before in
     rw (
-      ← third .before .before .target .ensures,
-      ← third .before .target2 .ensures,
-      ← third .target3 .ensures,
+      ← third .before .before .target-of .ensures,
+      ← third .before .target-of2 .ensures,
+      ← third .target-of3 .ensures,
       ← first .sub .ensures,
       ← squares .before .sub2 .ensures,
       ← squares .ordered-edges .ensures,
