@@ -43,7 +43,7 @@ pub enum Found {
 
 // The bytes of a record.
 fn length(subject: Subject) -> usize
-    ensures { λ r. ⌜ (r ≡ 8 * subjectWords subject) × (r ≤ 664) ⌝ }
+    ensures { λ r. ⌜ (r ≡ 8 * subjectWords subject) × (r ≤ 712) ⌝ }
 {
     match subject {
         Subject::Single(operation) => operations::length(operation),
@@ -57,7 +57,7 @@ fn length(subject: Subject) -> usize
 }
 
 // Whether the function gives the record's answer.
-fn holds(subject: Subject, s: &[u8; 664]) -> bool
+fn holds(subject: Subject, s: &[u8; 712]) -> bool
     ensures { λ r. ⌜ r ≡ subjectHolds subject (now (s .entry)) ⌝ }
 {
     match subject {
@@ -73,7 +73,7 @@ fn holds(subject: Subject, s: &[u8; 664]) -> bool
 
 // Reads the next record and tries it.
 fn step(fd: i32, subject: Subject) -> Found {
-    let mut record = [0u8; 664];
+    let mut record = [0u8; 712];
     let n = length(subject);
     let got = io::read_full(fd, &mut record[..n]);
     if got == 0 {
