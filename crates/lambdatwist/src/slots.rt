@@ -74,12 +74,7 @@ pub(crate) fn store(
 }
 
 // The solutions that `count` filled slots hold.
-pub fn held(
-    count: usize,
-    slots: [[f64; 12]; 4],
-    updates: [u32; 4],
-    lifted: [bool; 4],
-) -> Solutions
+pub fn held(count: usize, slots: [[f64; 12]; 4], updates: [u32; 4], lifted: [bool; 4]) -> Solutions
     ensures { λ r. ⌜ r ≡ held count slots updates lifted ⌝ }
 {
     let p0 = pose_of(slots[0]);
