@@ -6,7 +6,7 @@ some must be found to differ.
     python3 tests/replay/make.py --check   say whether the files are those that this script makes
 
 Each is made of a stored record, the answer of exact arithmetic (data/exact) or the Rust's
-(data/rust), by changing one bit of the answer or by cutting it short:
+(data/rust), by changing one bit of the answer, once of an argument, or by cutting it short:
 
     sqrt.bin          as it is stored; with the last bit of the root changed; without its last byte,
                       which is 0, as is what the program's array holds there before it reads
@@ -21,7 +21,7 @@ Each is made of a stored record, the answer of exact arithmetic (data/exact) or 
     plate_scale.bin   a scaled plate as it is stored; with the last bit of the inverse's last entry
                       changed; with the word changed that says whether there is an inverse; with an
                       exponent 2^32 greater; a refusal as it is stored; with the last bit of the
-                      point's x changed in the plate that is given back
+                      first point's x changed in the plate that is given back
     plate_solve.bin   an answer as it is stored; with the last bit of slot 1's last word changed"""
 
 import os
