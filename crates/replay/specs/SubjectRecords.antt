@@ -10,8 +10,9 @@ use Rattle.replay_pieces.specs.PieceRecords.{pieceHolds, pieceWords}
 use Rattle.replay_stages.specs.StageRecords.{stageHolds, stageWords}
 use Rattle.replay_about.specs.ChooseAboutRecords.{chooseAboutHolds, chooseAboutWords}
 use Rattle.replay_about.specs.SolveAboutRecords.{solveAboutHolds, solveAboutWords}
+use Rattle.replay_plates.specs.HandlingRecords.{handlingHolds, handlingWords}
 use Rattle.replay.specs.Types.{Subject, Single, Root, Shared, Whole, Chosen}
-use Rattle.replay.specs.Types.{SolvedAbout, ChosenAbout}
+use Rattle.replay.specs.Types.{SolvedAbout, ChosenAbout, Plated}
 
 abbrev pub subjectHolds : Subject → List ℕ → Bool
 subjectHolds (Single operation) s = operationHolds operation s
@@ -21,6 +22,7 @@ subjectHolds (Whole stage) s = stageHolds stage s
 subjectHolds Chosen s = choiceHolds s
 subjectHolds SolvedAbout s = solveAboutHolds s
 subjectHolds ChosenAbout s = chooseAboutHolds s
+subjectHolds (Plated handling) s = handlingHolds handling s
 
 abbrev pub subjectWords : Subject → ℕ
 subjectWords (Single operation) = operationWords operation
@@ -30,3 +32,4 @@ subjectWords (Whole stage) = stageWords stage
 subjectWords Chosen = choiceWords
 subjectWords SolvedAbout = solveAboutWords
 subjectWords ChosenAbout = chooseAboutWords
+subjectWords (Plated handling) = handlingWords handling

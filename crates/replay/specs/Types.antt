@@ -8,4 +8,5 @@ pub use Rattle.replay.specs.declared.Subject.the-variants.{
   Chosen,
   SolvedAbout,
   ChosenAbout,
+  Plated,
 }

@@ -1,13 +1,15 @@
 // Runs the functions on the records in data/ and says of each file how many answers differ from the
 // stored bits: data/exact has the answers of exact arithmetic to the single operations
-// (tests/ieee754), data/rust the Rust's, and to what the Rust does not have, the choice and the
-// solve about the first target, those of reference/. A file holds records of words: the arguments,
-// then the answer. That each record is compared as the definitions say is proved; that records are
-// read, and differences counted, no contract can say, so the files of data/control (tests/replay)
-// have records that must differ: of sqrt's three one is right, one wrong in its last bit and one
-// cut short; of frame's four one is right, one wrong in a bit of slot 1, one in its refusal number
-// and one in slot 1's mark; and of about's four two are right, an answer and a refusal, and two
-// wrong in a bit of the origin.
+// (tests/ieee754), data/rust the Rust's, and to what the Rust does not have, the choice, the solve
+// about the first target and plates, those of reference/. A file holds records of words: the
+// arguments, then the answer. That each record is compared as the definitions say is proved; that
+// records are read, and differences counted, no contract can say, so the files of data/control
+// (tests/replay) have records that must differ: of sqrt's three one is right, one wrong in its last
+// bit and one cut short; of frame's four one is right, one wrong in a bit of slot 1, one in its
+// refusal number and one in slot 1's mark; of about's four two are right, an answer and a refusal,
+// and two wrong in a bit of the origin; of choice_about's five two are right, a choice and a
+// refusal; of plate_scale's six two, a scaled plate and a refusal, and one has an exponent beyond
+// 32 bits; of plate_solve's two one, the other wrong in the last word of slot 1.
 ghost use mathlib.Core.Path.{_≡_};
 ghost use Prim.Native.Nat.{_*_, _≤_};
 ghost use Rattle.replay.specs.SubjectRecords.{subjectHolds, subjectWords};
@@ -20,6 +22,8 @@ use replay_doubles::roots::Finder;
 use replay_pieces::chosen;
 use replay_pieces::pieces;
 use replay_pieces::pieces::Piece;
+use replay_plates::handlings;
+use replay_plates::handlings::Handling;
 use replay_stages::stages;
 use replay_stages::stages::Stage;
 
@@ -31,6 +35,7 @@ pub enum Subject {
     Chosen,
     SolvedAbout,
     ChosenAbout,
+    Plated(Handling),
 }
 
 // What a step through a file found: a record that agrees, one that differs or is cut short, or
@@ -43,7 +48,7 @@ pub enum Found {
 
 // The bytes of a record.
 fn length(subject: Subject) -> usize
-    ensures { λ r. ⌜ (r ≡ 8 * subjectWords subject) × (r ≤ 664) ⌝ }
+    ensures { λ r. ⌜ (r ≡ 8 * subjectWords subject) × (r ≤ 712) ⌝ }
 {
     match subject {
         Subject::Single(operation) => operations::length(operation),
@@ -53,11 +58,12 @@ fn length(subject: Subject) -> usize
         Subject::Chosen => chosen::length(),
         Subject::SolvedAbout => solved_about::length(),
         Subject::ChosenAbout => chosen_about::length(),
+        Subject::Plated(handling) => handlings::length(handling),
     }
 }
 
 // Whether the function gives the record's answer.
-fn holds(subject: Subject, s: &[u8; 664]) -> bool
+fn holds(subject: Subject, s: &[u8; 712]) -> bool
     ensures { λ r. ⌜ r ≡ subjectHolds subject (now (s .entry)) ⌝ }
 {
     match subject {
@@ -68,12 +74,13 @@ fn holds(subject: Subject, s: &[u8; 664]) -> bool
         Subject::Chosen => chosen::holds(s),
         Subject::SolvedAbout => solved_about::holds(s),
         Subject::ChosenAbout => chosen_about::holds(s),
+        Subject::Plated(handling) => handlings::holds(handling, s),
     }
 }
 
 // Reads the next record and tries it.
 fn step(fd: i32, subject: Subject) -> Found {
-    let mut record = [0u8; 664];
+    let mut record = [0u8; 712];
     let n = length(subject);
     let got = io::read_full(fd, &mut record[..n]);
     if got == 0 {
@@ -118,6 +125,9 @@ fn main() {
     compare(Subject::Single(Operation::Sqrt), b"control/sqrt.bin");
     compare(Subject::Whole(Stage::Frame), b"control/frame.bin");
     compare(Subject::SolvedAbout, b"control/about.bin");
+    compare(Subject::ChosenAbout, b"control/choice_about.bin");
+    compare(Subject::Plated(Handling::Scale), b"control/plate_scale.bin");
+    compare(Subject::Plated(Handling::Solve), b"control/plate_solve.bin");
     compare(Subject::Single(Operation::Abs), b"exact/abs.bin");
     compare(Subject::Single(Operation::Copysign), b"exact/copysign.bin");
     compare(Subject::Single(Operation::Max), b"exact/max.bin");
@@ -148,4 +158,15 @@ fn main() {
     compare(Subject::Chosen, b"rust/choice.bin");
     compare(Subject::SolvedAbout, b"rust/about.bin");
     compare(Subject::ChosenAbout, b"rust/choice_about.bin");
+    compare(Subject::Plated(Handling::Make), b"rust/plate_make.bin");
+    compare(
+        Subject::Plated(Handling::Replace),
+        b"rust/plate_replace.bin",
+    );
+    compare(
+        Subject::Plated(Handling::Exchange),
+        b"rust/plate_exchange.bin",
+    );
+    compare(Subject::Plated(Handling::Scale), b"rust/plate_scale.bin");
+    compare(Subject::Plated(Handling::Solve), b"rust/plate_solve.bin");
 }

@@ -11,21 +11,14 @@ use Rattle.p3p_common.specs.RotationFromEdges.{rotationFromEdges}
 use Rattle.p3p_common.specs.WorldBasisInverse.{worldBasisInverse}
 use Rattle.refinement.specs.RefineDepths.{refineDepths}
 use Rattle.replay_words.specs.Words.{wordAt}
-use Rattle.replay_records.specs.Contents.{doubleAt, narrow, vectorAt, matrixAt}
+use Rattle.replay_records.specs.Contents.{doubleAt, narrow, vectorAt, matrixAt, squaresAt}
 use Rattle.replay_records.specs.Agreement.{numberAgrees, flag, vectorAgrees, matrixAgrees}
 use Rattle.replay_pieces.specs.PushRecords.{pushHolds}
-use Rattle.replay_pieces.specs.Types.{SquaredEdges, Cosines, Refined, Projection, Rotation}
+use Rattle.replay_pieces.specs.Types.{Cosines, Refined, Projection, Rotation}
 use Rattle.replay_pieces.specs.Types.{Refused, Basis, Inverse, Singular, Piece, Refine, Ray}
 use Rattle.replay_pieces.specs.Types.{Near, Project, WorldBasis, Edges, Push}
 
 -- ---- depths, squared edges, cosines and the limit; the updates and the depths
-unfoldable pub squaresAt : List ℕ → ℕ → SquaredEdges
-squaresAt s at = record {
-  a01 = doubleAt s at;
-  a02 = doubleAt s (at + 8);
-  a12 = doubleAt s (at + 16);
-}
-
 unfoldable pub cosinesAt : List ℕ → ℕ → Cosines
 cosinesAt s at = record {
   m01 = doubleAt s at;

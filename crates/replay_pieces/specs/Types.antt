@@ -3,7 +3,6 @@
 pub use Rattle.linalg.specs.declared.vector3.Vector3.{Vector3}
 pub use Rattle.frames.specs.declared.cosines.Cosines.{Cosines}
 pub use Rattle.frames.specs.declared.pose.Pose.{Pose}
-pub use Rattle.frames.specs.declared.squared_edges.SquaredEdges.{SquaredEdges}
 pub use Rattle.refinement.specs.declared.refine_depths.Refined.{Refined}
 pub use Rattle.p3p_common.specs.declared.input.P3pInput.{P3pInput}
 pub use Rattle.p3p_common.specs.declared.project_to_rotation.Projection.{Projection}

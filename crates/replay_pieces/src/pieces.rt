@@ -3,14 +3,13 @@
 // says.
 ghost use mathlib.Core.Path.{_≡_};
 ghost use Prim.Native.Nat.{_*_, _≤_};
-ghost use Rattle.replay_pieces.specs.PieceRecords.{squaresAt, cosinesAt, refinedAgrees};
+ghost use Rattle.replay_pieces.specs.PieceRecords.{cosinesAt, refinedAgrees};
 ghost use Rattle.replay_pieces.specs.PieceRecords.{refineHolds, rayHolds, nearHolds};
 ghost use Rattle.replay_pieces.specs.PieceRecords.{projectionAgrees, projectHolds};
 ghost use Rattle.replay_pieces.specs.PieceRecords.{basisAgrees, basisHolds, edgesHold};
 ghost use Rattle.replay_pieces.specs.PieceRecords.{pieceHolds, pieceWords};
 use crate::push::push_holds;
 use frames::cosines::Cosines;
-use frames::squared_edges::SquaredEdges;
 use p3p_common::has_near_orthonormal_columns::has_near_orthonormal_columns;
 use p3p_common::project_to_rotation::Projection;
 use p3p_common::project_to_rotation::project_to_rotation;
@@ -27,6 +26,7 @@ use replay_records::agreement::vector_agrees;
 use replay_records::contents::double_at;
 use replay_records::contents::matrix_at;
 use replay_records::contents::narrow;
+use replay_records::contents::squares_at;
 use replay_records::contents::vector_at;
 use replay_words::word;
 
@@ -42,7 +42,7 @@ pub enum Piece {
 
 // The bytes of a record.
 pub fn length(piece: Piece) -> usize
-    ensures { λ r. ⌜ (r ≡ 8 * pieceWords piece) × (r ≤ 664) ⌝ }
+    ensures { λ r. ⌜ (r ≡ 8 * pieceWords piece) × (r ≤ 712) ⌝ }
 {
     match piece {
         Piece::Refine => 112,
@@ -55,19 +55,8 @@ pub fn length(piece: Piece) -> usize
     }
 }
 
-fn squares_at(s: &[u8; 664], at: usize) -> SquaredEdges
-    requires { ⌜ at ≤ 640 ⌝ }
-    ensures { λ r. ⌜ r ≡ squaresAt (now (s .entry)) at ⌝ }
-{
-    SquaredEdges {
-        a01: double_at(s, at),
-        a02: double_at(s, at + 8),
-        a12: double_at(s, at + 16),
-    }
-}
-
-fn cosines_at(s: &[u8; 664], at: usize) -> Cosines
-    requires { ⌜ at ≤ 640 ⌝ }
+fn cosines_at(s: &[u8; 712], at: usize) -> Cosines
+    requires { ⌜ at ≤ 688 ⌝ }
     ensures { λ r. ⌜ r ≡ cosinesAt (now (s .entry)) at ⌝ }
 {
     Cosines {
@@ -77,7 +66,7 @@ fn cosines_at(s: &[u8; 664], at: usize) -> Cosines
     }
 }
 
-fn refined_agrees(refined: Refined, s: &[u8; 664]) -> bool
+fn refined_agrees(refined: Refined, s: &[u8; 712]) -> bool
     ensures { λ r. ⌜ r ≡ refinedAgrees refined (now (s .entry)) ⌝ }
 {
     let depths = refined.depths;
@@ -85,7 +74,7 @@ fn refined_agrees(refined: Refined, s: &[u8; 664]) -> bool
 }
 
 // Depths, squared edges, cosines and the limit; the updates and the depths.
-fn refine_holds(s: &[u8; 664]) -> bool
+fn refine_holds(s: &[u8; 712]) -> bool
     ensures { λ r. ⌜ r ≡ refineHolds (now (s .entry)) ⌝ }
 {
     let depths = vector_at(s, 0);
@@ -96,7 +85,7 @@ fn refine_holds(s: &[u8; 664]) -> bool
 }
 
 // The camera point and the bearing; whether they fit.
-fn ray_holds(s: &[u8; 664]) -> bool
+fn ray_holds(s: &[u8; 712]) -> bool
     ensures { λ r. ⌜ r ≡ rayHolds (now (s .entry)) ⌝ }
 {
     let camera = vector_at(s, 0);
@@ -105,13 +94,13 @@ fn ray_holds(s: &[u8; 664]) -> bool
 }
 
 // The matrix; whether it is near a rotation.
-fn near_holds(s: &[u8; 664]) -> bool
+fn near_holds(s: &[u8; 712]) -> bool
     ensures { λ r. ⌜ r ≡ nearHolds (now (s .entry)) ⌝ }
 {
     number_agrees(flag(has_near_orthonormal_columns(matrix_at(s, 0))), s, 72)
 }
 
-fn projection_agrees(projection: Projection, s: &[u8; 664]) -> bool
+fn projection_agrees(projection: Projection, s: &[u8; 712]) -> bool
     ensures { λ r. ⌜ r ≡ projectionAgrees projection (now (s .entry)) ⌝ }
 {
     match projection {
@@ -121,13 +110,13 @@ fn projection_agrees(projection: Projection, s: &[u8; 664]) -> bool
 }
 
 // The matrix; whether there is a rotation, and the rotation.
-fn project_holds(s: &[u8; 664]) -> bool
+fn project_holds(s: &[u8; 712]) -> bool
     ensures { λ r. ⌜ r ≡ projectHolds (now (s .entry)) ⌝ }
 {
     projection_agrees(project_to_rotation(matrix_at(s, 0)), s)
 }
 
-fn basis_agrees(basis: Basis, s: &[u8; 664]) -> bool
+fn basis_agrees(basis: Basis, s: &[u8; 712]) -> bool
     ensures { λ r. ⌜ r ≡ basisAgrees basis (now (s .entry)) ⌝ }
 {
     match basis {
@@ -137,7 +126,7 @@ fn basis_agrees(basis: Basis, s: &[u8; 664]) -> bool
 }
 
 // Two edges; whether there is an inverse, and the inverse.
-fn basis_holds(s: &[u8; 664]) -> bool
+fn basis_holds(s: &[u8; 712]) -> bool
     ensures { λ r. ⌜ r ≡ basisHolds (now (s .entry)) ⌝ }
 {
     let first = vector_at(s, 0);
@@ -146,7 +135,7 @@ fn basis_holds(s: &[u8; 664]) -> bool
 }
 
 // Two edges and the inverse; the rotation.
-fn edges_hold(s: &[u8; 664]) -> bool
+fn edges_hold(s: &[u8; 712]) -> bool
     ensures { λ r. ⌜ r ≡ edgesHold (now (s .entry)) ⌝ }
 {
     let first = vector_at(s, 0);
@@ -156,7 +145,7 @@ fn edges_hold(s: &[u8; 664]) -> bool
 }
 
 // Whether the function gives the record's answer.
-pub fn holds(piece: Piece, s: &[u8; 664]) -> bool
+pub fn holds(piece: Piece, s: &[u8; 712]) -> bool
     ensures { λ r. ⌜ r ≡ pieceHolds piece (now (s .entry)) ⌝ }
 {
     match piece {

@@ -10,6 +10,7 @@ use Rattle.linalg.specs.Matrices.{fromColumns}
 use Rattle.frames.specs.Points.{points, rays}
 use Rattle.replay_words.specs.Words.{wordAt}
 use Rattle.replay_records.specs.Types.{Vector3, Matrix3, World, Bearings, Pose}
+use Rattle.replay_records.specs.Types.{SquaredEdges}
 
 unfoldable pub doubleAt : List ℕ → ℕ → Float
 doubleAt s at = ofBits binary64 (wordAt s at)
@@ -32,3 +33,10 @@ bearingsAt s at = rays (vectorAt s at) (vectorAt s (at + 24)) (vectorAt s (at + 
 
 unfoldable pub poseAt : List ℕ → ℕ → Pose
 poseAt s at = record { rotation = matrixAt s at; translation = vectorAt s (at + 72) }
+
+unfoldable pub squaresAt : List ℕ → ℕ → SquaredEdges
+squaresAt s at = record {
+  a01 = doubleAt s at;
+  a02 = doubleAt s (at + 8);
+  a12 = doubleAt s (at + 16);
+}

@@ -3,23 +3,24 @@ ghost use mathlib.Core.Path.{_≡_};
 ghost use Prim.Native.Nat.{_≤_};
 ghost use Rattle.replay_records.specs.Contents as Contents;
 ghost use Rattle.replay_records.specs.Contents.{doubleAt, vectorAt, matrixAt, worldAt};
-ghost use Rattle.replay_records.specs.Contents.{bearingsAt, poseAt};
+ghost use Rattle.replay_records.specs.Contents.{bearingsAt, poseAt, squaresAt};
 use frames::bearings::Bearings;
 use frames::pose::Pose;
+use frames::squared_edges::SquaredEdges;
 use frames::world::World;
 use ieee754::bits::from_bits;
 use linalg::matrix3::Matrix3;
 use linalg::vector3::Vector3;
 use replay_words::word;
 
-pub fn double_at(s: &[u8; 664], at: usize) -> f64
+pub fn double_at(s: &[u8; 712], at: usize) -> f64
     ensures { λ r. ⌜ r ≡ doubleAt (now (s .entry)) at ⌝ }
 {
     from_bits(word(s, at))
 }
 
-pub fn vector_at(s: &[u8; 664], at: usize) -> Vector3
-    requires { ⌜ at ≤ 640 ⌝ }
+pub fn vector_at(s: &[u8; 712], at: usize) -> Vector3
+    requires { ⌜ at ≤ 688 ⌝ }
     ensures { λ r. ⌜ r ≡ vectorAt (now (s .entry)) at ⌝ }
 {
     Vector3 {
@@ -29,8 +30,8 @@ pub fn vector_at(s: &[u8; 664], at: usize) -> Vector3
     }
 }
 
-pub fn matrix_at(s: &[u8; 664], at: usize) -> Matrix3
-    requires { ⌜ at ≤ 592 ⌝ }
+pub fn matrix_at(s: &[u8; 712], at: usize) -> Matrix3
+    requires { ⌜ at ≤ 640 ⌝ }
     ensures { λ r. ⌜ r ≡ matrixAt (now (s .entry)) at ⌝ }
 {
     let c0 = vector_at(s, at);
@@ -39,8 +40,8 @@ pub fn matrix_at(s: &[u8; 664], at: usize) -> Matrix3
     Matrix3::from_columns(c0, c1, c2)
 }
 
-pub fn world_at(s: &[u8; 664], at: usize) -> World
-    requires { ⌜ at ≤ 592 ⌝ }
+pub fn world_at(s: &[u8; 712], at: usize) -> World
+    requires { ⌜ at ≤ 640 ⌝ }
     ensures { λ r. ⌜ r ≡ worldAt (now (s .entry)) at ⌝ }
 {
     World {
@@ -50,8 +51,8 @@ pub fn world_at(s: &[u8; 664], at: usize) -> World
     }
 }
 
-pub fn bearings_at(s: &[u8; 664], at: usize) -> Bearings
-    requires { ⌜ at ≤ 592 ⌝ }
+pub fn bearings_at(s: &[u8; 712], at: usize) -> Bearings
+    requires { ⌜ at ≤ 640 ⌝ }
     ensures { λ r. ⌜ r ≡ bearingsAt (now (s .entry)) at ⌝ }
 {
     Bearings {
@@ -61,8 +62,8 @@ pub fn bearings_at(s: &[u8; 664], at: usize) -> Bearings
     }
 }
 
-pub fn pose_at(s: &[u8; 664], at: usize) -> Pose
-    requires { ⌜ at ≤ 568 ⌝ }
+pub fn pose_at(s: &[u8; 712], at: usize) -> Pose
+    requires { ⌜ at ≤ 616 ⌝ }
     ensures { λ r. ⌜ r ≡ poseAt (now (s .entry)) at ⌝ }
 {
     let rotation = matrix_at(s, at);
@@ -70,6 +71,17 @@ pub fn pose_at(s: &[u8; 664], at: usize) -> Pose
     Pose {
         rotation,
         translation,
+    }
+}
+
+pub fn squares_at(s: &[u8; 712], at: usize) -> SquaredEdges
+    requires { ⌜ at ≤ 688 ⌝ }
+    ensures { λ r. ⌜ r ≡ squaresAt (now (s .entry)) at ⌝ }
+{
+    SquaredEdges {
+        a01: double_at(s, at),
+        a02: double_at(s, at + 8),
+        a12: double_at(s, at + 16),
     }
 }
 

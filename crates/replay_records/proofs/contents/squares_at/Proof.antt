@@ -1,8 +1,8 @@
--- `replay_pieces::pieces::squares_at` meets its contract. Assumes nothing.
+-- `replay_records::contents::squares_at` meets its contract. Assumes nothing.
 use borrow.Author.Needs.{needs}
-use Rattle.replay_pieces.specs.PieceRecords.{squaresAt}
-use Rattle.replay_pieces.proofs.pieces.squares_at.Statement.{statement}
-use Rattle.replay_pieces.proofs.pieces.squares_at.Tie as tie
+use Rattle.replay_records.specs.Contents.{squaresAt}
+use Rattle.replay_records.proofs.contents.squares_at.Statement.{statement}
+use Rattle.replay_records.proofs.contents.squares_at.Tie as tie
 
 returns : tie.Need-returns
 unfolding squaresAt
