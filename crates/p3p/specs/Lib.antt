@@ -6,4 +6,5 @@ pub mod SolveLent
 pub mod ChooseLent
 pub mod AboutLent
 pub mod PlateLent
+pub mod PreviewLent
 pub mod RecordLent

@@ -3,6 +3,7 @@
 pub mod about_first;
 pub mod choose;
 pub mod plate;
+pub mod plate_preview;
 pub mod record;
 pub mod roots;
 pub mod single;

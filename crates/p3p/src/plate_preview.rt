@@ -1,0 +1,84 @@
+// What a moved target would do, over lent memory (document 02, §5). The plate is only read. The
+// squared edges are always written: plus zeros where the replacement is refused, and only there.
+ghost use mathlib.Core.Path.{_≡_};
+ghost use Rattle.lent_answers.specs.Solved.{posesAfter, updatesAfter, liftedAfter, countAfter};
+ghost use Rattle.p3p.specs.PreviewLent.{previewed, edgeEntries};
+use frames::lent::bearings_at;
+use frames::lent::vector_at;
+use frames::squared_edges::SquaredEdges;
+use lent_answers::plate::plate_in;
+use lent_answers::solved::write_answer;
+use plates::replace::replace;
+use preview::preview::answer_shown;
+use preview::preview::edges_shown;
+
+// Writes squared edges, those between targets 0 and 1, 0 and 2, 1 and 2.
+fn write_edges(shown: SquaredEdges, edges: &mut [f64; 3])
+    ensures { λ _. ⌜ now (edges .exit) ≡ edgeEntries shown ⌝ }
+{
+    *edges = [shown.a01, shown.a02, shown.a12];
+}
+
+// The poses of a plate with one target moved to a point, and the squared edges that would be
+// stored. Returns 0, or the refusal number: the replacement's, then the solve's.
+#[no_mangle]
+pub extern "C" fn p3p_plate_preview(
+    plate: &[f64; 21],
+    has_inverse: u32,
+    target: u32,
+    point: &[f64; 3],
+    bearings: &[f64; 9],
+    poses: &mut [f64; 48],
+    updates: &mut [u32; 4],
+    lifted: &mut [u32; 4],
+    count: &mut u32,
+    edges: &mut [f64; 3],
+) -> u32
+    ensures { λ r.
+        ⌜ r
+        ≡ previewed (now (plate .entry)) «has_inverse» target (now (point .entry))
+        (now (bearings .entry))
+        .answer
+        .refusal ⌝ }
+    ensures { λ _.
+        ⌜ now (poses .exit)
+        ≡ posesAfter
+        (previewed (now (plate .entry)) «has_inverse» target (now (point .entry))
+        (now (bearings .entry))
+        .answer)
+        (now (poses .entry)) ⌝ }
+    ensures { λ _.
+        ⌜ now (updates .exit)
+        ≡ updatesAfter
+        (previewed (now (plate .entry)) «has_inverse» target (now (point .entry))
+        (now (bearings .entry))
+        .answer)
+        (now (updates .entry)) ⌝ }
+    ensures { λ _.
+        ⌜ now (lifted .exit)
+        ≡ liftedAfter
+        (previewed (now (plate .entry)) «has_inverse» target (now (point .entry))
+        (now (bearings .entry))
+        .answer)
+        (now (lifted .entry)) ⌝ }
+    ensures { λ _.
+        ⌜ now (count .exit)
+        ≡ countAfter
+        (previewed (now (plate .entry)) «has_inverse» target (now (point .entry))
+        (now (bearings .entry))
+        .answer)
+        (now (count .entry)) ⌝ }
+    ensures { λ _.
+        ⌜ now (edges .exit)
+        ≡ edgeEntries
+        (previewed (now (plate .entry)) «has_inverse» target (now (point .entry))
+        (now (bearings .entry))
+        .edges) ⌝ }
+{
+    let stored = plate_in(plate, has_inverse);
+    let moved = vector_at(point, 0);
+    let rays = bearings_at(bearings, 0);
+    let copy = replace(stored, target, moved);
+    write_edges(edges_shown(copy), edges);
+    write_answer(answer_shown(copy, rays), poses, updates, lifted, count)
+}
