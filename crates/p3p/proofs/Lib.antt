@@ -2,3 +2,4 @@
 mod RootsLent
 mod AsRead
 mod PlateAsRead
+mod PreviewLaws

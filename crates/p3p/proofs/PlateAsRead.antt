@@ -11,12 +11,9 @@ use Rattle.plates.specs.Replace.{replace}
 use Rattle.plates.specs.Exchange.{exchange}
 use Rattle.plates.specs.TimesPower.{timesPower}
 use Rattle.plates.specs.SolvePlate.{solvePlate}
-use Rattle.preview.specs.Preview.{edgesShown, answerShown, preview}
 use Rattle.lent_answers.specs.Plated.{plateIn}
 use Rattle.p3p.specs.PlateLent.{made, replaced, exchanged, scaled, solvedPlate}
-use Rattle.p3p.specs.PreviewLent.{previewed}
-use Rattle.p3p.specs.Types.{Vector3, World, Bearings, SquaredEdges, Plate, Outcome, Answer}
-use Rattle.p3p.specs.Types.{Shown}
+use Rattle.p3p.specs.Types.{Vector3, World, Bearings, Plate, Outcome, Answer}
 
 pub as-made : (points : List Float) {world : World} {o : Outcome}
     → world ≡ worldAt points 0
@@ -52,14 +49,3 @@ module _ (xs : List Float) (hasInverse : ℕ) {plate : Plate}
       → a ≡ solvedPlate xs hasInverse bearings
   unfolding solvedPlate
   as-solved-plate bearings f e = rw (p, f) at e
-
-  pub as-previewed : (target : ℕ) (point bearings : List Float) {v : Vector3} {rays : Bearings}
-      {copy : Outcome} {edges : SquaredEdges} {answer : Answer}
-      → v ≡ vectorAt point 0
-      → rays ≡ bearingsAt bearings 0
-      → copy ≡ replace plate target v
-      → edges ≡ edgesShown copy
-      → answer ≡ answerShown copy rays
-      → record { answer = answer; edges = edges } ≡ previewed xs hasInverse target point bearings
-  unfolding previewed preview
-  as-previewed target point bearings moved f copied e a = rw (a, e, copied, p, moved, f)

@@ -3,21 +3,8 @@
 ghost use mathlib.Core.Path.{_≡_};
 ghost use Rattle.lent_answers.specs.Solved.{posesAfter, updatesAfter, liftedAfter, countAfter};
 ghost use Rattle.p3p.specs.PreviewLent.{previewed, edgeEntries};
-use frames::lent::bearings_at;
-use frames::lent::vector_at;
-use frames::squared_edges::SquaredEdges;
-use lent_answers::plate::plate_in;
-use lent_answers::solved::write_answer;
-use plates::replace::replace;
-use preview::preview::answer_shown;
-use preview::preview::edges_shown;
-
-// Writes squared edges, those between targets 0 and 1, 0 and 2, 1 and 2.
-fn write_edges(shown: SquaredEdges, edges: &mut [f64; 3])
-    ensures { λ _. ⌜ now (edges .exit) ≡ edgeEntries shown ⌝ }
-{
-    *edges = [shown.a01, shown.a02, shown.a12];
-}
+use crate::plate::p3p_plate_replace;
+use crate::plate::p3p_plate_solve;
 
 // The poses of a plate with one target moved to a point, and the squared edges that would be
 // stored. Returns 0, or the refusal number: the replacement's, then the solve's.
@@ -75,10 +62,13 @@ pub extern "C" fn p3p_plate_preview(
         (now (bearings .entry))
         .edges) ⌝ }
 {
-    let stored = plate_in(plate, has_inverse);
-    let moved = vector_at(point, 0);
-    let rays = bearings_at(bearings, 0);
-    let copy = replace(stored, target, moved);
-    write_edges(edges_shown(copy), edges);
-    write_answer(answer_shown(copy, rays), poses, updates, lifted, count)
+    let mut copy = *plate;
+    let mut inverse = has_inverse;
+    let refusal = p3p_plate_replace(&mut copy, &mut inverse, target, point);
+    if refusal != 0 {
+        *edges = [0.0; 3];
+        return refusal;
+    }
+    *edges = [copy[9], copy[10], copy[11]];
+    p3p_plate_solve(&copy, inverse, bearings, poses, updates, lifted, count)
 }

@@ -20,7 +20,7 @@ pub struct Shown {
 }
 
 // The squared edges that a replacement would store.
-pub fn edges_shown(copy: Outcome) -> SquaredEdges
+fn edges_shown(copy: Outcome) -> SquaredEdges
     ensures { λ r. ⌜ r ≡ Preview.edgesShown copy ⌝ }
 {
     let refusal = copy.refusal;
@@ -36,7 +36,7 @@ pub fn edges_shown(copy: Outcome) -> SquaredEdges
 }
 
 // The replacement's refusal, or the solve with the plate that it left.
-pub fn answer_shown(copy: Outcome, bearings: Bearings) -> Answer
+fn answer_shown(copy: Outcome, bearings: Bearings) -> Answer
     ensures { λ r. ⌜ r ≡ Preview.answerShown copy bearings ⌝ }
 {
     let refusal = copy.refusal;

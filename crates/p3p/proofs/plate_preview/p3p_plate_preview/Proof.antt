@@ -1,32 +1,49 @@
 -- `p3p::plate_preview::p3p_plate_preview` meets its contract: what is written is what the definition
 -- shows of what was read. Assumes nothing.
 use borrow.Author.Needs.{needs}
-use Rattle.p3p.proofs.PlateAsRead.{as-previewed}
+use mathlib.Core.Path.{_≡_, refl, sym, _∙_}
+use Rattle.preview.specs.Preview.{zeroEdges}
+use Rattle.lambdatwist.specs.Solve.{answered, refused}
+use Rattle.lent_answers.specs.Solved.{posesAfter, updatesAfter, liftedAfter, countAfter}
+use Rattle.lent_answers.specs.Plated.{plateIn}
+use Rattle.lent_answers.proofs.WriteLaws.{when-refused}
+use Rattle.p3p.specs.PreviewLent.{edgeEntries}
+use Rattle.p3p.proofs.PreviewLaws.{refusal-shown, copy-shown}
 use Rattle.p3p.proofs.plate_preview.p3p_plate_preview.Statement.{statement}
 use Rattle.p3p.proofs.plate_preview.p3p_plate_preview.Tie as tie
 
 returns : tie.Need-returns
+unfolding posesAfter updatesAfter liftedAfter countAfter refused answered edgeEntries zeroEdges
 returns c =
-    -- the four lent places are handed on, after the edges
+    let tested = c .before in
+    let copy = tested .before .p3p-plate-replace .ensures in
+    let number = tested .if1 .taken in
+    rw (refusal-shown _ _ _ _ _ (copy .0) number) (
+      refl,
+      (
+        when-refused _ _ number,
+        (when-refused _ _ number, (when-refused _ _ number, (when-refused _ _ number, refl))),
+      ),
+    )
+
+returns-2 : tie.Need-returns-2
+unfolding edgeEntries plateIn
+returns-2 c =
+    -- the four lent places and the copy are handed on, after the edges
     let two-lent = c .before .before in
     let four-lent = two-lent .before .before in
-    let answer = four-lent .before in
-    let written = answer .before in
-    let edges = written .before .before in
-    let copy = edges .before in
-    let rays = copy .before in
-    let point = rays .before .before in
-    let plate = point .before .before in
-    let shown =
-    as-previewed _ _ (plate .plate-in .ensures) (plate .before .args .target) _ _
-    (point .vector-at .ensures) (rays .bearings-at .ensures) (copy .replace .ensures)
-    (edges .edges-shown .ensures) (answer .answer-shown .ensures) in
-    let w = c .write-answer .ensures in
-    rw (← shown)
-    (w .0, (w .1 .0, (w .1 .1 .0, (w .1 .1 .1 .0, (w .1 .1 .1 .1, written .write-edges .ensures)))))
+    let edges = four-lent .before .before in
+    let tested = edges .before in
+    let copy = tested .before .p3p-plate-replace .ensures in
+    let w = c .p3p-plate-solve .ensures in
+    rw (
+      copy-shown _ _ _ _ _ (sym (copy .0) ∙ tested .if1 .left),
+      ← copy .1 .0,
+      ← copy .1 .1,
+    )
+    (w .0, (w .1 .0, (w .1 .1 .0, (w .1 .1 .1 .0, (w .1 .1 .1 .1, refl)))))
 
 pub p3p-plate-preview-spec : {M : Type 1} → statement M
 p3p-plate-preview-spec =
-    tie.close (tie.spec (λ c _. search needs) (λ c _. search needs) (λ c _. search needs)
-    (λ c _. search needs) (λ c _. search needs) (λ c _. search needs) (λ c _. search needs)
-    (λ c _. search needs) returns)
+    tie.close (tie.spec (λ c _. search needs) returns (λ c. search needs) (λ c. search needs)
+    (λ c. search needs) (λ c _. search needs) returns-2)

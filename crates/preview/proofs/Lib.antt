@@ -1,0 +1,2 @@
+-- What a preview shows, by the plate's points.
+pub mod PreviewShows
