@@ -32,7 +32,7 @@ pub fn plate_in(xs: &[f64; 21], has_inverse: u32) -> Plate
 }
 
 // The doubles of a plate, as `plate_in` reads them.
-fn plate_entries(plate: Plate) -> [f64; 21]
+pub fn plate_entries(plate: Plate) -> [f64; 21]
     ensures { λ r. ⌜ r ≡ Plated.plateEntries plate ⌝ }
 {
     let world = plate.world;

@@ -5,6 +5,8 @@ ghost use Rattle.lent_answers.specs.Solved.{posesAfter, updatesAfter, liftedAft
 ghost use Rattle.p3p.specs.PreviewLent.{previewed, edgeEntries};
 use crate::plate::p3p_plate_replace;
 use crate::plate::p3p_plate_solve;
+use lent_answers::plate::plate_entries;
+use lent_answers::plate::plate_in;
 
 // The poses of a plate with one target moved to a point, and the squared edges that would be
 // stored. Returns 0, or the refusal number: the replacement's, then the solve's.
@@ -62,7 +64,8 @@ pub extern "C" fn p3p_plate_preview(
         (now (bearings .entry))
         .edges) ⌝ }
 {
-    let mut copy = *plate;
+    // entry by entry: a copy of the whole array would link memcpy
+    let mut copy = plate_entries(plate_in(plate, has_inverse));
     let mut inverse = has_inverse;
     let refusal = p3p_plate_replace(&mut copy, &mut inverse, target, point);
     if refusal != 0 {

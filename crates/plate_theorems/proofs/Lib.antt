@@ -1,3 +1,4 @@
 -- The theorems about plates.
 pub mod OneAnswerPlate
+pub mod OneAnswerPreview
 pub mod ScaledPlate

@@ -1,3 +1,4 @@
 -- What the theorems about plates say.
 pub mod OneAnswerPlate
+pub mod OneAnswerPreview
 pub mod ScaledPlate

@@ -16,9 +16,12 @@ returns : tie.Need-returns
 unfolding posesAfter updatesAfter liftedAfter countAfter refused answered edgeEntries zeroEdges
 returns c =
     let tested = c .before in
-    let copy = tested .before .p3p-plate-replace .ensures in
     let number = tested .if1 .taken in
-    rw (refusal-shown _ _ _ _ _ (copy .0) number) (
+    let replaced = tested .before in
+    let flag = replaced .before in
+    let copy = flag .before .before in
+    rw (refusal-shown _ _ _ _ _ _ (copy .before .plate-in .ensures) (copy .plate-entries .ensures)
+    (replaced .p3p-plate-replace .ensures .0) number) (
       refl,
       (
         when-refused _ _ number,
@@ -34,16 +37,20 @@ returns-2 c =
     let four-lent = two-lent .before .before in
     let edges = four-lent .before .before in
     let tested = edges .before in
-    let copy = tested .before .p3p-plate-replace .ensures in
+    let replaced = tested .before in
+    let flag = replaced .before in
+    let copy = flag .before .before in
+    let r = replaced .p3p-plate-replace .ensures in
     let w = c .p3p-plate-solve .ensures in
     rw (
-      copy-shown _ _ _ _ _ (sym (copy .0) ∙ tested .if1 .left),
-      ← copy .1 .0,
-      ← copy .1 .1,
+      copy-shown _ _ _ _ _ _ (copy .before .plate-in .ensures) (copy .plate-entries .ensures)
+          (sym (r .0) ∙ tested .if1 .left),
+      ← r .1 .0,
+      ← r .1 .1,
     )
     (w .0, (w .1 .0, (w .1 .1 .0, (w .1 .1 .1 .0, (w .1 .1 .1 .1, refl)))))
 
 pub p3p-plate-preview-spec : {M : Type 1} → statement M
 p3p-plate-preview-spec =
-    tie.close (tie.spec (λ c _. search needs) returns (λ c. search needs) (λ c. search needs)
-    (λ c. search needs) (λ c _. search needs) returns-2)
+    tie.close (tie.spec (λ c _. search needs) (λ c _. search needs) (λ c _. search needs) returns
+    (λ c. search needs) (λ c. search needs) (λ c. search needs) (λ c _. search needs) returns-2)
