@@ -115,9 +115,9 @@ static void print_view(const char *name, const struct view *view, const char *ve
 {
     printf("%-11s", name);
     for (int i = 0; i < 3; i++)
-        printf(" %7.3f", 1000 * sqrt(view->edges[i]));
+        printf(" %8.3f", 1000 * sqrt(view->edges[i]));
     if (view->refusal != 0) {
-        printf("  refused %-27u", view->refusal);
+        printf("  refused %-26u", view->refusal);
     } else {
         for (int i = 0; i < 3; i++)
             printf(" %8.3f", 1000 * view->camera[i]);
@@ -140,7 +140,7 @@ int main(void)
         normalise(directions[k], bearings + 3 * k);
     normalise(directions[3], bearing);
     look(&plate, &now);
-    printf("%-11s %-23s  %-25s checking\n", "", "edges", "hole at camera");
+    printf("%-12s %-25s  %-26s checking\n", "mm, degrees", "edges", "hole at camera");
     print_view("stored", &now, "as made");
 
     for (size_t k = 0; k < sizeof entries / sizeof entries[0]; k++) {
