@@ -1,5 +1,5 @@
-//! A target of a mounted plate is measured again, and the fitter looks before the plate takes it, as
-//! include/preview.c.
+//! A target of a mounted plate is measured again, and the fitter looks before the plate takes it,
+//! as include/preview.c.
 //!
 //!     cargo run --example preview
 
