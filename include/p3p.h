@@ -136,8 +136,8 @@ uint32_t p3p_choose_about(const double poses[48], uint32_t count, const double o
  *
  * Targets have the numbers 0, 1 and 2. What p3p_plate_make, _replace, _exchange and _scale store
  * is, bit for bit, worked out from the points that they store, whatever the plate held before; a
- * squared edge that overflows is stored as infinite, and nothing is refused for it. A refusal
- * writes nothing: the plate is as it was. */
+ * squared edge that overflows is stored as infinite, and nothing is refused for it. A refusal of
+ * theirs writes nothing: the plate is as it was. */
 
 /* The plate of three points, each x, y, z. Returns 0, or 1. */
 uint32_t p3p_plate_make(const double points[9], double plate[21], uint32_t *has_inverse);
@@ -176,10 +176,9 @@ uint32_t p3p_plate_solve(const double plate[21], uint32_t has_inverse, const dou
 
 /* What p3p_plate_solve would give if a target of the plate were at another point, and the squared
  * edges that would be stored. The plate is only read. p3p_plate_replace and then p3p_plate_solve
- * give just what was shown, bit for bit, the refusals too: those of the replacement are asked for
- * first, then those of the solve. What would be stored is worked out from the points, so whatever
- * the plate's squared edges and inverse hold, the answer is that of p3p_solve for the plate's
- * points with the new one among them.
+ * give just what was shown, bit for bit, the refusals too: the replacement's questions are asked
+ * first, then the solve's. Whatever squared edges and inverse the plate holds, the answer is what
+ * p3p_solve gives of its points, the new one among them, and the bearings.
  *
  * target   the number of the target, 0, 1 or 2.
  * point    where it would be, x, y, z.

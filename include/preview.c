@@ -83,7 +83,7 @@ static void find_hole(struct view *view, const double poses[48], uint32_t count)
 static void look(const struct plate *plate, struct view *view)
 {
     double poses[48];
-    uint32_t updates[4], lifted[4], count;
+    uint32_t updates[4], lifted[4], count = 0;
     memcpy(view->edges, plate->numbers + 9, sizeof view->edges);
     view->refusal = p3p_plate_solve(plate->numbers, plate->has_inverse, bearings, poses, updates,
                                     lifted, &count);
@@ -94,7 +94,7 @@ static void look(const struct plate *plate, struct view *view)
 static void look_ahead(const struct plate *plate, const struct entry *entry, struct view *view)
 {
     double poses[48];
-    uint32_t updates[4], lifted[4], count;
+    uint32_t updates[4], lifted[4], count = 0;
     /* the plate is only read; the edges are written in any case */
     view->refusal = p3p_plate_preview(plate->numbers, plate->has_inverse, entry->target,
                                       entry->point, bearings, poses, updates, lifted, &count,
