@@ -3,7 +3,7 @@
  * Each function's result, and what it leaves in the memory that is lent to it, is proved equal to a
  * definition for every input, infinities and NaNs too (crates/p3p). None allocates or keeps state:
  * each may be called from several threads at once. A solve was measured to take 4.6 KiB of stack at
- * most, a preview 4.8 (docs/BENCHMARKS.md); the others take less. Under lazy binding the first call
+ * most, a preview too (docs/BENCHMARKS.md); the others take less. Under lazy binding the first call
  * takes the loader's 1 to 3 KiB more: link with -Wl,-z,now.
  *
  * The floating-point environment must be as C starts a program:
