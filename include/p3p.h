@@ -3,8 +3,8 @@
  * Each function's result, and what it leaves in the memory that is lent to it, is proved equal to a
  * definition for every input, infinities and NaNs too (crates/p3p). None allocates or keeps state:
  * each may be called from several threads at once. A solve was measured to take 4.6 KiB of stack at
- * most (docs/BENCHMARKS.md); the others take less. Under lazy binding the first call takes the
- * loader's 1 to 3 KiB more: link with -Wl,-z,now.
+ * most, a preview too (docs/BENCHMARKS.md); the others take less. Under lazy binding the first call
+ * takes the loader's 1 to 3 KiB more: link with -Wl,-z,now.
  *
  * The floating-point environment must be as C starts a program:
  *   - The rounding mode is to nearest.
@@ -16,7 +16,8 @@
  *
  * A pointer is to as many elements as its declaration says. Those that a function writes through
  * must not overlap each other or what it reads. Where a number is returned, 0 means that there is
- * an answer; any other is one of enum p3p_refusal, and nothing has been written.
+ * an answer; any other is one of enum p3p_refusal, and nothing has been written, but for the edges
+ * of p3p_plate_preview.
  */
 #ifndef P3P_H
 #define P3P_H
@@ -24,10 +25,10 @@
 #include <stddef.h>
 #include <stdint.h>
 
-#define P3P_VERSION "0.3.2"
+#define P3P_VERSION "0.3.3"
 #define P3P_VERSION_MAJOR 0
 #define P3P_VERSION_MINOR 3
-#define P3P_VERSION_PATCH 2
+#define P3P_VERSION_PATCH 3
 
 #ifdef __cplusplus
 extern "C" {
@@ -36,7 +37,7 @@ extern "C" {
 /* Why there is no answer. */
 enum p3p_refusal {
     /* solve: one of the eighteen doubles is an infinity or a NaN; about the first target also a
-     * difference. plate_make, plate_replace: a coordinate of a given point is */
+     * difference. plate_make, plate_replace, plate_preview: a coordinate of a given point is */
     P3P_INPUT_NOT_FINITE = 1,
     /* solve: no ordering of the points is usable */
     P3P_NO_USABLE_ORDERING = 2,
@@ -56,7 +57,7 @@ enum p3p_refusal {
     P3P_RECORD_CUT_SHORT = 9,
     /* choose: no pose has a finite score, as where each puts the target behind the camera */
     P3P_NO_FINITE_SCORE = 10,
-    /* plate_replace, plate_exchange: a target's number is above 2 */
+    /* plate_replace, plate_exchange, plate_preview: a target's number is above 2 */
     P3P_NO_SUCH_TARGET = 11,
     /* plate_scale: k is not from -64 to 64 */
     P3P_POWER_OUT_OF_RANGE = 12,
@@ -135,8 +136,8 @@ uint32_t p3p_choose_about(const double poses[48], uint32_t count, const double o
  *
  * Targets have the numbers 0, 1 and 2. What p3p_plate_make, _replace, _exchange and _scale store
  * is, bit for bit, worked out from the points that they store, whatever the plate held before; a
- * squared edge that overflows is stored as infinite, and nothing is refused for it. A refusal
- * writes nothing: the plate is as it was. */
+ * squared edge that overflows is stored as infinite, and nothing is refused for it. A refusal of
+ * theirs writes nothing: the plate is as it was. */
 
 /* The plate of three points, each x, y, z. Returns 0, or 1. */
 uint32_t p3p_plate_make(const double points[9], double plate[21], uint32_t *has_inverse);
@@ -172,6 +173,24 @@ uint32_t p3p_plate_scale(double plate[21], uint32_t *has_inverse, int32_t k);
 uint32_t p3p_plate_solve(const double plate[21], uint32_t has_inverse, const double bearings[9],
                          double poses[48], uint32_t updates[4], uint32_t lifted[4],
                          uint32_t *count);
+
+/* What p3p_plate_solve would give if a target of the plate were at another point, and the squared
+ * edges that would be stored. The plate is only read. p3p_plate_replace and then p3p_plate_solve
+ * give just what was shown, bit for bit, the refusals too: the replacement's questions are asked
+ * first, then the solve's. Whatever squared edges and inverse the plate holds, the answer is what
+ * p3p_solve gives of its points, the new one among them, and the bearings.
+ *
+ * target   the number of the target, 0, 1 or 2.
+ * point    where it would be, x, y, z.
+ * bearings, poses, updates, lifted, count    as for p3p_plate_solve.
+ * edges    the squared edges between targets 0 and 1, 0 and 2, 1 and 2. They are always written:
+ *          three plus zeros where the replacement is refused, and where the solve alone refuses,
+ *          those that would be stored.
+ * Returns 0; or 1 where the new point is not finite, or 11; or 1, 2 or 3 of the solve. */
+uint32_t p3p_plate_preview(const double plate[21], uint32_t has_inverse, uint32_t target,
+                           const double point[3], const double bearings[9], double poses[48],
+                           uint32_t updates[4], uint32_t lifted[4], uint32_t *count,
+                           double edges[3]);
 
 /* ---- a frame's record */
 

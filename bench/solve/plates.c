@@ -1,6 +1,7 @@
 // What a plate saves (document 02, §4): a thousand frames of one plate, solved by p3p_solve and by
-// p3p_plate_solve in turns, each turn over all frames; and the making of a plate. Before that both
-// must have the same answers, bit for bit, and plates whose stored numbers are altered others.
+// p3p_plate_solve in turns, each turn over all frames; previews of it with its third target at its
+// own place (§5); and the making of a plate. Before that all must have the same answers, bit for
+// bit, plates whose stored numbers are altered others, and previews of these the same again.
 //   plates [TURNS]
 // Sorts of plates: those of bench/using/plates.h that are not thin, the camera before them, within
 // 60 degrees of their normal and half a metre to six metres away; and one that the camera sees in
@@ -95,7 +96,7 @@ static void mirrored_frames(uint64_t *state) {
     }
 }
 
-// ---- the two solves
+// ---- the solves
 
 static void solve(const double input[18], struct answer *answer) {
     answer->number =
@@ -108,6 +109,25 @@ static void solve_plate(const struct stored *plate, const double input[18],
                                      answer->updates, answer->lifted, &answer->count);
 }
 
+static void preview_at(const struct stored *plate, const double third[3], const double input[18],
+                       struct answer *answer) {
+    double edges[3];
+    answer->number =
+        p3p_plate_preview(plate->numbers, plate->has_inverse, 2, third, input + 9, answer->poses,
+                          answer->updates, answer->lifted, &answer->count, edges);
+}
+
+static void preview(const struct stored *plate, const double input[18], struct answer *answer) {
+    preview_at(plate, input + 6, input, answer);
+}
+
+// With one coordinate the next double.
+static void preview_moved(const struct stored *plate, const double input[18],
+                          struct answer *answer) {
+    double third[3] = {input[6], nextafter(input[7], INFINITY), input[8]};
+    preview_at(plate, third, input, answer);
+}
+
 static void make(const double world[9], struct stored *plate) {
     if (p3p_plate_make(world, plate->numbers, &plate->has_inverse)) {
         fprintf(stderr, "a plate was refused\n");
@@ -115,9 +135,12 @@ static void make(const double world[9], struct stored *plate) {
     }
 }
 
+// Answers a frame with a plate.
+typedef void answerer(const struct stored *, const double[18], struct answer *);
+
 // How many of the frames have another answer with a plate than without; and how many poses they
 // have without.
-static int differing(const struct stored *plate, long *found) {
+static int differing(const struct stored *plate, answerer *answer, long *found) {
     int count = 0;
     *found = 0;
     for (int f = 0; f < FRAMES; f++) {
@@ -125,7 +148,7 @@ static int differing(const struct stored *plate, long *found) {
         memset(&without, 0xa5, sizeof without);
         memset(&with, 0xa5, sizeof with);
         solve(inputs[f], &without);
-        solve_plate(plate, inputs[f], &with);
+        answer(plate, inputs[f], &with);
         count += memcmp(&without, &with, sizeof with) != 0;
         *found += without.number == 0 ? without.count : 0;
     }
@@ -134,20 +157,36 @@ static int differing(const struct stored *plate, long *found) {
 
 // Plates as made and altered: one of the stored numbers is the next double, or the inverse is said
 // to be lacking.
-enum { AS_MADE, EDGE, ENTRY, LACKING, PLATES };
+enum { AS_MADE = 0, EDGE = 1, ENTRY = 2, LACKING = 4 };
 
 static void alter(struct stored *plate, int which) {
-    if (which == EDGE)
+    if (which & EDGE)
         plate->numbers[9] = nextafter(plate->numbers[9], INFINITY);
-    if (which == ENTRY)
+    if (which & ENTRY)
         plate->numbers[12] = nextafter(plate->numbers[12], INFINITY);
-    if (which == LACKING)
+    if (which & LACKING)
         plate->has_inverse = 0;
 }
 
+// What is compared with the solve without a plate: an altered plate, and what answers with it.
+enum { MADE, OTHER_EDGE, OTHER_ENTRY, NO_INVERSE, SHOWN, SHOWN_OF_ALTERED, SHOWN_MOVED, COMPARED };
+static const struct {
+    const char *name;
+    int which;
+    answerer *answer;
+} compared[COMPARED] = {
+    {"as made", AS_MADE, solve_plate},
+    {"a squared edge, the next double", EDGE, solve_plate},
+    {"an entry of the inverse, the next double", ENTRY, solve_plate},
+    {"said to have no inverse", LACKING, solve_plate},
+    {"a preview, as made", AS_MADE, preview},
+    {"a preview, all three altered", EDGE | ENTRY | LACKING, preview},
+    {"a preview, a coordinate the next double", AS_MADE, preview_moved},
+};
+
 // ---- times
 
-enum { WITHOUT, WITH, MAKING, RATIO, FIGURES };
+enum { WITHOUT, WITH, PREVIEW, MAKING, RATIO, FIGURES };
 static double figures[FIGURES][MOST];
 
 static double spent(void) {
@@ -168,6 +207,8 @@ static double pass(int figure, const struct stored *plate) {
             solve(inputs[f], &answer);
         else if (figure == WITH)
             solve_plate(plate, inputs[f], &answer);
+        else if (figure == PREVIEW)
+            preview(plate, inputs[f], &answer);
         else
             make(points[f], &other);
     double end = spent();
@@ -194,6 +235,7 @@ static void measure(const struct stored *plate, int turns) {
         int first = turn % 2 ? WITH : WITHOUT;
         figures[first][turn] = pass(first, plate);
         figures[WITH + WITHOUT - first][turn] = pass(WITH + WITHOUT - first, plate);
+        figures[PREVIEW][turn] = pass(PREVIEW, plate);
         figures[MAKING][turn] = pass(MAKING, plate);
         figures[RATIO][turn] = figures[WITH][turn] / figures[WITHOUT][turn];
     }
@@ -204,7 +246,7 @@ static const char *name_of(int sort) {
 }
 
 // A row of the first table, and the numbers of one of the second.
-static void print_sort(int sort, int turns, int differ[PLATES]) {
+static void print_sort(int sort, int turns, int differ[COMPARED]) {
     uint64_t state = SEED + (uint64_t)sort;
     struct stored plate;
     long found = 0;
@@ -213,10 +255,10 @@ static void print_sort(int sort, int turns, int differ[PLATES]) {
     else
         random_frames(&state, sort);
     make(inputs[0], &plate);
-    for (int which = 0; which < PLATES; which++) {
+    for (int c = 0; c < COMPARED; c++) {
         struct stored altered = plate;
-        alter(&altered, which);
-        differ[which] = differing(&altered, &found);
+        alter(&altered, compared[c].which);
+        differ[c] = differing(&altered, compared[c].answer, &found);
     }
     measure(&plate, turns);
     printf("| %s |", name_of(sort));
@@ -226,33 +268,39 @@ static void print_sort(int sort, int turns, int differ[PLATES]) {
     printf(" %.2f |\n", (double)found / FRAMES);
 }
 
-// Whether the plate as made has the answers without, and those altered are told from it. In the
-// retry the stored inverse has no part.
-static int is_right(int sort, const int differ[PLATES]) {
+// Whether the plate as made and its previews have the answers without, and those altered are told
+// from it. In the retry the stored inverse has no part.
+static int is_right(int sort, const int differ[COMPARED]) {
     int inverse = sort != MIRRORED;
-    return differ[AS_MADE] == 0 && differ[EDGE] > 0 && (differ[ENTRY] > 0) == inverse &&
-           (differ[LACKING] > 0) == inverse;
+    return differ[MADE] == 0 && differ[OTHER_EDGE] > 0 && (differ[OTHER_ENTRY] > 0) == inverse &&
+           (differ[NO_INVERSE] > 0) == inverse && differ[SHOWN] == 0 &&
+           differ[SHOWN_OF_ALTERED] == 0 && differ[SHOWN_MOVED] > 0;
 }
 
 int main(int argc, char **argv) {
-    int turns = argc > 1 ? atoi(argv[1]) : TURNS, right = 1, differ[SORTS][PLATES];
+    int turns = argc > 1 ? atoi(argv[1]) : TURNS, right = 1, differ[SORTS][COMPARED];
     if (turns < 1 || turns > MOST) {
         fprintf(stderr, "usage: plates [TURNS]\n");
         return 1;
     }
     printf("%d frames of one plate, %d turns: medians, and between what nine tenths of the turns "
-           "lie\n| plate | with / without | | without, ns | | with, ns | | making one, ns | "
-           "| poses a frame |\n|---|---:|---|---:|---|---:|---|---:|---|---:|\n",
+           "lie\n| plate | with / without | | without, ns | | with, ns | | a preview, ns | "
+           "| making one, ns | | poses a frame |\n"
+           "|---|---:|---|---:|---|---:|---|---:|---|---:|---|---:|\n",
            FRAMES, turns);
     for (int sort = 0; sort < SORTS; sort++)
         print_sort(sort, turns, differ[sort]);
-    printf("\nFrames whose answer with a plate is another than without\n"
-           "| plate | as made | a squared edge, the next double | an entry of the inverse, "
-           "the next double | said to have no inverse |\n|---|---:|---:|---:|---:|\n");
+    printf("\nFrames whose answer with a plate is another than without\n| plate |");
+    for (int c = 0; c < COMPARED; c++)
+        printf(" %s |", compared[c].name);
+    printf("\n|---|");
+    for (int c = 0; c < COMPARED; c++)
+        printf("---:|");
+    printf("\n");
     for (int sort = 0; sort < SORTS; sort++) {
         printf("| %s |", name_of(sort));
-        for (int which = 0; which < PLATES; which++)
-            printf(" %d |", differ[sort][which]);
+        for (int c = 0; c < COMPARED; c++)
+            printf(" %d |", differ[sort][c]);
         printf("\n");
         right &= is_right(sort, differ[sort]);
     }

@@ -1,8 +1,8 @@
 #!/usr/bin/env bash
 # All figures of a solve in one run: the library's size, the stack that a solve and the other
 # functions take, the times beside the Rust's and, where target/peers is (bench/peers/fetch.sh),
-# other solvers'; a solve with a plate beside one without; the records a second of the program
-# poses; and, where perf is installed, what the time goes into.
+# other solvers'; a solve with a plate and a preview beside one without; the records a second of the
+# program poses; and, where perf is installed, what the time goes into.
 #   bench/solve/run.sh SOURCES     SOURCES: the Rust's original sources (reference/README.md), its
 #                                  path from the repository's root or from /
 # Needs gcc, python3, GNU time and what reference/README.md names; for other solvers g++.

@@ -1,7 +1,8 @@
 // The deepest stack of one solve, and the stack of one call of each other function: each call is
 // made on a thread whose stack was filled with a known byte, and the lowest byte that changed is
 // found. Prints, in bytes below the frame of the function that makes the call, the deepest solve of
-// the stored frames, plain, about the first target and with a plate, and then the other functions.
+// the stored frames, plain, about the first target, with a plate and as a preview, and then the
+// other functions.
 //   stack FRAMES
 #include "../../include/p3p.h"
 #include "frames.h"
@@ -10,7 +11,7 @@
 
 enum { AREA = 1 << 18, FILL = 0xa5 };
 
-static double input[18], poses[48], frame[24], origin[3], first, second, score;
+static double input[18], poses[48], frame[24], origin[3], edges[3], first, second, score;
 static const double target[3] = {0.5, 0.375, 0.125}, bearing[3] = {0.0, 0.6, 0.8};
 static const double axes[9] = {1.0, 0.0, 0.0, 0.0, 1.0, 0.0, 0.0, 0.0, 1.0};
 // The first of these poses moves nothing: the target lies before the camera, so it has a score.
@@ -56,6 +57,9 @@ CALLER(solve, p3p_solve(input, poses, updates, lifted, &count))
 CALLER(solve_about, p3p_solve_about(input, poses, updates, lifted, &count, origin))
 CALLER(plate_solve,
        p3p_plate_solve(plate, has_inverse, input + 9, poses, updates, lifted, &count))
+// of the third target at its own place, so that the solve is the frame's
+CALLER(plate_preview, p3p_plate_preview(plate, has_inverse, 2, input + 6, input + 9, poses, updates,
+                                        lifted, &count, edges))
 OTHERS(CALLER)
 
 static const struct {
@@ -87,7 +91,7 @@ int main(int argc, char **argv) {
         return 1;
     }
     // what a thread that does nothing writes as it ends is no part of a solve
-    size_t deepest = 0, about = 0, with_plate = 0, idle = depth(area, call_nothing);
+    size_t deepest = 0, about = 0, with_plate = 0, preview = 0, idle = depth(area, call_nothing);
     long frames = 0, at = 0;
     while (next_input(file, input)) {
         size_t used = depth(area, call_solve), used_about = depth(area, call_solve_about);
@@ -95,7 +99,9 @@ int main(int argc, char **argv) {
         about = used_about > about ? used_about : about;
         if (p3p_plate_make(input, plate, &has_inverse) == 0) {
             size_t used_plate = depth(area, call_plate_solve);
+            size_t used_preview = depth(area, call_plate_preview);
             with_plate = used_plate > with_plate ? used_plate : with_plate;
+            preview = used_preview > preview ? used_preview : preview;
         }
         if (used > deepest) {
             deepest = used;
@@ -103,8 +109,8 @@ int main(int argc, char **argv) {
         }
     }
     printf("%ld frames; deepest stack of a solve: %zu bytes (frame %ld); about the first target: "
-           "%zu; with a plate: %zu; of a thread that does nothing: %zu\n",
-           frames, deepest, at, about, with_plate, idle);
+           "%zu; with a plate: %zu; as a preview: %zu; of a thread that does nothing: %zu\n",
+           frames, deepest, at, about, with_plate, preview, idle);
     for (size_t i = 0; i < sizeof others / sizeof others[0]; i++)
         printf("%s: %zu\n", others[i].name, depth(area, others[i].call));
     return frames == 0;

@@ -41,11 +41,13 @@ OTHER_HOLES = {
     "plate": ("[0.25, -0.5, 0.0]", "[0.25, -0.5, 0.000001]"),
     "grid": ("5334000.0, 512.125]", "5334000.0, 512.125001]"),
     "one_plate": ("[0.25, -0.5, 0.0]", "[0.25, -0.5, 0.000001]"),
+    "preview": ("[0.25, -0.5, 0.0]", "[0.25, -0.5, 0.000001]"),
 }
 PRINTED = {
     "plate": "include/example.txt",
     "grid": "include/grid.txt",
     "one_plate": "include/plate.txt",
+    "preview": "include/preview.txt",
 }
 
 

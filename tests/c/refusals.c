@@ -1,10 +1,15 @@
 /* Every refusal by a call, and that a refused call has written nothing. Memory is filled with a
  * pattern before each call; an answered call must have changed it, so that the comparison is known
- * to see a write. With any argument each call is expected to return one more, which must be found
- * wrong. Prints how many of the calls went wrong. */
+ * to see a write. Previews must give what the replacement and the solve give that they show, and
+ * have written to nothing that they only read. Prints how many of the calls went wrong.
+ *   refusals [CHANGE]
+ * CHANGE: an expectation that is changed, which must be found wrong. `number`: each call returns
+ * one more. Of previews: `edges`, the first of the squared edges has the other sign; `poses`, the
+ * solve has left another first number; `given`, what was only read was another before. */
 #include "p3p.h"
 #include <float.h>
 #include <math.h>
+#include <stddef.h>
 #include <stdio.h>
 #include <string.h>
 
@@ -16,7 +21,13 @@ static struct {
     uint32_t updates[4], lifted[4], count, best, kind, has_inverse;
 } lent;
 
-static uint32_t calls, wrong, added;
+static uint32_t calls, previews, wrong, added;
+static const char *change = "";
+
+static int is_changed(const char *expectation)
+{
+    return strcmp(change, expectation) == 0;
+}
 
 static int untouched(void)
 {
@@ -32,7 +43,7 @@ static void expect(const char *call, uint32_t expected, uint32_t number)
     calls++;
     if (number != expected + added || untouched() != (number != 0)) {
         wrong++;
-        if (added == 0)
+        if (*change == 0)
             printf("%s: %u in place of %u, memory %s\n", call, number, expected,
                    untouched() ? "as it was" : "written");
     }
@@ -47,6 +58,18 @@ static uint32_t solve(const double input[18])
 static uint32_t solve_about(const double input[18])
 {
     return p3p_solve_about(input, lent.poses, lent.updates, lent.lifted, &lent.count, lent.origin);
+}
+
+/* The bearings from a camera that sees each of three points, unturned, two metres nearer. */
+static void see(const double points[9], double bearings[9])
+{
+    for (int k = 0; k < 3; k++) {
+        double x = points[3 * k], y = points[3 * k + 1], z = points[3 * k + 2] + 2;
+        double length = p3p_sqrt(x * x + y * y + z * z);
+        bearings[3 * k] = x / length;
+        bearings[3 * k + 1] = y / length;
+        bearings[3 * k + 2] = z / length;
+    }
 }
 
 static void solves(void)
@@ -68,13 +91,7 @@ static void solves(void)
     expect("solve, points on a line", P3P_NO_POSE, solve(input));
     expect("solve_about, points on a line", P3P_NO_POSE, solve_about(input));
     memcpy(input, plate, sizeof plate);
-    for (int k = 0; k < 3; k++) {
-        double x = plate[3 * k], y = plate[3 * k + 1], z = plate[3 * k + 2] + 2;
-        double length = p3p_sqrt(x * x + y * y + z * z);
-        input[9 + 3 * k] = x / length;
-        input[10 + 3 * k] = y / length;
-        input[11 + 3 * k] = z / length;
-    }
+    see(plate, input + 9);
     expect("solve, a plate", 0, solve(input));
     expect("solve_about, a plate", 0, solve_about(input));
     input[0] = -1e308;
@@ -128,7 +145,7 @@ static void expect_placed(const char *call, uint32_t expected, double x, uint32_
     if (number != expected + added
         || (number != 0) != (lent.has_inverse == 7 && memcmp(old, lent.plate, sizeof old) == 0)) {
         wrong++;
-        if (added == 0)
+        if (*change == 0)
             printf("%s: %u in place of %u\n", call, number, expected);
     }
     memset(&lent, PATTERN, sizeof lent);
@@ -187,13 +204,7 @@ static void operations(void)
 static void plate_solves(void)
 {
     double bearings[9];
-    for (int k = 0; k < 3; k++) {
-        double x = made[3 * k], y = made[3 * k + 1], z = made[3 * k + 2] + 2;
-        double length = p3p_sqrt(x * x + y * y + z * z);
-        bearings[3 * k] = x / length;
-        bearings[3 * k + 1] = y / length;
-        bearings[3 * k + 2] = z / length;
-    }
+    see(made, bearings);
     expect("plate_solve", 0, solve_plate(0, made_inverse, bearings));
     expect("plate_solve, inverse by another number", 0, solve_plate(0, 1u << 31, bearings));
     expect("plate_solve, no inverse", P3P_NO_POSE, solve_plate(0, 0, bearings));
@@ -208,6 +219,131 @@ static void plate_solves(void)
     bearings[8] = NAN;
     expect("plate_solve, a bearing not finite", P3P_INPUT_NOT_FINITE,
            solve_plate(0, made_inverse, bearings));
+}
+
+/* Previews. All that a preview only reads. */
+struct given {
+    double plate[21], point[3], bearings[9];
+    uint32_t has_inverse, target;
+};
+
+/* What it leaves: a number, the memory of a solve, and the squared edges. */
+struct shown {
+    uint32_t number, updates[4], lifted[4], count;
+    double poses[48], edges[3];
+};
+
+/* Bit for bit, but for NaNs among the edges, whose bits nobody promises. */
+static int is_same(const struct shown *a, const struct shown *b)
+{
+    for (int i = 0; i < 3; i++)
+        if (memcmp(&a->edges[i], &b->edges[i], sizeof a->edges[i]) != 0
+            && !(isnan(a->edges[i]) && isnan(b->edges[i])))
+            return 0;
+    return memcmp(a, b, offsetof(struct shown, edges)) == 0;
+}
+
+static void show(const struct given *in, struct shown *out)
+{
+    out->number = p3p_plate_preview(in->plate, in->has_inverse, in->target, in->point,
+                                    in->bearings, out->poses, out->updates, out->lifted,
+                                    &out->count, out->edges);
+}
+
+/* The same by replacing the target on a copy and solving with it. */
+static void replace_and_solve(const struct given *in, struct shown *out)
+{
+    struct given copy = *in;
+    memset(out->edges, 0, sizeof out->edges);
+    out->number = p3p_plate_replace(copy.plate, &copy.has_inverse, in->target, in->point);
+    if (out->number != 0)
+        return;
+    memcpy(out->edges, copy.plate + 9, sizeof out->edges);
+    out->number = p3p_plate_solve(copy.plate, copy.has_inverse, in->bearings, out->poses,
+                                  out->updates, out->lifted, &out->count);
+}
+
+/* An expected preview with an expectation changed. */
+static void change_expected(struct shown *expected, struct given *before)
+{
+    expected->number += added;
+    if (is_changed("edges"))
+        expected->edges[0] = -expected->edges[0];
+    if (is_changed("poses"))
+        expected->poses[0] = -expected->poses[0];
+    if (is_changed("given"))
+        before->plate[20] += 1;
+}
+
+/* A preview must leave what replacing and solving do, and what it reads as it was. It writes the
+ * edges in any case, and all else only where it answers: what it left of the pattern tells. */
+static void expect_preview(const char *call, uint32_t expected, struct given *in)
+{
+    struct given before;
+    struct shown other, found;
+    memcpy(&before, in, sizeof before);
+    memset(&other, PATTERN, sizeof other);
+    memset(&found, PATTERN, sizeof found);
+    replace_and_solve(in, &other);
+    show(in, &found);
+    calls++;
+    previews++;
+    change_expected(&other, &before);
+    if (found.number != expected + added || !is_same(&found, &other)
+        || memcmp(in, &before, sizeof before) != 0) {
+        wrong++;
+        if (*change == 0)
+            printf("%s: %u in place of %u, edges %g %g %g\n", call, found.number, expected,
+                   found.edges[0], found.edges[1], found.edges[2]);
+    }
+}
+
+/* For a preview of a plate of three points. */
+static struct given give(const double points[9], uint32_t target, double x, double y, double z)
+{
+    struct given in;
+    memset(&in, 0, sizeof in);
+    p3p_plate_make(points, in.plate, &in.has_inverse);
+    see(points, in.bearings);
+    in.target = target;
+    in.point[0] = x;
+    in.point[1] = y;
+    in.point[2] = z;
+    return in;
+}
+
+static void plate_previews(void)
+{
+    const double points[9] = {0, 0, 0, 0.4, 0, 0, 0, 0.3, 0.05};
+    const double axes[9] = {1, 0, 0, 0, 1, 0, 0, 0, 2};
+    struct given in = give(points, 2, 0, 0.31, 0.06);
+    expect_preview("plate_preview", 0, &in);
+    in.plate[9] = INFINITY; /* of the squared edges, which are worked out anew */
+    in.plate[12] = NAN;     /* of the inverse, likewise */
+    expect_preview("plate_preview, other numbers stored", 0, &in);
+    in.has_inverse = 0;
+    expect_preview("plate_preview, no inverse stored", 0, &in);
+    in.plate[6] = NAN; /* of the target that is replaced */
+    expect_preview("plate_preview of a target not finite", 0, &in);
+    in.target = 1;
+    expect_preview("plate_preview beside a NaN", P3P_INPUT_NOT_FINITE, &in);
+    in = give(points, 0, 0.01, 0, 0);
+    expect_preview("plate_preview, the first target", 0, &in);
+    in.bearings[8] = NAN;
+    expect_preview("plate_preview, a bearing not finite", P3P_INPUT_NOT_FINITE, &in);
+    in.target = 3;
+    expect_preview("plate_preview, no target, a bearing not finite", P3P_NO_SUCH_TARGET, &in);
+    in.target = 4000000000u;
+    in.point[2] = -INFINITY;
+    expect_preview("plate_preview, an infinity, and no target", P3P_INPUT_NOT_FINITE, &in);
+    in = give(points, 2, 0, NAN, 0);
+    expect_preview("plate_preview, a NaN", P3P_INPUT_NOT_FINITE, &in);
+    in = give(points, 2, 1, 0, 0);
+    expect_preview("plate_preview, points on a line", P3P_NO_POSE, &in);
+    in = give(axes, 2, 0, 0, 1);
+    memcpy(in.bearings, in.plate, sizeof in.bearings);
+    in.bearings[8] = 1;
+    expect_preview("plate_preview, the axes", P3P_NO_USABLE_ORDERING, &in);
 }
 
 /* four times the pose that moves nothing, about zero or about a point */
@@ -279,15 +415,17 @@ static void records(void)
 
 int main(int argc, char **argv)
 {
-    (void)argv;
-    added = argc > 1 ? 1 : 0;
+    if (argc > 1)
+        change = argv[1];
+    added = is_changed("number") ? 1 : 0;
     memset(&lent, PATTERN, sizeof lent);
     solves();
     operations();
     plate_solves();
+    plate_previews();
     choices();
     roots();
     records();
-    printf("%u of %u calls wrong\n", wrong, calls);
+    printf("%u of %u calls wrong; previews: %u\n", wrong, calls, previews);
     return wrong == 0 ? 0 : 1;
 }

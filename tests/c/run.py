@@ -7,8 +7,8 @@
 The examples are compiled as C99 and as C++ with all warnings as errors, and must print what is
 stored in include/; of the sample they must list what samples/listing.txt does. inputs.py beside
 this has more runs of records.c. The commands of include/README.md are run as they stand there.
-tests/c/refusals.c calls for every refusal number. Examples with another number, and refusals.c
-with other expectations, must be found wrong.
+tests/c/refusals.c calls for every refusal number, and for previews. Examples with another number,
+and refusals.c with other expectations, must be found wrong.
 
 Needs cc and c++."""
 import ast
@@ -23,7 +23,9 @@ import inputs
 
 WARNINGS = ["-Wall", "-Wextra", "-pedantic", "-Werror"]
 LANGUAGES = {"c": ["cc", "-std=c99"], "c++": ["c++", "-std=c++11"]}
-STORED = {name: f"include/{name}.txt" for name in ("example", "grid", "plate", "records")}
+# records.c, which reads records, has runs of its own
+EXAMPLES = ("example", "grid", "plate", "preview")
+STORED = {name: f"include/{name}.txt" for name in (*EXAMPLES, "records")}
 SAMPLE, LISTING = inputs.read("samples/frames.bin"), "samples/listing.txt"
 
 
@@ -74,7 +76,7 @@ def run_examples(folder, language, library):
 
 def compare_examples(compared, folder, language, library):
     printed, programs = run_examples(folder, language, library)
-    for name in ("example", "grid", "plate"):
+    for name in EXAMPLES:
         compared.equal(f"{name} ({language})", printed[name], read(STORED[name]))
     for run in inputs.runs():
         command = ["sh", "-c", f'exec "$0" {run.redirected}', programs["records"]]
@@ -98,8 +100,9 @@ OTHER_HOLES = {
     "example": ("{0.25, -0.5, 0.0}", "{0.25, -0.5, 0.000001}"),
     "grid": ("5334000.0, 512.125}", "5334000.0, 512.125001}"),
     "plate": ("{0.25, -0.5, 0.0}", "{0.25, -0.5, 0.000001}"),
+    "preview": ("{0.25, -0.5, 0.0}", "{0.25, -0.5, 0.000001}"),
 }
-# Changes of the numbers of grid.c and plate.c, and the last line that they print then.
+# Changes of the numbers of grid.c, plate.c and preview.c, and the last line that they print then.
 REFUSED = [
     ("grid", "{691000.75, 5334000.5, 512.125}", "{INFINITY, 0.0, 0.0}", "refused 1"),
     ("grid", "{0.075, 0.25, 2.4}", "{0.0, 0.0, 0.0}", "refused 10"),
@@ -108,7 +111,10 @@ REFUSED = [
     ("plate", "{0.0, 0.376, 0.001}", "{0.0, NAN, 0.001}", "refused 1"),
     # seen in the fourth frame alone, by the plate that was brought back
     ("plate", "{0.0, 0.376, 0.001}", "{1.0, 0.0, 0.0}", "refused 3"),
+    ("preview", "{0.0, 0.0, 0.0, 0.5,", "{0.0, 0.0, INFINITY, 0.5,", "refused 1"),
 ]
+# Of what refusals.c expects of previews, the parts that it can change.
+PREVIEW_PARTS = ["edges", "poses", "given"]
 
 
 def build_changed(old, new, language, folder, library, name="example"):
@@ -136,10 +142,13 @@ def compare_changes(compared, folder, language, library):
 def compare_refusals(compared, folder, language, library):
     program = build("tests/c/refusals.c", language, folder, library)
     found = output([program])
-    calls = re.fullmatch(r"0 of (\d+) calls wrong\n", found)
-    compared.equal(f"refusals ({language})", bool(calls) and int(calls[1]) > 0, True)
-    expected = f"{calls[1]} of {calls[1]} calls wrong\n" if calls else ""
-    compared.equal(f"wrong refusals ({language})", output([program, "wrong"], b"", 1), expected)
+    counts = re.fullmatch(r"0 of (\d+) calls wrong; previews: (\d+)\n", found)
+    calls, previews = map(int, counts.groups()) if counts else (0, 0)
+    compared.equal(f"refusals ({language})", previews > 0, True)
+    for change, wrong in (("number", calls), *((part, previews) for part in PREVIEW_PARTS)):
+        expected = f"{wrong} of {calls} calls wrong; previews: {previews}\n"
+        found = output([program, change], b"", 1)
+        compared.equal(f"refusals ({language}), another {change}", found, expected)
 
 
 def compare_listing(compared):
@@ -165,7 +174,7 @@ def compare_page(compared, folder, library):
     example = read(STORED["example"])
     # example.py solves the same plate, and prints less
     python = example[example.index("best") :]
-    others = "".join(read(STORED[name]) for name in ("grid", "plate", "records"))
+    others = "".join(read(path) for name, path in STORED.items() if name != "example")
     expected = example + others + python
     found = output(["sh", "-e", "-c", page_commands(folder, library)])
     compared.equal("include/README.md's commands", found, expected)

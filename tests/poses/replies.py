@@ -2,7 +2,7 @@
 for runs of the program itself (run.py)."""
 import os
 
-VERSION = "poses 0.3.2\n"
+VERSION = "poses 0.3.3\n"
 USAGE = "usage: poses < FILE > LISTING\n"
 HELP = (
     USAGE

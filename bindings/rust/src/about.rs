@@ -1,9 +1,9 @@
 //! The solve about the first target and the choice among its poses, for coordinates many kilometres
 //! from zero (docs/USING.md).
 
-use crate::poses::{Choice, Pose, Poses};
+use crate::poses::{Choice, Lent, Pose, Poses};
 use crate::refusal::Refusal;
-use crate::sys::{self, Slot};
+use crate::sys;
 use std::array;
 
 /// A pose about an origin. It takes world points as they are: [`apply`](Self::apply) subtracts the
@@ -72,18 +72,13 @@ pub fn solve_about(world: &[[f64; 3]; 3], bearings: &[[f64; 3]; 3]) -> Result<Po
     let [p0, p1, p2] = *world;
     let [f0, f1, f2] = *bearings;
     let input = [p0, p1, p2, f0, f1, f2];
-    let (mut found, mut count, mut origin) = ([Slot::default(); 4], 0, [0.0; 3]);
-    let (mut updates, mut lifted) = ([0; 4], [0; 4]);
+    let (mut lent, mut origin) = (Lent::default(), [0.0; 3]);
+    let Lent { slots, updates, lifted, count } = &mut lent;
     // SAFETY: the references are to arrays of this function's own, of the lengths that the C
     // function reads and writes.
-    let number = unsafe {
-        sys::p3p_solve_about(&input, &mut found, &mut updates, &mut lifted, &mut count, &mut origin)
-    };
-    let pose = |slot| PoseAbout {
-        pose: Pose::from_slot(found[slot], updates[slot], lifted[slot]),
-        origin,
-    };
-    Refusal::unless_zero(number, Poses { slots: array::from_fn(pose), count: count as usize })
+    let number =
+        unsafe { sys::p3p_solve_about(&input, slots, updates, lifted, count, &mut origin) };
+    lent.answer(number, |pose| PoseAbout { pose, origin })
 }
 
 /// The choice among poses about the first target, as [`choose`](crate::choose) otherwise. `target`

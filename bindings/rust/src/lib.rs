@@ -48,7 +48,7 @@ mod sys;
 
 pub use about::{choose_about, solve_about, PoseAbout, PosesAbout};
 pub use bearing::normalise;
-pub use plate::{Plate, StoredPlate};
+pub use plate::{Plate, Preview, StoredPlate};
 pub use poses::{choose, solve, Choice, Pose, Poses};
 pub use records::{read_record, records, Frame, Records, RECORD_SIZE};
 pub use refusal::Refusal;

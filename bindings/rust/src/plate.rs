@@ -1,8 +1,8 @@
 //! A plate that serves many frames (docs/USING.md).
 
-use crate::poses::{Pose, Poses};
+use crate::poses::{Lent, Poses};
 use crate::refusal::Refusal;
-use crate::sys::{self, Slot};
+use crate::sys;
 use std::array;
 
 /// Three world points, with what a solve works out from them alone: their squared edges, and an
@@ -17,7 +17,11 @@ use std::array;
 ///     // the poses that `p3p::solve` gives of the same points and bearings
 ///     assert_eq!(plate.solve(&seen), p3p::solve(&plate.points(), &seen));
 /// }
-/// plate.replace(2, &[-0.2, 0.26, 0.05])?; // measured again
+/// let again = [-0.2, 0.26, 0.05]; // measured again
+/// let seen = plate.points().map(|[x, y, z]| p3p::normalise(&[x, y, z + 2.0]).unwrap());
+/// let shown = plate.preview(2, &again, &seen); // what it would do, and the plate is as it was
+/// plate.replace(2, &again)?;
+/// assert_eq!((plate.solve(&seen), plate.squared_edges()), (shown.poses, shown.squared_edges));
 /// assert_eq!(plate.replace(3, &[0.0; 3]), Err(p3p::Refusal::NoSuchTarget));
 /// # Ok::<(), p3p::Refusal>(())
 /// ```
@@ -42,6 +46,16 @@ pub struct StoredPlate {
     pub numbers: [f64; 21],
     /// Whether there is an inverse.
     pub has_inverse: bool,
+}
+
+/// What a target at another point would do: see [`Plate::preview`].
+#[derive(Clone, Copy, Debug, PartialEq)]
+pub struct Preview {
+    /// The squared edges that would be stored, between targets 0 and 1, 0 and 2, 1 and 2, also
+    /// where the solve alone refuses; three plus zeros where the replacement is refused.
+    pub squared_edges: [f64; 3],
+    /// What the solve would give, or the refusal of the replacement.
+    pub poses: Result<Poses, Refusal>,
 }
 
 impl Plate {
@@ -90,8 +104,8 @@ impl Plate {
     /// [`from_stored`](Self::from_stored).
     pub fn solve(&self, bearings: &[[f64; 3]; 3]) -> Result<Poses, Refusal> {
         let StoredPlate { numbers, has_inverse } = &self.stored;
-        let (mut found, mut count) = ([Slot::default(); 4], 0);
-        let (mut updates, mut lifted) = ([0; 4], [0; 4]);
+        let mut lent = Lent::default();
+        let Lent { slots, updates, lifted, count } = &mut lent;
         // SAFETY: the references are to arrays of the lengths that the C function reads and writes,
         // and those that it writes are this function's own.
         let number = unsafe {
@@ -99,14 +113,39 @@ impl Plate {
                 numbers,
                 u32::from(*has_inverse),
                 bearings,
-                &mut found,
-                &mut updates,
-                &mut lifted,
-                &mut count,
+                slots,
+                updates,
+                lifted,
+                count,
             )
         };
-        let pose = |slot| Pose::from_slot(found[slot], updates[slot], lifted[slot]);
-        Refusal::unless_zero(number, Poses { slots: array::from_fn(pose), count: count as usize })
+        lent.answer(number, |pose| pose)
+    }
+
+    /// What [`replace`](Self::replace) and then [`solve`](Self::solve) would give, bit for bit; the
+    /// plate stays as it is. The replacement's questions are asked first, then the solve's.
+    /// Whatever squared edges and inverse the plate holds, the answer is what
+    /// [`solve`](crate::solve) gives of its points, the new one among them, and the bearings.
+    pub fn preview(&self, target: u32, point: &[f64; 3], bearings: &[[f64; 3]; 3]) -> Preview {
+        let StoredPlate { numbers, has_inverse } = &self.stored;
+        let (mut lent, mut squared_edges) = (Lent::default(), [0.0; 3]);
+        let Lent { slots, updates, lifted, count } = &mut lent;
+        // SAFETY: as in `solve`.
+        let number = unsafe {
+            sys::p3p_plate_preview(
+                numbers,
+                u32::from(*has_inverse),
+                target,
+                point,
+                bearings,
+                slots,
+                updates,
+                lifted,
+                count,
+                &mut squared_edges,
+            )
+        };
+        Preview { squared_edges, poses: lent.answer(number, |pose| pose) }
     }
 
     /// The three world points.

@@ -97,6 +97,28 @@ impl<'a, P> IntoIterator for &'a Poses<P> {
     }
 }
 
+/// The memory that is lent to a solve of the C interface.
+#[derive(Default)]
+pub(crate) struct Lent {
+    pub(crate) slots: [Slot; 4],
+    pub(crate) updates: [u32; 4],
+    pub(crate) lifted: [u32; 4],
+    pub(crate) count: u32,
+}
+
+impl Lent {
+    /// The poses that a solve has left here, each made into a `P`, or the refusal of its number.
+    pub(crate) fn answer<P>(
+        &self,
+        number: u32,
+        made: impl Fn(Pose) -> P,
+    ) -> Result<Poses<P>, Refusal> {
+        let pose = |k| made(Pose::from_slot(self.slots[k], self.updates[k], self.lifted[k]));
+        let poses = Poses { slots: array::from_fn(pose), count: self.count as usize };
+        Refusal::unless_zero(number, poses)
+    }
+}
+
 /// The poses from which three world points are seen at three bearings, each point and bearing as x,
 /// y, z. The bearings are to be unit vectors, normalised in double
 /// ([`normalise`](crate::normalise)): the further their lengths are off, the more are refused and
@@ -105,14 +127,12 @@ pub fn solve(world: &[[f64; 3]; 3], bearings: &[[f64; 3]; 3]) -> Result<Poses, R
     let [p0, p1, p2] = *world;
     let [f0, f1, f2] = *bearings;
     let input = [p0, p1, p2, f0, f1, f2];
-    let (mut found, mut count) = ([Slot::default(); 4], 0);
-    let (mut updates, mut lifted) = ([0; 4], [0; 4]);
+    let mut lent = Lent::default();
+    let Lent { slots, updates, lifted, count } = &mut lent;
     // SAFETY: the references are to arrays of this function's own, of the lengths that the C
     // function reads and writes.
-    let number =
-        unsafe { sys::p3p_solve(&input, &mut found, &mut updates, &mut lifted, &mut count) };
-    let pose = |slot| Pose::from_slot(found[slot], updates[slot], lifted[slot]);
-    Refusal::unless_zero(number, Poses { slots: array::from_fn(pose), count: count as usize })
+    let number = unsafe { sys::p3p_solve(&input, slots, updates, lifted, count) };
+    lent.answer(number, |pose| pose)
 }
 
 /// The pose that a fourth target confirms.

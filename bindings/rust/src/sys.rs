@@ -84,6 +84,18 @@ extern "C" {
         lifted: &mut [u32; 4],
         count: &mut u32,
     ) -> u32;
+    pub fn p3p_plate_preview(
+        plate: &[f64; 21],
+        has_inverse: u32,
+        target: u32,
+        point: &[f64; 3],
+        bearings: &[[f64; 3]; 3],
+        poses: &mut [Slot; 4],
+        updates: &mut [u32; 4],
+        lifted: &mut [u32; 4],
+        count: &mut u32,
+        edges: &mut [f64; 3],
+    ) -> u32;
     // `bytes` must be readable for `length` bytes.
     pub fn p3p_read_record(bytes: *const u8, length: usize, frame: &mut [[f64; 3]; 8]) -> u32;
 }

@@ -1,6 +1,6 @@
-//! Plates: their operations, the solve with them, and plates that were kept elsewhere.
+//! Plates: their operations, the solve with them, previews, and plates that were kept elsewhere.
 
-use p3p::{Plate, Poses, Refusal, StoredPlate};
+use p3p::{Plate, Poses, Preview, Refusal, StoredPlate};
 
 type Points = [[f64; 3]; 3];
 
@@ -44,6 +44,26 @@ fn solved(plate: &Plate, bearings: &Points) -> Bits {
     let found = solve_bits(plate.solve(bearings));
     assert_eq!(found, solve_bits(p3p::solve(&plate.points(), bearings)));
     found
+}
+
+/// What a preview shows, by its bits; of NaNs, whose bits nobody promises, by those of one.
+fn preview_bits(shown: &Preview) -> ([u64; 3], Bits) {
+    let bits = |x: f64| if x.is_nan() { f64::NAN } else { x }.to_bits();
+    (shown.squared_edges.map(bits), solve_bits(shown.poses))
+}
+
+/// A preview, which must be what replacing the target on a copy and solving with it give, and leave
+/// the plate as it was.
+fn previewed(plate: &Plate, target: u32, point: &[f64; 3], bearings: &Points) -> Preview {
+    let before = plate_bits(plate);
+    let shown = plate.preview(target, point, bearings);
+    assert_eq!(plate_bits(plate), before);
+    let mut copy = *plate;
+    let replaced = copy.replace(target, point);
+    let squared_edges = replaced.map_or([0.0; 3], |()| copy.squared_edges());
+    let expected = Preview { squared_edges, poses: replaced.and_then(|()| copy.solve(bearings)) };
+    assert_eq!(preview_bits(&shown), preview_bits(&expected));
+    shown
 }
 
 /// The plate with one of its numbers changed.
@@ -167,6 +187,68 @@ fn a_nan_in_another_point_does_not_stop_a_replacement() {
     assert_eq!(plate.solve(&bearings), Err(Refusal::InputNotFinite));
     assert_eq!(plate.replace(0, &POINTS[0]), Ok(()));
     assert_eq!(plate_bits(&plate), plate_bits(&made(&POINTS)));
+}
+
+/// The stored squared edges and inverse have no part in a preview.
+#[test]
+fn a_preview_is_the_solve_of_the_moved_points() {
+    let plate = made(&POINTS);
+    let plates = [plate, altered(&plate, 10, 7.0), altered(&plate, 12, f64::NAN)];
+    for old in [plates[0], plates[1], plates[2], without_inverse(&plate)] {
+        for target in 0..3 {
+            let mut points = POINTS;
+            points[target as usize] = [0.1, -0.2, 0.3];
+            for depth in [1.0, 2.0, 3.0] {
+                let bearings = seen(&points, [0.1, -0.2, depth]);
+                let shown = previewed(&old, target, &points[target as usize], &bearings);
+                assert_eq!(solve_bits(shown.poses), solved(&made(&points), &bearings));
+                assert_eq!(shown.squared_edges, made(&points).squared_edges());
+                assert!(shown.poses.is_ok());
+                // at its old place it has others
+                let stays = previewed(&old, target, &POINTS[target as usize], &bearings);
+                assert_ne!(solve_bits(stays.poses), solve_bits(shown.poses));
+                assert_ne!(stays.squared_edges, shown.squared_edges);
+            }
+        }
+    }
+    // in another ordering than the given one
+    let moved = altered(&made(&TURNED), 6, 7.0);
+    assert!(previewed(&moved, 2, &TURNED[2], &seen(&TURNED, BEFORE_TURNED)).poses.is_ok());
+}
+
+#[test]
+fn a_preview_of_a_refused_replacement_shows_zeros() {
+    let (plate, bearings) = (made(&POINTS), seen(&POINTS, [0.1, -0.2, 2.0]));
+    let nowhere = [[f64::NAN; 3]; 3];
+    let refused = |target, point: [f64; 3], bearings, refusal| {
+        let shown = previewed(&plate, target, &point, bearings);
+        assert_eq!(preview_bits(&shown), ([0; 3], Err(refusal)));
+    };
+    refused(2, [0.0, f64::NAN, 0.0], &bearings, Refusal::InputNotFinite);
+    refused(3, [0.0; 3], &bearings, Refusal::NoSuchTarget);
+    refused(u32::MAX, [0.0; 3], &bearings, Refusal::NoSuchTarget);
+    // the point is asked about before the target's number, and both before the bearings
+    refused(3, [f64::INFINITY, 0.0, 0.0], &bearings, Refusal::InputNotFinite);
+    refused(3, [0.0; 3], &nowhere, Refusal::NoSuchTarget);
+}
+
+#[test]
+fn a_preview_of_a_refused_solve_shows_the_edges() {
+    let bearings = seen(&POINTS, [0.1, -0.2, 2.0]);
+    let axes = [[1.0, 0.0, 0.0], [0.0, 1.0, 0.0], [0.0, 0.0, 1.0]];
+    let refused = |points: &Points, point, bearings, edges, refusal| {
+        let shown = previewed(&made(points), 2, &point, bearings);
+        assert_eq!(shown, Preview { squared_edges: edges, poses: Err(refusal) });
+    };
+    let [p0, p1, _] = LINE;
+    refused(&[p0, p1, POINTS[2]], LINE[2], &bearings, [1.0, 4.0, 1.0], Refusal::NoPose);
+    refused(&[p0, p1, p1], p0, &[[f64::NAN; 3]; 3], [1.0, 0.0, 1.0], Refusal::InputNotFinite);
+    refused(&[axes[0], axes[1], p0], axes[2], &axes, [2.0; 3], Refusal::NoUsableOrdering);
+    // a NaN in another point: its edges are NaNs, and the third is the new one
+    let shown = previewed(&altered(&made(&LINE), 0, f64::NAN), 2, &[3.0, 0.0, 0.0], &bearings);
+    assert_eq!(shown.poses, Err(Refusal::InputNotFinite));
+    assert_eq!(shown.squared_edges.map(f64::is_nan), [true, true, false]);
+    assert_eq!(shown.squared_edges[2], 4.0);
 }
 
 #[test]

@@ -65,7 +65,7 @@ pub fn answer(request: Request) {
     match request {
         Request::Listing => list(STDIN_FILENO),
         Request::Help => put_help(),
-        Request::Version => put(b"poses 0.3.2\n"),
+        Request::Version => put(b"poses 0.3.3\n"),
         Request::Usage => {
             io::write_all(STDERR_FILENO, b"usage: poses < FILE > LISTING\n");
         }
