@@ -48,7 +48,7 @@ pub enum Found {
 
 // The bytes of a record.
 fn length(subject: Subject) -> usize
-    ensures { λ r. ⌜ (r ≡ 8 * subjectWords subject) × (r ≤ 712) ⌝ }
+    ensures { λ r. ⌜ (r ≡ 8 * subjectWords subject) × (r ≤ 768) ⌝ }
 {
     match subject {
         Subject::Single(operation) => operations::length(operation),
@@ -63,7 +63,7 @@ fn length(subject: Subject) -> usize
 }
 
 // Whether the function gives the record's answer.
-fn holds(subject: Subject, s: &[u8; 712]) -> bool
+fn holds(subject: Subject, s: &[u8; 768]) -> bool
     ensures { λ r. ⌜ r ≡ subjectHolds subject (now (s .entry)) ⌝ }
 {
     match subject {
@@ -80,7 +80,7 @@ fn holds(subject: Subject, s: &[u8; 712]) -> bool
 
 // Reads the next record and tries it.
 fn step(fd: i32, subject: Subject) -> Found {
-    let mut record = [0u8; 712];
+    let mut record = [0u8; 768];
     let n = length(subject);
     let got = io::read_full(fd, &mut record[..n]);
     if got == 0 {

@@ -12,13 +12,13 @@ use replay_words::word;
 
 // The bytes of a record.
 pub fn length() -> usize
-    ensures { λ r. ⌜ (r ≡ 8 * chooseAboutWords) × (r ≤ 712) ⌝ }
+    ensures { λ r. ⌜ (r ≡ 8 * chooseAboutWords) × (r ≤ 768) ⌝ }
 {
     488
 }
 
 // Whether the choice gives the record's answer.
-pub fn holds(s: &[u8; 712]) -> bool
+pub fn holds(s: &[u8; 768]) -> bool
     ensures { λ r. ⌜ r ≡ chooseAboutHolds (now (s .entry)) ⌝ }
 {
     let count = narrow(word(s, 0));

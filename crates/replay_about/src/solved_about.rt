@@ -13,12 +13,12 @@ use replay_stages::answers::answer_agrees;
 
 // The bytes of a record.
 pub fn length() -> usize
-    ensures { λ r. ⌜ (r ≡ 8 * solveAboutWords) × (r ≤ 712) ⌝ }
+    ensures { λ r. ⌜ (r ≡ 8 * solveAboutWords) × (r ≤ 768) ⌝ }
 {
     632
 }
 
-fn answer_about_agrees(about: AnswerAbout, s: &[u8; 712]) -> bool
+fn answer_about_agrees(about: AnswerAbout, s: &[u8; 768]) -> bool
     ensures { λ r. ⌜ r ≡ answerAboutAgrees about (now (s .entry)) ⌝ }
 {
     let answer = answer_agrees(about.answer, s, 144, 184);
@@ -27,7 +27,7 @@ fn answer_about_agrees(about: AnswerAbout, s: &[u8; 712]) -> bool
 }
 
 // Whether the solve gives the record's answer.
-pub fn holds(s: &[u8; 712]) -> bool
+pub fn holds(s: &[u8; 768]) -> bool
     ensures { λ r. ⌜ r ≡ solveAboutHolds (now (s .entry)) ⌝ }
 {
     let world = world_at(s, 0);

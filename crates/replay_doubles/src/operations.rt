@@ -25,7 +25,7 @@ pub enum Operation {
 
 // The bytes of a record.
 pub fn length(operation: Operation) -> usize
-    ensures { λ r. ⌜ (r ≡ 8 * operationWords operation) × (r ≤ 712) ⌝ }
+    ensures { λ r. ⌜ (r ≡ 8 * operationWords operation) × (r ≤ 768) ⌝ }
 {
     match operation {
         Operation::Abs => 16,
@@ -53,7 +53,7 @@ fn place(order: Order) -> u64
 }
 
 // Whether the operation gives the record's result.
-pub fn holds(operation: Operation, s: &[u8; 712]) -> bool
+pub fn holds(operation: Operation, s: &[u8; 768]) -> bool
     ensures { λ r. ⌜ r ≡ operationHolds operation (now (s .entry)) ⌝ }
 {
     let x = double_at(s, 0);

@@ -21,7 +21,7 @@ pub enum Finder {
 
 // The bytes of a record.
 pub fn length(finder: Finder) -> usize
-    ensures { λ r. ⌜ (r ≡ 8 * finderWords finder) × (r ≤ 712) ⌝ }
+    ensures { λ r. ⌜ (r ≡ 8 * finderWords finder) × (r ≤ 768) ⌝ }
 {
     match finder {
         Finder::Quadratic => 48,
@@ -31,7 +31,7 @@ pub fn length(finder: Finder) -> usize
 }
 
 // The number 0, the kind and two roots.
-fn two_agree(kind: u64, x: f64, y: f64, s: &[u8; 712]) -> bool
+fn two_agree(kind: u64, x: f64, y: f64, s: &[u8; 768]) -> bool
     ensures { λ r. ⌜ r ≡ twoAgree kind x y (now (s .entry)) ⌝ }
 {
     let number = number_agrees(0, s, 16) & number_agrees(kind, s, 24);
@@ -39,7 +39,7 @@ fn two_agree(kind: u64, x: f64, y: f64, s: &[u8; 712]) -> bool
 }
 
 // A pair of its kind, or the refusal number.
-fn pair_agrees(answer: Roots, s: &[u8; 712]) -> bool
+fn pair_agrees(answer: Roots, s: &[u8; 768]) -> bool
     ensures { λ r. ⌜ r ≡ pairAgrees answer (now (s .entry)) ⌝ }
 {
     match answer {
@@ -51,14 +51,14 @@ fn pair_agrees(answer: Roots, s: &[u8; 712]) -> bool
     }
 }
 
-fn quadratic_holds(s: &[u8; 712]) -> bool
+fn quadratic_holds(s: &[u8; 768]) -> bool
     ensures { λ r. ⌜ r ≡ quadraticHolds (now (s .entry)) ⌝ }
 {
     pair_agrees(quadratic_real_monic(double_at(s, 0), double_at(s, 8)), s)
 }
 
 // The number 0 and one root, or the refusal number.
-fn root_agrees(answer: Roots, s: &[u8; 712]) -> bool
+fn root_agrees(answer: Roots, s: &[u8; 768]) -> bool
     ensures { λ r. ⌜ r ≡ rootAgrees answer (now (s .entry)) ⌝ }
 {
     match answer {
@@ -70,7 +70,7 @@ fn root_agrees(answer: Roots, s: &[u8; 712]) -> bool
     }
 }
 
-fn cubic_holds(s: &[u8; 712]) -> bool
+fn cubic_holds(s: &[u8; 768]) -> bool
     ensures { λ r. ⌜ r ≡ cubicHolds (now (s .entry)) ⌝ }
 {
     let answer = polished_cubic_root(double_at(s, 0), double_at(s, 8), double_at(s, 16));
@@ -78,7 +78,7 @@ fn cubic_holds(s: &[u8; 712]) -> bool
 }
 
 // Whether the function gives the record's answer.
-pub fn holds(finder: Finder, s: &[u8; 712]) -> bool
+pub fn holds(finder: Finder, s: &[u8; 768]) -> bool
     ensures { λ r. ⌜ r ≡ finderHolds finder (now (s .entry)) ⌝ }
 {
     match finder {

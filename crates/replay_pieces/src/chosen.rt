@@ -18,14 +18,14 @@ use replay_words::word;
 
 // The bytes of a record.
 pub fn length() -> usize
-    ensures { λ r. ⌜ (r ≡ 8 * choiceWords) × (r ≤ 712) ⌝ }
+    ensures { λ r. ⌜ (r ≡ 8 * choiceWords) × (r ≤ 768) ⌝ }
 {
     464
 }
 
 // The refusal number, the place and the score begin at `at`.
-pub fn choice_agrees(choice: Choice, s: &[u8; 712], at: usize) -> bool
-    requires { ⌜ at ≤ 688 ⌝ }
+pub fn choice_agrees(choice: Choice, s: &[u8; 768], at: usize) -> bool
+    requires { ⌜ at ≤ 744 ⌝ }
     ensures { λ r. ⌜ r ≡ choiceAgrees choice (now (s .entry)) at ⌝ }
 {
     match choice {
@@ -39,8 +39,8 @@ pub fn choice_agrees(choice: Choice, s: &[u8; 712], at: usize) -> bool
 }
 
 // Four poses, of twelve words each, begin at `at`.
-pub fn poses_at(s: &[u8; 712], at: usize) -> [Pose; 4]
-    requires { ⌜ at ≤ 328 ⌝ }
+pub fn poses_at(s: &[u8; 768], at: usize) -> [Pose; 4]
+    requires { ⌜ at ≤ 384 ⌝ }
     ensures { λ r. ⌜ r ≡ posesAt (now (s .entry)) at ⌝ }
 {
     let first = pose_at(s, at);
@@ -51,7 +51,7 @@ pub fn poses_at(s: &[u8; 712], at: usize) -> [Pose; 4]
 }
 
 // Whether the choice gives the record's answer.
-pub fn holds(s: &[u8; 712]) -> bool
+pub fn holds(s: &[u8; 768]) -> bool
     ensures { λ r. ⌜ r ≡ choiceHolds (now (s .entry)) ⌝ }
 {
     let count = narrow(word(s, 0));

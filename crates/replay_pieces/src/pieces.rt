@@ -42,7 +42,7 @@ pub enum Piece {
 
 // The bytes of a record.
 pub fn length(piece: Piece) -> usize
-    ensures { λ r. ⌜ (r ≡ 8 * pieceWords piece) × (r ≤ 712) ⌝ }
+    ensures { λ r. ⌜ (r ≡ 8 * pieceWords piece) × (r ≤ 768) ⌝ }
 {
     match piece {
         Piece::Refine => 112,
@@ -55,8 +55,8 @@ pub fn length(piece: Piece) -> usize
     }
 }
 
-fn cosines_at(s: &[u8; 712], at: usize) -> Cosines
-    requires { ⌜ at ≤ 688 ⌝ }
+fn cosines_at(s: &[u8; 768], at: usize) -> Cosines
+    requires { ⌜ at ≤ 744 ⌝ }
     ensures { λ r. ⌜ r ≡ cosinesAt (now (s .entry)) at ⌝ }
 {
     Cosines {
@@ -66,7 +66,7 @@ fn cosines_at(s: &[u8; 712], at: usize) -> Cosines
     }
 }
 
-fn refined_agrees(refined: Refined, s: &[u8; 712]) -> bool
+fn refined_agrees(refined: Refined, s: &[u8; 768]) -> bool
     ensures { λ r. ⌜ r ≡ refinedAgrees refined (now (s .entry)) ⌝ }
 {
     let depths = refined.depths;
@@ -74,7 +74,7 @@ fn refined_agrees(refined: Refined, s: &[u8; 712]) -> bool
 }
 
 // Depths, squared edges, cosines and the limit; the updates and the depths.
-fn refine_holds(s: &[u8; 712]) -> bool
+fn refine_holds(s: &[u8; 768]) -> bool
     ensures { λ r. ⌜ r ≡ refineHolds (now (s .entry)) ⌝ }
 {
     let depths = vector_at(s, 0);
@@ -85,7 +85,7 @@ fn refine_holds(s: &[u8; 712]) -> bool
 }
 
 // The camera point and the bearing; whether they fit.
-fn ray_holds(s: &[u8; 712]) -> bool
+fn ray_holds(s: &[u8; 768]) -> bool
     ensures { λ r. ⌜ r ≡ rayHolds (now (s .entry)) ⌝ }
 {
     let camera = vector_at(s, 0);
@@ -94,13 +94,13 @@ fn ray_holds(s: &[u8; 712]) -> bool
 }
 
 // The matrix; whether it is near a rotation.
-fn near_holds(s: &[u8; 712]) -> bool
+fn near_holds(s: &[u8; 768]) -> bool
     ensures { λ r. ⌜ r ≡ nearHolds (now (s .entry)) ⌝ }
 {
     number_agrees(flag(has_near_orthonormal_columns(matrix_at(s, 0))), s, 72)
 }
 
-fn projection_agrees(projection: Projection, s: &[u8; 712]) -> bool
+fn projection_agrees(projection: Projection, s: &[u8; 768]) -> bool
     ensures { λ r. ⌜ r ≡ projectionAgrees projection (now (s .entry)) ⌝ }
 {
     match projection {
@@ -110,13 +110,13 @@ fn projection_agrees(projection: Projection, s: &[u8; 712]) -> bool
 }
 
 // The matrix; whether there is a rotation, and the rotation.
-fn project_holds(s: &[u8; 712]) -> bool
+fn project_holds(s: &[u8; 768]) -> bool
     ensures { λ r. ⌜ r ≡ projectHolds (now (s .entry)) ⌝ }
 {
     projection_agrees(project_to_rotation(matrix_at(s, 0)), s)
 }
 
-fn basis_agrees(basis: Basis, s: &[u8; 712]) -> bool
+fn basis_agrees(basis: Basis, s: &[u8; 768]) -> bool
     ensures { λ r. ⌜ r ≡ basisAgrees basis (now (s .entry)) ⌝ }
 {
     match basis {
@@ -126,7 +126,7 @@ fn basis_agrees(basis: Basis, s: &[u8; 712]) -> bool
 }
 
 // Two edges; whether there is an inverse, and the inverse.
-fn basis_holds(s: &[u8; 712]) -> bool
+fn basis_holds(s: &[u8; 768]) -> bool
     ensures { λ r. ⌜ r ≡ basisHolds (now (s .entry)) ⌝ }
 {
     let first = vector_at(s, 0);
@@ -135,7 +135,7 @@ fn basis_holds(s: &[u8; 712]) -> bool
 }
 
 // Two edges and the inverse; the rotation.
-fn edges_hold(s: &[u8; 712]) -> bool
+fn edges_hold(s: &[u8; 768]) -> bool
     ensures { λ r. ⌜ r ≡ edgesHold (now (s .entry)) ⌝ }
 {
     let first = vector_at(s, 0);
@@ -145,7 +145,7 @@ fn edges_hold(s: &[u8; 712]) -> bool
 }
 
 // Whether the function gives the record's answer.
-pub fn holds(piece: Piece, s: &[u8; 712]) -> bool
+pub fn holds(piece: Piece, s: &[u8; 768]) -> bool
     ensures { λ r. ⌜ r ≡ pieceHolds piece (now (s .entry)) ⌝ }
 {
     match piece {

@@ -74,7 +74,7 @@ fn is_marker(pose: Pose, bits: u64) -> bool
 
 // Whether slot `mark - 1` holds the pose that the record says was pushed there, lifted; else
 // whether it is as it was.
-fn slot_holds(s: &[u8; 712], mark: u64, pose: Pose, updates: u32, lifted: bool) -> bool
+fn slot_holds(s: &[u8; 768], mark: u64, pose: Pose, updates: u32, lifted: bool) -> bool
     ensures { λ r. ⌜ r ≡ slotHolds (now (s .entry)) mark pose updates lifted ⌝ }
 {
     if (word(s, 256) == mark) & (word(s, 248) < mark) {
@@ -83,7 +83,7 @@ fn slot_holds(s: &[u8; 712], mark: u64, pose: Pose, updates: u32, lifted: bool) 
     !lifted & (updates as u64 == mark) & is_marker(pose, mark)
 }
 
-fn slots_hold(s: &[u8; 712], poses: [Pose; 4], updates: [u32; 4], lifted: [bool; 4]) -> bool
+fn slots_hold(s: &[u8; 768], poses: [Pose; 4], updates: [u32; 4], lifted: [bool; 4]) -> bool
     ensures { λ r. ⌜ r ≡ slotsHold (now (s .entry)) poses updates lifted ⌝ }
 {
     let first = slot_holds(s, 1, poses[0], updates[0], lifted[0]);
@@ -93,7 +93,7 @@ fn slots_hold(s: &[u8; 712], poses: [Pose; 4], updates: [u32; 4], lifted: [bool;
     first & second & third & fourth
 }
 
-fn solutions_hold(after: Solutions, s: &[u8; 712]) -> bool
+fn solutions_hold(after: Solutions, s: &[u8; 768]) -> bool
     ensures { λ r. ⌜ r ≡ solutionsHold after (now (s .entry)) ⌝ }
 {
     let poses = after.poses;
@@ -104,7 +104,7 @@ fn solutions_hold(after: Solutions, s: &[u8; 712]) -> bool
 
 // World points, bearings, the matrix, the translation, the updates and the count; the count, the
 // updates and the pose. What is pushed is lifted.
-pub(crate) fn push_holds(s: &[u8; 712]) -> bool
+pub(crate) fn push_holds(s: &[u8; 768]) -> bool
     ensures { λ r. ⌜ r ≡ pushHolds (now (s .entry)) ⌝ }
 {
     let world = world_at(s, 0);

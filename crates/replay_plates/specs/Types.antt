@@ -4,6 +4,7 @@ pub use Rattle.frames.specs.declared.squared_edges.SquaredEdges.{SquaredEdges}
 pub use Rattle.frames.specs.declared.world.World.{World}
 pub use Rattle.plates.specs.declared.plate.Plate.{Plate}
 pub use Rattle.plates.specs.declared.outcome.Outcome.{Outcome}
+pub use Rattle.preview.specs.declared.preview.Shown.{Shown}
 pub use Rattle.replay_plates.specs.declared.handlings.Handling.{Handling}
 pub use Rattle.replay_plates.specs.declared.handlings.Handling.the-variants.{
   Make,
@@ -11,4 +12,5 @@ pub use Rattle.replay_plates.specs.declared.handlings.Handling.the-varia
   Exchange,
   Scale,
   Solve,
+  Preview,
 }

@@ -19,7 +19,7 @@ use replay_records::contents::world_at;
 use replay_words::word;
 
 // The plate that a record begins with. Any number but 0 says that there is an inverse.
-pub(crate) fn plate_at(s: &[u8; 712]) -> Plate
+pub(crate) fn plate_at(s: &[u8; 768]) -> Plate
     ensures { λ r. ⌜ r ≡ plateAt (now (s .entry)) ⌝ }
 {
     let world = world_at(s, 0);
@@ -33,8 +33,8 @@ pub(crate) fn plate_at(s: &[u8; 712]) -> Plate
     }
 }
 
-fn world_agrees(world: World, s: &[u8; 712], at: usize) -> bool
-    requires { ⌜ at ≤ 640 ⌝ }
+fn world_agrees(world: World, s: &[u8; 768], at: usize) -> bool
+    requires { ⌜ at ≤ 696 ⌝ }
     ensures { λ r. ⌜ r ≡ worldAgrees world (now (s .entry)) at ⌝ }
 {
     let p0 = vector_agrees(world.p0, s, at);
@@ -43,8 +43,8 @@ fn world_agrees(world: World, s: &[u8; 712], at: usize) -> bool
     p0 & p1 & p2
 }
 
-fn squares_agree(edges: SquaredEdges, s: &[u8; 712], at: usize) -> bool
-    requires { ⌜ at ≤ 688 ⌝ }
+pub(crate) fn squares_agree(edges: SquaredEdges, s: &[u8; 768], at: usize) -> bool
+    requires { ⌜ at ≤ 744 ⌝ }
     ensures { λ r. ⌜ r ≡ squaresAgree edges (now (s .entry)) at ⌝ }
 {
     let a01 = double_agrees(edges.a01, s, at);
@@ -53,8 +53,8 @@ fn squares_agree(edges: SquaredEdges, s: &[u8; 712], at: usize) -> bool
     a01 & a02 & a12
 }
 
-fn plate_agrees(plate: Plate, s: &[u8; 712], at: usize) -> bool
-    requires { ⌜ at ≤ 536 ⌝ }
+fn plate_agrees(plate: Plate, s: &[u8; 768], at: usize) -> bool
+    requires { ⌜ at ≤ 592 ⌝ }
     ensures { λ r. ⌜ r ≡ plateAgrees plate (now (s .entry)) at ⌝ }
 {
     let world = world_agrees(plate.world, s, at);
@@ -65,8 +65,8 @@ fn plate_agrees(plate: Plate, s: &[u8; 712], at: usize) -> bool
 }
 
 // The number stands at `at`, the plate after it.
-pub(crate) fn outcome_agrees(outcome: Outcome, s: &[u8; 712], at: usize) -> bool
-    requires { ⌜ at ≤ 528 ⌝ }
+pub(crate) fn outcome_agrees(outcome: Outcome, s: &[u8; 768], at: usize) -> bool
+    requires { ⌜ at ≤ 584 ⌝ }
     ensures { λ r. ⌜ r ≡ outcomeAgrees outcome (now (s .entry)) at ⌝ }
 {
     let number = number_agrees(outcome.refusal as u64, s, at);

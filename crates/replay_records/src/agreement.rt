@@ -10,7 +10,7 @@ use linalg::vector3::Vector3;
 use replay_words::agrees;
 use replay_words::word;
 
-pub fn number_agrees(n: u64, s: &[u8; 712], at: usize) -> bool
+pub fn number_agrees(n: u64, s: &[u8; 768], at: usize) -> bool
     ensures { λ r. ⌜ r ≡ numberAgrees n (now (s .entry)) at ⌝ }
 {
     n == word(s, at)
@@ -23,14 +23,14 @@ pub fn flag(b: bool) -> u64
     if b { 1 } else { 0 }
 }
 
-pub fn double_agrees(x: f64, s: &[u8; 712], at: usize) -> bool
+pub fn double_agrees(x: f64, s: &[u8; 768], at: usize) -> bool
     ensures { λ r. ⌜ r ≡ doubleAgrees x (now (s .entry)) at ⌝ }
 {
     agrees(x, word(s, at))
 }
 
-pub fn vector_agrees(v: Vector3, s: &[u8; 712], at: usize) -> bool
-    requires { ⌜ at ≤ 688 ⌝ }
+pub fn vector_agrees(v: Vector3, s: &[u8; 768], at: usize) -> bool
+    requires { ⌜ at ≤ 744 ⌝ }
     ensures { λ r. ⌜ r ≡ vectorAgrees v (now (s .entry)) at ⌝ }
 {
     let x = double_agrees(v.x, s, at);
@@ -39,8 +39,8 @@ pub fn vector_agrees(v: Vector3, s: &[u8; 712], at: usize) -> bool
     x & y & z
 }
 
-pub fn matrix_agrees(m: Matrix3, s: &[u8; 712], at: usize) -> bool
-    requires { ⌜ at ≤ 640 ⌝ }
+pub fn matrix_agrees(m: Matrix3, s: &[u8; 768], at: usize) -> bool
+    requires { ⌜ at ≤ 696 ⌝ }
     ensures { λ r. ⌜ r ≡ matrixAgrees m (now (s .entry)) at ⌝ }
 {
     let c0 = vector_agrees(m.column0(), s, at);
@@ -49,8 +49,8 @@ pub fn matrix_agrees(m: Matrix3, s: &[u8; 712], at: usize) -> bool
     c0 & c1 & c2
 }
 
-pub fn pose_agrees(pose: Pose, s: &[u8; 712], at: usize) -> bool
-    requires { ⌜ at ≤ 616 ⌝ }
+pub fn pose_agrees(pose: Pose, s: &[u8; 768], at: usize) -> bool
+    requires { ⌜ at ≤ 672 ⌝ }
     ensures { λ r. ⌜ r ≡ poseAgrees pose (now (s .entry)) at ⌝ }
 {
     let rotation = matrix_agrees(pose.rotation, s, at);

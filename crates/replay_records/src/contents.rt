@@ -13,14 +13,14 @@ use linalg::matrix3::Matrix3;
 use linalg::vector3::Vector3;
 use replay_words::word;
 
-pub fn double_at(s: &[u8; 712], at: usize) -> f64
+pub fn double_at(s: &[u8; 768], at: usize) -> f64
     ensures { λ r. ⌜ r ≡ doubleAt (now (s .entry)) at ⌝ }
 {
     from_bits(word(s, at))
 }
 
-pub fn vector_at(s: &[u8; 712], at: usize) -> Vector3
-    requires { ⌜ at ≤ 688 ⌝ }
+pub fn vector_at(s: &[u8; 768], at: usize) -> Vector3
+    requires { ⌜ at ≤ 744 ⌝ }
     ensures { λ r. ⌜ r ≡ vectorAt (now (s .entry)) at ⌝ }
 {
     Vector3 {
@@ -30,8 +30,8 @@ pub fn vector_at(s: &[u8; 712], at: usize) -> Vector3
     }
 }
 
-pub fn matrix_at(s: &[u8; 712], at: usize) -> Matrix3
-    requires { ⌜ at ≤ 640 ⌝ }
+pub fn matrix_at(s: &[u8; 768], at: usize) -> Matrix3
+    requires { ⌜ at ≤ 696 ⌝ }
     ensures { λ r. ⌜ r ≡ matrixAt (now (s .entry)) at ⌝ }
 {
     let c0 = vector_at(s, at);
@@ -40,8 +40,8 @@ pub fn matrix_at(s: &[u8; 712], at: usize) -> Matrix3
     Matrix3::from_columns(c0, c1, c2)
 }
 
-pub fn world_at(s: &[u8; 712], at: usize) -> World
-    requires { ⌜ at ≤ 640 ⌝ }
+pub fn world_at(s: &[u8; 768], at: usize) -> World
+    requires { ⌜ at ≤ 696 ⌝ }
     ensures { λ r. ⌜ r ≡ worldAt (now (s .entry)) at ⌝ }
 {
     World {
@@ -51,8 +51,8 @@ pub fn world_at(s: &[u8; 712], at: usize) -> World
     }
 }
 
-pub fn bearings_at(s: &[u8; 712], at: usize) -> Bearings
-    requires { ⌜ at ≤ 640 ⌝ }
+pub fn bearings_at(s: &[u8; 768], at: usize) -> Bearings
+    requires { ⌜ at ≤ 696 ⌝ }
     ensures { λ r. ⌜ r ≡ bearingsAt (now (s .entry)) at ⌝ }
 {
     Bearings {
@@ -62,8 +62,8 @@ pub fn bearings_at(s: &[u8; 712], at: usize) -> Bearings
     }
 }
 
-pub fn pose_at(s: &[u8; 712], at: usize) -> Pose
-    requires { ⌜ at ≤ 616 ⌝ }
+pub fn pose_at(s: &[u8; 768], at: usize) -> Pose
+    requires { ⌜ at ≤ 672 ⌝ }
     ensures { λ r. ⌜ r ≡ poseAt (now (s .entry)) at ⌝ }
 {
     let rotation = matrix_at(s, at);
@@ -74,8 +74,8 @@ pub fn pose_at(s: &[u8; 712], at: usize) -> Pose
     }
 }
 
-pub fn squares_at(s: &[u8; 712], at: usize) -> SquaredEdges
-    requires { ⌜ at ≤ 688 ⌝ }
+pub fn squares_at(s: &[u8; 768], at: usize) -> SquaredEdges
+    requires { ⌜ at ≤ 744 ⌝ }
     ensures { λ r. ⌜ r ≡ squaresAt (now (s .entry)) at ⌝ }
 {
     SquaredEdges {

@@ -9,8 +9,8 @@ use replay_records::agreement::flag;
 use replay_records::agreement::number_agrees;
 use replay_records::agreement::pose_agrees;
 
-fn slot_agrees(pose: Pose, updates: u32, lifted: bool, s: &[u8; 712], at: usize) -> bool
-    requires { ⌜ at ≤ 600 ⌝ }
+fn slot_agrees(pose: Pose, updates: u32, lifted: bool, s: &[u8; 768], at: usize) -> bool
+    requires { ⌜ at ≤ 656 ⌝ }
     ensures { λ r. ⌜ r ≡ slotAgrees pose updates lifted (now (s .entry)) at ⌝ }
 {
     number_agrees(updates as u64, s, at)
@@ -22,10 +22,10 @@ fn slots_agree(
     poses: [Pose; 4],
     updates: [u32; 4],
     lifted: [bool; 4],
-    s: &[u8; 712],
+    s: &[u8; 768],
     at: usize,
 ) -> bool
-    requires { ⌜ at ≤ 264 ⌝ }
+    requires { ⌜ at ≤ 320 ⌝ }
     ensures { λ r. ⌜ r ≡ slotsAgree poses updates lifted (now (s .entry)) at ⌝ }
 {
     let first = slot_agrees(poses[0], updates[0], lifted[0], s, at);
@@ -36,8 +36,8 @@ fn slots_agree(
 }
 
 // The refusal number and the count begin at `at`, the slots at `slots`.
-pub fn answer_agrees(answer: Answer, s: &[u8; 712], at: usize, slots: usize) -> bool
-    requires { ⌜ (at ≤ 696) × (slots ≤ 264) ⌝ }
+pub fn answer_agrees(answer: Answer, s: &[u8; 768], at: usize, slots: usize) -> bool
+    requires { ⌜ (at ≤ 752) × (slots ≤ 320) ⌝ }
     ensures { λ r. ⌜ r ≡ answerAgrees answer (now (s .entry)) at slots ⌝ }
 {
     let poses = answer.poses;

@@ -18,7 +18,7 @@ use replay_records::agreement::vector_agrees;
 use replay_records::contents::double_at;
 use replay_records::contents::matrix_at;
 
-fn system_agrees(system: Eigensystem, s: &[u8; 712]) -> bool
+fn system_agrees(system: Eigensystem, s: &[u8; 768]) -> bool
     ensures { λ r. ⌜ r ≡ systemAgrees system (now (s .entry)) ⌝ }
 {
     match system {
@@ -32,13 +32,13 @@ fn system_agrees(system: Eigensystem, s: &[u8; 712]) -> bool
     }
 }
 
-pub(crate) fn system_holds(s: &[u8; 712]) -> bool
+pub(crate) fn system_holds(s: &[u8; 768]) -> bool
     ensures { λ r. ⌜ r ≡ systemHolds (now (s .entry)) ⌝ }
 {
     system_agrees(eig_with_known_zero(matrix_at(s, 0)), s)
 }
 
-fn pairs_agree(pairs: Eigenpairs, s: &[u8; 712]) -> bool
+fn pairs_agree(pairs: Eigenpairs, s: &[u8; 768]) -> bool
     ensures { λ r. ⌜ r ≡ pairsAgree pairs (now (s .entry)) ⌝ }
 {
     match pairs {
@@ -55,13 +55,13 @@ fn pairs_agree(pairs: Eigenpairs, s: &[u8; 712]) -> bool
 }
 
 // The two pairs that the solve reads of a system.
-pub(crate) fn pairs_hold(s: &[u8; 712]) -> bool
+pub(crate) fn pairs_hold(s: &[u8; 768]) -> bool
     ensures { λ r. ⌜ r ≡ pairsHold (now (s .entry)) ⌝ }
 {
     pairs_agree(eigenpairs_with_known_zero(matrix_at(s, 0)), s)
 }
 
-fn eigenvector_agrees(eigenvector: Eigenvector, s: &[u8; 712]) -> bool
+fn eigenvector_agrees(eigenvector: Eigenvector, s: &[u8; 768]) -> bool
     ensures { λ r. ⌜ r ≡ eigenvectorAgrees eigenvector (now (s .entry)) ⌝ }
 {
     match eigenvector {
@@ -70,7 +70,7 @@ fn eigenvector_agrees(eigenvector: Eigenvector, s: &[u8; 712]) -> bool
     }
 }
 
-pub(crate) fn row_crosses_hold(s: &[u8; 712]) -> bool
+pub(crate) fn row_crosses_hold(s: &[u8; 768]) -> bool
     ensures { λ r. ⌜ r ≡ rowCrossesHold (now (s .entry)) ⌝ }
 {
     let matrix = matrix_at(s, 0);

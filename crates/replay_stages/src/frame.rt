@@ -7,7 +7,7 @@ use lambdatwist::solve::solve;
 use replay_records::contents::bearings_at;
 use replay_records::contents::world_at;
 
-pub(crate) fn frame_holds(s: &[u8; 712]) -> bool
+pub(crate) fn frame_holds(s: &[u8; 768]) -> bool
     ensures { λ r. ⌜ r ≡ frameHolds (now (s .entry)) ⌝ }
 {
     let world = world_at(s, 0);

@@ -20,7 +20,7 @@ pub enum Stage {
 
 // The bytes of a record.
 pub fn length(stage: Stage) -> usize
-    ensures { λ r. ⌜ (r ≡ 8 * stageWords stage) × (r ≤ 712) ⌝ }
+    ensures { λ r. ⌜ (r ≡ 8 * stageWords stage) × (r ≤ 768) ⌝ }
 {
     match stage {
         Stage::Frame => 664,
@@ -30,7 +30,7 @@ pub fn length(stage: Stage) -> usize
     }
 }
 
-fn condition_holds(s: &[u8; 712]) -> bool
+fn condition_holds(s: &[u8; 768]) -> bool
     ensures { λ r. ⌜ r ≡ conditionHolds (now (s .entry)) ⌝ }
 {
     let world = world_at(s, 0);
@@ -39,7 +39,7 @@ fn condition_holds(s: &[u8; 712]) -> bool
 }
 
 // Whether the function gives the record's answer.
-pub fn holds(stage: Stage, s: &[u8; 712]) -> bool
+pub fn holds(stage: Stage, s: &[u8; 768]) -> bool
     ensures { λ r. ⌜ r ≡ stageHolds stage (now (s .entry)) ⌝ }
 {
     match stage {

@@ -24,9 +24,13 @@ returns-5 : tie.Need-returns-5
 unfolding handlingHolds
 returns-5 c = rw (c .before .enum-told5 .given .1) (c .solve-holds .ensures)
 
+returns-6 : tie.Need-returns-6
+unfolding handlingHolds
+returns-6 c = rw (c .before .enum-told6 .given .1) (c .preview-holds .ensures)
+
 pub holds-spec : {M : Type 1} → statement M
 holds-spec =
     tie.close (tie.spec (λ c. search needs) (λ c _. search needs) (λ c. search needs)
     (λ c _. search needs) (λ c. search needs) (λ c _. search needs) (λ c. search needs)
-    (λ c _. search needs) (λ c. search needs) (λ c _. search needs) returns returns-2 returns-3
-    returns-4 returns-5)
+    (λ c _. search needs) (λ c. search needs) (λ c _. search needs) (λ c. search needs)
+    (λ c _. search needs) returns returns-2 returns-3 returns-4 returns-5 returns-6)
