@@ -34,6 +34,7 @@ const REFUSED: [&str; 3] = [
     "plate preview: solve refuses with 3",
 ];
 const ZEROS: &str = "plate preview: solve refuses, edges plus zeros";
+const LIFTED: &str = "plate preview: poses, one of them lifted";
 
 /// Whether there are poses in an ordering that a solve took by stored edges which are not those of
 /// the points.
@@ -54,7 +55,7 @@ const TAKEN: [&str; 5] = [
     "retry: [2, 1, 0] taken",
 ];
 
-pub const TESTS: [&str; 26] = [
+pub const TESTS: [&str; 27] = [
     POINTS_FINITE,
     POINT_FINITE,
     TARGET,
@@ -81,6 +82,7 @@ pub const TESTS: [&str; 26] = [
     REFUSED[1],
     REFUSED[2],
     ZEROS,
+    LIFTED,
 ];
 
 /// The outcomes that an input reaches; `solved` are those of the Rust in its solve.
@@ -176,11 +178,13 @@ fn previewed(plate: &Plate, own: &Plate, input: &[u64]) -> Vec<Outcome> {
     if copy.points.iter().all(plates::is_finite) {
         outcomes.push((OVERFLOW, !plates::is_finite(&copy.edges)));
     }
-    let refusal = table::second::answer("plate_preview", input)[0];
-    outcomes.extend((1..).zip(REFUSED).map(|(number, label)| (label, refusal == number)));
-    if refusal != 0 {
-        outcomes.push((ZEROS, copy.edges.map(f64::to_bits) == [0; 3]));
-    }
+    let answer = table::second::answer("plate_preview", input);
+    outcomes.extend((1..).zip(REFUSED).map(|(number, label)| (label, answer[0] == number)));
+    outcomes.push(if answer[0] != 0 {
+        (ZEROS, copy.edges.map(f64::to_bits) == [0; 3])
+    } else {
+        (LIFTED, answer[5..].chunks(14).any(|slot| slot[1] == 1))
+    });
     outcomes
 }
 
