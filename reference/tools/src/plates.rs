@@ -104,8 +104,8 @@ pub fn scale(plate: &Plate, k: i64, basis: Basis) -> (u32, Plate) {
     (0, Plate::of(plate.points.map(|point| point.map(|x| x * power)), basis))
 }
 
-/// What a moved target would do (document 02, §5), from its replacement on a copy: that one's refusal
-/// or the solve with the copy, and the squared edges that would be stored, plus zeros where the
+/// What a moved target would do (document 02, §5), from its replacement on a copy: the refusal, or
+/// the solve with the copy; and the squared edges that would be stored, plus zeros where the
 /// replacement is refused.
 pub fn preview<A>(
     (number, copy): (u32, Plate),
