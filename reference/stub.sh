@@ -8,7 +8,9 @@
 # the stored inverse used in another ordering, or made where it is lacking; stored edges not
 # permuted, or those of the points in other orderings; a limit of number 13 by the rounded product;
 # questions in another order; only that worked out anew which an operation changes; a refusal that
-# writes.
+# writes. Of the preview of a moved target must: plus zeros for edges where only the solve refuses;
+# the old plate's edges, always or where the replacement is refused; the old inverse; lent edges
+# left by a refusal; a plate that is written to.
 set -euo pipefail
 here=$(cd "$(dirname "$0")" && pwd)
 sources=$(realpath "${1:?usage: stub.sh SOURCES}")
@@ -41,11 +43,12 @@ compare right beside 50000 | tail -n 1
 compare right pieces 50000 fast_cbrt | tail -n 1
 compare right check "$here/inputs/cbrt.txt" | tail -n 1
 compare right pieces 50000 about choice_about | tail -n 1
-plates="plate_make plate_replace plate_exchange plate_scale plate_solve"
+plates="plate_make plate_replace plate_exchange plate_scale plate_solve plate_preview"
 compare right pieces 50000 $plates | tail -n 1
 compare right plates 200000 | tail -n 1
 for wrong in pose score behind root kind mark about origin target world \
-  inverse lack permuted edges limit order changed writes; do
+  inverse lack permuted edges limit order changed writes \
+  zeros old held stale unset stores; do
   build wrong-$wrong --features=wrong-$wrong
 done
 must_find wrong-pose beside 50000
@@ -77,3 +80,9 @@ must_find wrong-order pieces 50000 plate_replace
 must_find wrong-changed pieces 50000 plate_replace
 must_find wrong-changed pieces 50000 plate_exchange
 must_find wrong-writes pieces 50000 plate_make
+for wrong in zeros old held stale unset stores; do
+  must_find wrong-$wrong plates 200000
+done
+for wrong in zeros old held stale unset stores order changed writes; do
+  must_find wrong-$wrong pieces 50000 plate_preview
+done

@@ -2,7 +2,8 @@
 //! itself. With a feature it is wrong in a last bit now and then, scores a target behind the
 //! camera, takes a discriminant of zero for a lifted one, marks a pose because it stands twice,
 //! solves about the second point or carries it, moves the translation back to the world, does not
-//! move the checking target, or is wrong about plates (plated.rs), which must be found.
+//! move the checking target, or is wrong about plates (plated.rs, previewed.rs), which must be
+//! found.
 
 #[path = "../../tools/src/about.rs"]
 mod about;
@@ -11,6 +12,7 @@ mod choice;
 mod plated;
 #[path = "../../tools/src/plates.rs"]
 mod plates;
+mod previewed;
 
 use copy_second::Answer;
 use copy_second::listed::Listed;

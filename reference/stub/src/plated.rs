@@ -1,11 +1,12 @@
 //! The functions of plates (document 02, §4). With a feature they use the stored inverse in other
 //! orderings, make the one that is lacking, do not permute the stored edges or take those of the
 //! points in other orderings, judge a scaled coordinate by the rounded product, ask in another
-//! order, work only that out anew which an operation changes, or write where they refuse.
+//! order, work only that out anew which an operation changes, or write where they refuse. The
+//! preview of a moved target is in previewed.rs.
 
 use crate::plates::{self, Plate};
-use copy_second::basis;
 use copy_second::stored::{Inverse, Stored, permuted};
+use copy_second::{Answer, basis};
 use nalgebra::Matrix3;
 
 /// Puts an operation's answer into lent memory; a refusal leaves it.
@@ -32,6 +33,17 @@ extern "C" fn p3p_plate_make(
     put(plates::make(*points, basis), Plate::default(), plate, has_inverse)
 }
 
+pub fn replaced(old: &Plate, target: u32, point: &[f64; 3]) -> (u32, Plate) {
+    if cfg!(feature = "wrong-order") && target > 2 {
+        return (11, *old);
+    }
+    let (number, mut new) = plates::replace(old, target as u64, *point, basis);
+    if cfg!(feature = "wrong-changed") && number == 0 {
+        new.edges[2 - target as usize] = old.edges[2 - target as usize];
+    }
+    (number, new)
+}
+
 #[unsafe(no_mangle)]
 extern "C" fn p3p_plate_replace(
     plate: &mut [f64; 21],
@@ -40,14 +52,7 @@ extern "C" fn p3p_plate_replace(
     point: &[f64; 3],
 ) -> u32 {
     let old = Plate::read(plate, *has_inverse != 0);
-    if cfg!(feature = "wrong-order") && target > 2 {
-        return 11;
-    }
-    let (number, mut new) = plates::replace(&old, target as u64, *point, basis);
-    if cfg!(feature = "wrong-changed") && number == 0 {
-        new.edges[2 - target as usize] = old.edges[2 - target as usize];
-    }
-    put((number, new), old, plate, has_inverse)
+    put(replaced(&old, target, point), old, plate, has_inverse)
 }
 
 #[unsafe(no_mangle)]
@@ -125,6 +130,12 @@ impl Stored for Numbers {
     }
 }
 
+pub fn solved(plate: &Plate, bearings: &[f64; 9]) -> Answer {
+    let inverse = plate.stored_inverse().map(|words| Matrix3::from_column_slice(&words));
+    let stored = Numbers { points: plate.points, edges: plate.edges, inverse, given: true };
+    copy_second::solve_stored(&plate.world(), bearings, stored)
+}
+
 #[unsafe(no_mangle)]
 extern "C" fn p3p_plate_solve(
     plate: &[f64; 21],
@@ -135,9 +146,6 @@ extern "C" fn p3p_plate_solve(
     lifted: &mut [u32; 4],
     count: &mut u32,
 ) -> u32 {
-    let plate = Plate::read(plate, has_inverse != 0);
-    let inverse = plate.stored_inverse().map(|words| Matrix3::from_column_slice(&words));
-    let stored = Numbers { points: plate.points, edges: plate.edges, inverse, given: true };
-    let answer = copy_second::solve_stored(&plate.world(), bearings, stored);
+    let answer = solved(&Plate::read(plate, has_inverse != 0), bearings);
     crate::write(&answer, poses, updates, lifted, count)
 }

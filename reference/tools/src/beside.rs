@@ -28,6 +28,7 @@ const ASKED: &[&str] = &[
     "plate_exchange",
     "plate_scale",
     "plate_solve",
+    "plate_preview",
 ];
 
 /// Functions that are only compared between the copies.

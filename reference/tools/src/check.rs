@@ -5,7 +5,8 @@
 //! LABEL is a function's name, or for a frame its kind. A line of `about` has eighteen words, or
 //! twenty-four and then the best by the choice about the first point, as a frame has. Of a plate
 //! (points, edges, inverse, 0 or 1) an operation answers `number N` and a plate, a solve as a frame
-//! does but without a best; target numbers and k are decimal.
+//! does but without a best; target numbers and k are decimal. A line of `preview` (plate, target,
+//! point, bearings) answers `edges`, three words, and as a solve with a plate does.
 
 #[cfg(port)]
 use crate::port;
@@ -20,8 +21,7 @@ pub fn run(files: &[String]) -> Result<(), String> {
             let (left, right) = line.split_once(" -> ").ok_or(format!("{path}: line {number}"))?;
             let (second, asis) = right.split_once(" | asis ").unwrap_or((right, right));
             let (label, words) = left.split_once(' ').ok_or(format!("{path}: line {number}"))?;
-            let name =
-                FUNCTIONS.iter().map(|f| f.name).find(|name| *name == label).unwrap_or("frame");
+            let name = function(label);
             let input = parse_input(name, words);
             let ported = port_answer(name, &input);
             asked += ported.is_some() as usize;
@@ -49,6 +49,14 @@ pub fn run(files: &[String]) -> Result<(), String> {
     }
     println!("{total} answers equal");
     Ok(())
+}
+
+/// The function that a label stands for.
+fn function(label: &str) -> &'static str {
+    match label {
+        "preview" => "plate_preview",
+        _ => FUNCTIONS.iter().map(|f| f.name).find(|name| *name == label).unwrap_or("frame"),
+    }
 }
 
 /// The words of an answer. After those of `about` on twenty-four words comes the best (from 1; 0
@@ -89,7 +97,7 @@ fn parse_input(name: &str, words: &str) -> Vec<u64> {
         "refine" => &[9],
         "choice" | "choice_about" => &[0],
         "plate_solve" => &[21],
-        "plate_replace" | "plate_scale" => &[21, 22],
+        "plate_replace" | "plate_scale" | "plate_preview" => &[21, 22],
         "plate_exchange" => &[21, 22, 23],
         _ => &[],
     };
@@ -135,6 +143,14 @@ fn parse_about(tokens: &[&str], gives: usize) -> Vec<u64> {
     words
 }
 
+/// `edges`, three words, and the answer of a solve with a plate; all in the order of `about`.
+fn parse_preview(tokens: &[&str], gives: usize) -> Vec<u64> {
+    assert_eq!(tokens[0], "edges");
+    let mut words = parse_answer("plate_solve", &tokens[4..].join(" "), gives - 3);
+    words.splice(2..2, tokens[1..4].iter().map(|word| hex(word)));
+    words
+}
+
 /// The words of an answer in the order of the stored vectors, so many as the function gave.
 fn parse_answer(name: &str, answer: &str, gives: usize) -> Vec<u64> {
     let tokens: Vec<&str> = answer.split(' ').collect();
@@ -142,6 +158,7 @@ fn parse_answer(name: &str, answer: &str, gives: usize) -> Vec<u64> {
     let words = |from: usize| tokens[from..].iter().map(|word| hex(word));
     let mut result = match (name, tokens[0]) {
         ("about", _) => return parse_about(&tokens, gives),
+        ("plate_preview", _) => return parse_preview(&tokens, gives),
         (_, "refused") => vec![number(1)],
         (_, "none") => vec![0],
         ("plate_solve", _) => [vec![0, number(1)], parse_poses(&tokens[2..])].concat(),
@@ -173,9 +190,7 @@ fn parse_answer(name: &str, answer: &str, gives: usize) -> Vec<u64> {
 pub fn inputs(text: &str, name: &str) -> Vec<(String, Vec<u64>)> {
     text.lines()
         .filter_map(|line| line.split(" -> ").next()?.split_once(' '))
-        .filter(|(label, _)| {
-            FUNCTIONS.iter().map(|f| f.name).find(|n| n == label).unwrap_or("frame") == name
-        })
+        .filter(|(label, _)| function(label) == name)
         .map(|(label, words)| {
             let mut input = parse_input(name, words);
             input.truncate(table::find(name).takes);

@@ -40,8 +40,8 @@ reference pieces COUNT FUNCTION..  the same on COUNT random inputs of each funct
 reference choices COUNT [SEED]   how many choices document 02, §2, changes, of COUNT random frames
                                  of each kind
 reference lifts COUNT [SEED]     how many poses are lifted, of COUNT random frames of each kind
-reference plates COUNT [SEED]    COUNT operations on plates and solves with them, in runs, by the
-                                 port and the second copy
+reference plates COUNT [SEED]    COUNT operations on plates, solves with them and previews of moved
+                                 targets, in runs, by the port and the second copy
 reference bench [COUNT]          how long a solve takes, the port beside the unchanged copy and,
                                  where P3P_PEERS was set, other solvers (COUNT frames of a sort)
 reference frames COUNT FILE      COUNT random frames of each kind but the last, eighteen words a

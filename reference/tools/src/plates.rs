@@ -104,6 +104,19 @@ pub fn scale(plate: &Plate, k: i64, basis: Basis) -> (u32, Plate) {
     (0, Plate::of(plate.points.map(|point| point.map(|x| x * power)), basis))
 }
 
+/// What a moved target would do (document 02, §5), from its replacement on a copy: the refusal, or
+/// the solve with the copy; and the squared edges that would be stored, plus zeros where the
+/// replacement is refused.
+pub fn preview<A>(
+    (number, copy): (u32, Plate),
+    solve: impl FnOnce(&Plate) -> A,
+) -> (Result<A, u32>, [f64; 3]) {
+    if number != 0 {
+        return (Err(number), [0.0; 3]);
+    }
+    (Ok(solve(&copy)), copy.edges)
+}
+
 /// Whether x is zero, or finite and the exact x × 2^k of magnitude from 2^-1022 to below 2^1024.
 pub fn scales(x: f64, k: i64) -> bool {
     x == 0.0 || x.is_finite() && (-1022..=1023).contains(&(leading(x) + k))

@@ -65,6 +65,18 @@ unsafe extern "C" {
         lifted: *mut u32,
         count: *mut u32,
     ) -> u32;
+    fn p3p_plate_preview(
+        plate: *const f64,
+        has_inverse: u32,
+        target: u32,
+        point: *const f64,
+        bearings: *const f64,
+        poses: *mut f64,
+        updates: *mut u32,
+        lifted: *mut u32,
+        count: *mut u32,
+        edges: *mut f64,
+    ) -> u32;
 }
 
 /// What lent memory holds before a call: a refusal must leave it.
@@ -94,6 +106,7 @@ pub const OFFERED: &[&str] = &[
     "plate_exchange",
     "plate_scale",
     "plate_solve",
+    "plate_preview",
 ];
 
 pub fn answer(name: &str, input: &[u64]) -> Vec<u64> {
@@ -121,6 +134,7 @@ pub fn answer(name: &str, input: &[u64]) -> Vec<u64> {
         }
         "plate_make" | "plate_replace" | "plate_exchange" | "plate_scale" => operate(name, input),
         "plate_solve" => plate_solve(input),
+        "plate_preview" => plate_preview(input),
         "sqrt" => vec![word(unsafe { p3p_sqrt(d(0)) })],
         "cbrt" => vec![word(unsafe { p3p_cbrt(d(0)) })],
         "fma" => vec![word(unsafe { p3p_fma(d(0), d(1), d(2)) })],
@@ -346,4 +360,37 @@ fn plate_solve(input: &[u64]) -> Vec<u64> {
         return refused(s.number, s.left(), 58);
     }
     [0, s.count as u64].into_iter().chain(s.slots()).collect()
+}
+
+/// The plate is only read. The edges are written by every call: one that leaves them answers with
+/// what they held.
+fn plate_preview(input: &[u64]) -> Vec<u64> {
+    let old = Lent::read(input);
+    let (mut lent, mut s, mut edges) = (old, Solve::lent(), [LENT; 3]);
+    let point: [f64; 3] = std::array::from_fn(|at| f64::from_bits(input[23 + at]));
+    let bearings: [f64; 9] = std::array::from_fn(|at| f64::from_bits(input[26 + at]));
+    s.number = unsafe {
+        p3p_plate_preview(
+            lent.plate.as_mut_ptr(),
+            lent.has_inverse,
+            whole(input[22]),
+            point.as_ptr(),
+            bearings.as_ptr(),
+            s.poses.as_mut_ptr(),
+            s.updates.as_mut_ptr(),
+            s.lifted.as_mut_ptr(),
+            &mut s.count,
+            edges.as_mut_ptr(),
+        )
+    };
+    let mut words = if s.number != 0 {
+        refused(s.number, s.left(), 61)
+    } else {
+        [0, s.count as u64, 0, 0, 0].into_iter().chain(s.slots()).collect()
+    };
+    words[2..5].copy_from_slice(&edges.map(word));
+    if lent.bits() != old.bits() {
+        words[1] = WROTE;
+    }
+    words
 }

@@ -1,5 +1,5 @@
-//! The tests of the operations on plates and of the solve with one (document 02, §4) that an input
-//! reaches.
+//! The tests of the operations on plates and of the solve with one (document 02, §4), and of the
+//! preview of a moved target (§5), that an input reaches.
 
 use crate::plates::{self, Plate};
 use crate::table::{self, doubles};
@@ -21,6 +21,20 @@ const ABOVE: &str = "plate scale: scaled at least 2^-1022";
 const OLD: &str = "plate operation: old numbers those of the points";
 const EDGES: &str = "plate solve: stored edges those of the points";
 const INVERSE: &str = "plate solve: stored inverse that of the points";
+const PREVIEW_FINITE: &str = "plate preview: point finite";
+const PREVIEW_TARGET: &str = "plate preview: target at most 2";
+const PREVIEW_OLD: &str = "plate preview: old numbers those of the points";
+const PREVIEW_SAME: &str = "plate preview: point that of the target";
+const GAINED: &str = "plate preview: no inverse before, one then";
+const KEPT: &str = "plate preview: an inverse before and then";
+const OVERFLOW: &str = "plate preview: points finite and an edge not";
+const REFUSED: [&str; 3] = [
+    "plate preview: solve refuses with 1",
+    "plate preview: solve refuses with 2",
+    "plate preview: solve refuses with 3",
+];
+const ZEROS: &str = "plate preview: solve refuses, edges plus zeros";
+const LIFTED: &str = "plate preview: poses, one of them lifted";
 
 /// Whether there are poses in an ordering that a solve took by stored edges which are not those of
 /// the points.
@@ -41,7 +55,7 @@ const TAKEN: [&str; 5] = [
     "retry: [2, 1, 0] taken",
 ];
 
-pub const TESTS: [&str; 15] = [
+pub const TESTS: [&str; 27] = [
     POINTS_FINITE,
     POINT_FINITE,
     TARGET,
@@ -57,6 +71,18 @@ pub const TESTS: [&str; 15] = [
     OLD,
     EDGES,
     INVERSE,
+    PREVIEW_FINITE,
+    PREVIEW_TARGET,
+    PREVIEW_OLD,
+    PREVIEW_SAME,
+    GAINED,
+    KEPT,
+    OVERFLOW,
+    REFUSED[0],
+    REFUSED[1],
+    REFUSED[2],
+    ZEROS,
+    LIFTED,
 ];
 
 /// The outcomes that an input reaches; `solved` are those of the Rust in its solve.
@@ -77,6 +103,7 @@ pub fn reached(name: &str, input: &[u64], solved: &[Outcome]) -> Vec<Outcome> {
         ]),
         "plate_exchange" => asked(&[(FIRST, input[22] <= 2), (SECOND, input[23] <= 2)]),
         "plate_scale" => scaled(&plate, input[22] as i64),
+        "plate_preview" => return previewed(&plate, &own, input),
         _ => {
             let poses = table::second::answer(name, input)[1];
             return of_solve(&plate, &own, solved, poses);
@@ -131,6 +158,33 @@ fn of_solve(plate: &Plate, own: &Plate, solved: &[Outcome], poses: u64) -> Vec<O
         let taken = TAKEN.iter().position(|label| solved.contains(&(*label, true)));
         outcomes.extend(taken.map(|at| (ORDERED[at], poses > 0)));
     }
+    outcomes
+}
+
+fn previewed(plate: &Plate, own: &Plate, input: &[u64]) -> Vec<Outcome> {
+    let (target, point) = (input[22], doubles(&input[23..]));
+    let (number, copy) = plates::replace(plate, target, point, copy_second::basis);
+    let mut outcomes =
+        asked(&[(PREVIEW_FINITE, plates::is_finite(&point)), (PREVIEW_TARGET, target <= 2)]);
+    if number != 0 {
+        return outcomes;
+    }
+    let old = plate.points[target as usize];
+    outcomes.extend([
+        (PREVIEW_OLD, same(plate, own)),
+        (PREVIEW_SAME, old.map(f64::to_bits) == point.map(f64::to_bits)),
+        (if own.has_inverse { KEPT } else { GAINED }, copy.has_inverse),
+    ]);
+    if copy.points.iter().all(plates::is_finite) {
+        outcomes.push((OVERFLOW, !plates::is_finite(&copy.edges)));
+    }
+    let answer = table::second::answer("plate_preview", input);
+    outcomes.extend((1..).zip(REFUSED).map(|(number, label)| (label, answer[0] == number)));
+    outcomes.push(if answer[0] != 0 {
+        (ZEROS, copy.edges.map(f64::to_bits) == [0; 3])
+    } else {
+        (LIFTED, answer[5..].chunks(14).any(|slot| slot[1] == 1))
+    });
     outcomes
 }
 

@@ -1,12 +1,14 @@
 //! Runs of operations on plates (document 02, §4), each on the plate that the one before it left,
-//! the port beside the second copy; and solves with these plates. Now and then a plate is altered
-//! by hand; the solve with one that is not must equal the plain solve of its points.
+//! the port beside the second copy; solves with these plates, and previews of a moved target (§5).
+//! Now and then a plate is altered by hand; the solve with one that is not must equal the plain
+//! solve of its points. Every other preview is followed by the replacement and the solve that it
+//! showed.
 
 use crate::frames::part;
 use crate::pieces::plates::{
     any_plated, at_limit, exponent, new_point, plate_words, tampered, target,
 };
-use crate::plates::Plate;
+use crate::plates::{self, Plate};
 #[cfg(port)]
 use crate::port;
 use crate::random::{Random, Vector};
@@ -30,6 +32,9 @@ struct Counts {
     without_inverse: u64,
     poses: u64,
     plain: u64,
+    /// Previews that were followed, and those of them whose replacement was refused.
+    followed: u64,
+    not_replaced: u64,
 }
 
 impl Counts {
@@ -85,17 +90,27 @@ impl Run {
         Ok(accepted)
     }
 
-    /// The fourth target and one of the plate's change places, or the target is moved.
-    fn replace(&mut self, r: &mut Random, counts: &mut Counts) -> Result<(), String> {
+    /// A target and a point for it.
+    fn any_move(&self, r: &mut Random) -> (u64, Vector) {
         let target = target(r);
-        let point = new_point(&self.plate, target, self.fourth.0, r);
+        (target, new_point(&self.plate, target, self.fourth.0, r))
+    }
+
+    /// The fourth target and one of the plate's change places, or the target is moved; whether it
+    /// was accepted.
+    fn replace(
+        &mut self,
+        (target, point): (u64, Vector),
+        counts: &mut Counts,
+    ) -> Result<bool, String> {
         let old = self.plate.points[target.min(2) as usize];
         let rest = [vec![target], bits(&point)].concat();
-        if self.operate("plate_replace", &rest, counts)? && point == self.fourth.0 {
+        let accepted = self.operate("plate_replace", &rest, counts)?;
+        if accepted && point == self.fourth.0 {
             let bearing = &mut self.bearings[target as usize];
             self.fourth = (old, std::mem::replace(bearing, self.fourth.1));
         }
-        Ok(())
+        Ok(accepted)
     }
 
     fn exchange(&mut self, r: &mut Random, counts: &mut Counts) -> Result<(), String> {
@@ -122,17 +137,27 @@ impl Run {
         Ok(())
     }
 
-    fn solve(&mut self, r: &mut Random, counts: &mut Counts) -> Result<(), String> {
-        let mut bearings = self.bearings.concat();
-        if r.chance(32) {
-            bearings[r.below(9) as usize] = r.special();
+    /// The bearings, with another for the target that is moved to the fourth.
+    fn bearings(&self, moved: Option<(u64, Vector)>, r: &mut Random) -> Vec<u64> {
+        let mut bearings = self.bearings;
+        if let Some((target, point)) = moved
+            && point == self.fourth.0
+        {
+            bearings[target.min(2) as usize] = self.fourth.1;
         }
-        let input = [plate_words(&self.plate), bits(&bearings)].concat();
+        if r.chance(32) {
+            bearings[r.index()][r.index()] = r.special();
+        }
+        bits(bearings.as_flattened())
+    }
+
+    fn solve(&self, bearings: &[u64], counts: &mut Counts) -> Result<Vec<u64>, String> {
+        let input = [&plate_words(&self.plate), bearings].concat();
         let answer = counts.ask("plate_solve", &input)?;
         counts.poses += answer[1];
         if self.own {
             // As a frame, without its checking target: number, count, best, slots.
-            let frame = [bits(&self.plate.world()), bits(&bearings), vec![0; 6]].concat();
+            let frame = [&bits(&self.plate.world()), bearings, &[0; 6]].concat();
             let mut plain = table::second::answer("frame", &frame);
             plain.remove(2);
             if plain != answer {
@@ -142,6 +167,35 @@ impl Run {
                 ));
             }
             counts.plain += 1;
+        }
+        Ok(answer)
+    }
+
+    /// A preview, and every other time what it showed.
+    fn preview(&mut self, r: &mut Random, counts: &mut Counts) -> Result<(), String> {
+        let moved = self.any_move(r);
+        let bearings = self.bearings(Some(moved), r);
+        let input = [plate_words(&self.plate), vec![moved.0], bits(&moved.1), bearings.clone()];
+        let shown = counts.ask("plate_preview", &input.concat())?;
+        if r.chance(2) {
+            return Ok(());
+        }
+        counts.followed += 1;
+        let found = if self.replace(moved, counts)? {
+            let mut answer = self.solve(&bearings, counts)?;
+            answer.splice(2..2, self.plate.edges.map(table::word));
+            answer
+        } else {
+            counts.not_replaced += 1;
+            let number = if plates::is_finite(&moved.1) { 11 } else { 1 };
+            [vec![number], vec![0; 60]].concat()
+        };
+        if shown != found {
+            return Err(format!(
+                "Not what the preview showed.\nplate_preview {:016x?}\n\
+                 shown {shown:016x?}\nfound {found:016x?}",
+                input.concat()
+            ));
         }
         Ok(())
     }
@@ -155,10 +209,17 @@ pub fn run(count: u64, seed: u64) -> Result<(), String> {
     for _ in 1..count {
         match r.below(16) {
             0..2 => run = Run::make(&mut r, &mut counts)?,
-            2..5 => run.replace(&mut r, &mut counts)?,
-            5..7 => run.exchange(&mut r, &mut counts)?,
-            7..9 => run.scale(&mut r, &mut counts)?,
-            _ => run.solve(&mut r, &mut counts)?,
+            2..4 => {
+                let moved = run.any_move(&mut r);
+                run.replace(moved, &mut counts)?;
+            }
+            4..6 => run.exchange(&mut r, &mut counts)?,
+            6..8 => run.scale(&mut r, &mut counts)?,
+            8..11 => run.preview(&mut r, &mut counts)?,
+            _ => {
+                let bearings = run.bearings(None, &mut r);
+                run.solve(&bearings, &mut counts)?;
+            }
         }
         if r.chance(8) {
             run.plate = tampered(&run.plate, &mut r);
@@ -173,7 +234,10 @@ pub fn run(count: u64, seed: u64) -> Result<(), String> {
 fn print(counts: &Counts) {
     println!("\n| operation | not refused | refused |");
     println!("|---|---:|---|");
-    for name in ["plate_make", "plate_replace", "plate_exchange", "plate_scale", "plate_solve"] {
+    for name in table::FUNCTIONS.iter().map(|function| function.name) {
+        if !name.starts_with("plate_") {
+            continue;
+        }
         let of = |number: u64| counts.numbers.get(&(name, number)).copied().unwrap_or(0);
         let refused: Vec<String> = [1, 2, 3, 11, 12, 13]
             .into_iter()
@@ -186,6 +250,10 @@ fn print(counts: &Counts) {
     println!("operations that left a plate without inverse: {}", counts.without_inverse);
     println!("poses: {}", counts.poses);
     println!("solves equal to the plain solve of the points: {}", counts.plain);
+    println!(
+        "previews followed by what they showed: {}, of them refused replacements: {}",
+        counts.followed, counts.not_replaced
+    );
     #[cfg(port)]
     println!("The port: no difference from the second copy.");
     #[cfg(not(port))]

@@ -52,6 +52,8 @@ pub const FUNCTIONS: &[Function] = &[
     function("plate_scale", 23, 23),    // plate, k in two's complement -> number, plate
     // plate, bearings -> number, count, 4 x (updates, lifted, 12)
     function("plate_solve", 31, 58),
+    // plate, target, point, bearings -> number, count, squared edges, 4 x (updates, lifted, 12)
+    function("plate_preview", 35, 61),
 ];
 
 pub fn find(name: &str) -> &'static Function {
@@ -143,6 +145,21 @@ macro_rules! answers {
                 }
             }
 
+            /// The solve with the plate that a replacement would leave, and its squared edges. The
+            /// input begins as the replacement's does.
+            fn plate_preview(input: &[u64]) -> ($copy::Answer, [f64; 3]) {
+                let solve = |moved: &Plate| plate_solve(moved, &doubles(&input[26..]));
+                let (answer, edges) = plates::preview(operate("plate_replace", input), solve);
+                let refused = |refusal| $copy::Answer { refusal, ..Default::default() };
+                (answer.unwrap_or_else(refused), edges)
+            }
+
+            /// The words of an answer with three numbers beside it.
+            fn beside((answer, numbers): ($copy::Answer, [f64; 3])) -> Vec<u64> {
+                let head = [answer.refusal as u64, answer.count as u64];
+                head.into_iter().chain(numbers.map(word)).chain(slots(&answer)).collect()
+            }
+
             /// Four slots of updates, mark and twelve words.
             fn slots(answer: &$copy::Answer) -> impl Iterator<Item = u64> {
                 (0..4).flat_map(|slot| {
@@ -185,11 +202,8 @@ macro_rules! answers {
                         let head = [answer.refusal as u64, answer.count as u64, best];
                         head.into_iter().chain(slots(&answer)).collect()
                     }
-                    "about" => {
-                        let (answer, origin) = about(&doubles(input));
-                        let head = [answer.refusal as u64, answer.count as u64];
-                        head.into_iter().chain(origin.map(word)).chain(slots(&answer)).collect()
-                    }
+                    "about" => beside(about(&doubles(input))),
+                    "plate_preview" => beside(plate_preview(input)),
                     "plate_make" | "plate_replace" | "plate_exchange" | "plate_scale" => {
                         operated(operate(name, input))
                     }

@@ -198,7 +198,7 @@ fn summary(name: &str, records: &[Vec<u64>]) -> String {
             let poses = pose_summary(records, takes, 3);
             format!("refusals {}; poses {}; best {}; {poses}", tally(0), tally(1), tally(2))
         }
-        "about" => {
+        "about" | "plate_preview" => {
             let poses = pose_summary(records, takes, 5);
             format!("refusals {}; poses {}; {poses}", tally(0), tally(1))
         }

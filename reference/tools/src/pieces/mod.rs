@@ -5,6 +5,7 @@ mod gates;
 mod origins;
 pub mod plates;
 mod poses;
+mod previews;
 mod push;
 mod refine;
 mod roots;
@@ -60,6 +61,7 @@ fn kinds(name: &str) -> (Vec<Input>, usize, fn(&mut Random) -> Input) {
         "plate_exchange" => (plates::hand_exchange(), 100, plates::exchange),
         "plate_scale" => (plates::hand_scale(), 150, plates::scale),
         "plate_solve" => (plates::hand_solve(), 200, plates::solve),
+        "plate_preview" => (previews::hand_preview(), 200, previews::preview),
         _ => panic!("no function {name}"),
     }
 }

@@ -6,7 +6,7 @@ use crate::frames::{self, Frame, part};
 use crate::plates::Plate;
 use crate::random::{Random, Vector, nudge, plus, power, times};
 
-fn of(points: [Vector; 3]) -> Plate {
+pub(super) fn of(points: [Vector; 3]) -> Plate {
     Plate::of(points, copy_second::basis)
 }
 
@@ -21,7 +21,7 @@ pub fn any_plated(r: &mut Random) -> Frame {
     if r.chance(3) { frames::retried(r) } else { any_frame(r) }
 }
 
-fn plate_of(f: &Frame) -> Plate {
+pub(super) fn plate_of(f: &Frame) -> Plate {
     of([0, 1, 2].map(|index| part(f, index)))
 }
 
@@ -70,7 +70,7 @@ fn reordered(points: [Vector; 3], r: &mut Random) -> [Vector; 3] {
     r.pick(&[[0, 2, 1], [1, 0, 2], [1, 2, 0], [2, 0, 1], [2, 1, 0]]).map(|index| points[index])
 }
 
-fn perhaps_tampered(plate: Plate, r: &mut Random) -> Plate {
+pub(super) fn perhaps_tampered(plate: Plate, r: &mut Random) -> Plate {
     if r.chance(2) { tampered(&plate, r) } else { plate }
 }
 
@@ -183,13 +183,13 @@ pub(super) fn solve(r: &mut Random) -> Input {
 /// Three targets of a plate that a camera sees straight on, by whole numbers.
 const POINTS: [Vector; 3] = [[-4.0, 1.0, -2.0], [4.0, -3.0, 3.0], [-2.0, 4.0, 3.0]];
 
-fn with(points: [Vector; 3], at: usize, x: f64) -> [Vector; 3] {
+pub(super) fn with(points: [Vector; 3], at: usize, x: f64) -> [Vector; 3] {
     let mut points = points;
     points[at / 3][at % 3] = x;
     points
 }
 
-const NOT_FINITE: [f64; 3] = [f64::INFINITY, f64::NEG_INFINITY, f64::NAN];
+pub(super) const NOT_FINITE: [f64; 3] = [f64::INFINITY, f64::NEG_INFINITY, f64::NAN];
 
 /// A plate whose stored numbers are none of its points'.
 fn otherwise(points: [Vector; 3]) -> Plate {
@@ -207,7 +207,7 @@ fn lacking(points: [Vector; 3]) -> Plate {
 }
 
 /// Plates of all sorts that hold the same points.
-fn sorts(points: [Vector; 3]) -> [Plate; 3] {
+pub(super) fn sorts(points: [Vector; 3]) -> [Plate; 3] {
     [of(points), otherwise(points), lacking(points)]
 }
 
@@ -336,7 +336,7 @@ pub(super) fn hand_scale() -> Vec<Input> {
 }
 
 /// A plate of whole numbers before a camera that does not turn, and its bearings.
-fn seen() -> (Plate, [f64; 9]) {
+pub(super) fn seen() -> (Plate, [f64; 9]) {
     let points = [[0.0, 0.0, 0.0], [1.0, 0.0, 0.0], [0.0, 2.0, 0.5]];
     let bearings = points.map(|p| crate::random::unit([p[0] + 0.25, p[1] - 0.5, p[2] + 3.0]));
     (of(points), std::array::from_fn(|at| bearings[at / 3][at % 3]))
