@@ -22,7 +22,10 @@ Each is made of a stored record, the answer of exact arithmetic (data/exact) or 
                       changed; with the word changed that says whether there is an inverse; with an
                       exponent 2^32 greater; a refusal as it is stored; with the last bit of the
                       first point's x changed in the plate that is given back
-    plate_solve.bin   an answer as it is stored; with the last bit of slot 1's last word changed"""
+    plate_solve.bin   an answer as it is stored; with the last bit of slot 1's last word changed
+    plate_preview.bin an answer as it is stored; with the last bit of the last edge changed; of slot
+                      1's last word; a refused solve as it is stored; with plus zeros for its edges;
+                      a refused replacement as it is stored; with a minus zero for its first edge"""
 
 import os
 import sys
@@ -42,6 +45,8 @@ EXPONENT, SCALED = 176, 184
 LAST_ENTRY, INVERTIBLE = 160, 168
 # of a solve with a plate: the count, the last word of slot 1
 PLATE_COUNT, PLATE_SLOT_1_END = 256, 480
+# of a preview: the refusal number, the edges, the last word of slot 1
+SHOWN, SHOWN_EDGES, SHOWN_SLOT_1_END = 280, 296, 424
 
 
 def stored(name, size):
@@ -76,6 +81,7 @@ def files():
     # the first solve with a plate that has two poses
     solved = next(r for r in stored("rust/plate_solve.bin", 712) if word(r, PLATE_COUNT) == 2)
     yield "plate_solve.bin", solved + changed(solved, PLATE_SLOT_1_END)
+    yield "plate_preview.bin", b"".join(previews())
 
 
 def choices_about():
@@ -106,6 +112,21 @@ def scaled_plates():
     yield changed(scaled, EXPONENT, 32)
     yield refused
     yield changed(refused, plate)
+
+
+def previews():
+    # the first answer, the first refused solve, and the first target that there is not
+    records = stored("rust/plate_preview.bin", 768)
+    solved, unsolved, refused = (
+        next(r for r in records if word(r, SHOWN) == number) for number in (0, 3, 11)
+    )
+    yield solved
+    yield changed(solved, SHOWN_EDGES + 16)
+    yield changed(solved, SHOWN_SLOT_1_END)
+    yield unsolved
+    yield unsolved[:SHOWN_EDGES] + bytes(24) + unsolved[SHOWN_EDGES + 24 :]
+    yield refused
+    yield changed(refused, SHOWN_EDGES, 63)
 
 
 def main(checking):

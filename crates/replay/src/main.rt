@@ -9,7 +9,8 @@
 // refusal number and one in slot 1's mark; of about's four two are right, an answer and a refusal,
 // and two wrong in a bit of the origin; of choice_about's five two are right, a choice and a
 // refusal; of plate_scale's six two, a scaled plate and a refusal, and one has an exponent beyond
-// 32 bits; of plate_solve's two one, the other wrong in the last word of slot 1.
+// 32 bits; of plate_solve's two one, the other wrong in the last word of slot 1; of plate_preview's
+// seven three, an answer, a refused solve and a refused replacement.
 ghost use mathlib.Core.Path.{_≡_};
 ghost use Prim.Native.Nat.{_*_, _≤_};
 ghost use Rattle.replay.specs.SubjectRecords.{subjectHolds, subjectWords};
@@ -128,6 +129,10 @@ fn main() {
     compare(Subject::ChosenAbout, b"control/choice_about.bin");
     compare(Subject::Plated(Handling::Scale), b"control/plate_scale.bin");
     compare(Subject::Plated(Handling::Solve), b"control/plate_solve.bin");
+    compare(
+        Subject::Plated(Handling::Preview),
+        b"control/plate_preview.bin",
+    );
     compare(Subject::Single(Operation::Abs), b"exact/abs.bin");
     compare(Subject::Single(Operation::Copysign), b"exact/copysign.bin");
     compare(Subject::Single(Operation::Max), b"exact/max.bin");
@@ -169,4 +174,8 @@ fn main() {
     );
     compare(Subject::Plated(Handling::Scale), b"rust/plate_scale.bin");
     compare(Subject::Plated(Handling::Solve), b"rust/plate_solve.bin");
+    compare(
+        Subject::Plated(Handling::Preview),
+        b"rust/plate_preview.bin",
+    );
 }
