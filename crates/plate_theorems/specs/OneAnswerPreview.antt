@@ -1,7 +1,7 @@
--- Demand 1 of the mission, for the preview of a moved target, whatever the plate holds (document 02,
--- §5): number 1 where the new point is not finite, then 11 where there is no such target, with plus
--- zeros for edges; then the one answer of the solve on the points with the target moved, and the
--- squared edges of these points. That it holds of every preview is `one-answer-preview` in the
+-- Demand 1 of the mission, for the preview of a moved target, whatever the plate holds (document
+-- 02, §5): number 1 where the new point is not finite, then 11 where there is no such target, with
+-- plus zeros for edges; then the one answer of the solve on the points with the target moved, and
+-- the squared edges of these points. That it holds of every preview is `one-answer-preview` in the
 -- proofs.
 use Prim.Native.Nat.{ℕ}
 use mathlib.Core.Path.{_≡_}

@@ -1,5 +1,5 @@
--- The structs and enums that definitions and laws of this crate name: that of its src/, and those of
--- the crates below.
+-- The structs and enums that definitions and laws of this crate name: that of its src/, and those
+-- of the crates below.
 pub use Rattle.linalg.specs.declared.vector3.Vector3.{Vector3}
 pub use Rattle.frames.specs.declared.bearings.Bearings.{Bearings}
 pub use Rattle.frames.specs.declared.squared_edges.SquaredEdges.{SquaredEdges}

@@ -1,7 +1,7 @@
--- Records of a plate's making, of the operations on it, of the solve with it and of the preview of a
--- moved target: what the function takes, then what it gives. Whether a record has the answer of the
--- definition, of every word, and how many words it is long. After a refused operation the record
--- has the old plate, after a refused making plus zeros, as the definitions say.
+-- Records of a plate's making, of the operations on it, of the solve with it and of the preview of
+-- a moved target: what the function takes, then what it gives. Whether a record has the answer of
+-- the definition, of every word, and how many words it is long. After a refused operation the
+-- record has the old plate, after a refused making plus zeros, as the definitions say.
 use Prim.Native.Nat.{ℕ, _+_, _*_}
 use mathlib.Core.Bool.{Bool, _&&_}
 use mathlib.Core.List.{List}

@@ -1,5 +1,5 @@
-// What is done with a plate: its making, the operations on it, the solve with it, and the preview of
-// a moved target. A record has what the function takes, then what it gives.
+// What is done with a plate: its making, the operations on it, the solve with it, and the preview
+// of a moved target. A record has what the function takes, then what it gives.
 ghost use mathlib.Core.Path.{_≡_};
 ghost use Prim.Native.Nat.{_*_, _≤_};
 ghost use Rattle.replay_plates.specs.HandlingRecords.{makeHolds, replaceHolds, exchangeHolds};

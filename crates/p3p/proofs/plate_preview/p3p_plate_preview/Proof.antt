@@ -1,5 +1,5 @@
--- `p3p::plate_preview::p3p_plate_preview` meets its contract: what is written is what the definition
--- shows of what was read. Assumes nothing.
+-- `p3p::plate_preview::p3p_plate_preview` meets its contract: what is written is what the
+-- definition shows of what was read. Assumes nothing.
 use borrow.Author.Needs.{needs}
 use mathlib.Core.Path.{_≡_, refl, sym, _∙_}
 use Rattle.preview.specs.Preview.{zeroEdges}
