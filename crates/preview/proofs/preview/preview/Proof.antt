@@ -1,5 +1,6 @@
 -- `preview::preview::preview` meets its contract. Assumes nothing.
 use borrow.Author.Needs.{needs}
+use mathlib.Core.Path.{refl}
 use Rattle.preview.specs.Preview.{preview}
 use Rattle.preview.proofs.preview.preview.Statement.{statement}
 use Rattle.preview.proofs.preview.preview.Tie as tie
@@ -9,10 +10,11 @@ unfolding preview
 returns c =
     let edges = c .before in
     rw (
-      ← edges .before .replace .ensures,
-      ← edges .edges-shown .ensures,
-      ← c .answer-shown .ensures,
+      c .answer-shown .ensures,
+      edges .edges-shown .ensures,
+      edges .before .replace .ensures,
     )
+    refl
 
 pub preview-spec : {M : Type 1} → statement M
 preview-spec =
