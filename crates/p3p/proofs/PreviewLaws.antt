@@ -1,32 +1,39 @@
 -- A preview over lent memory is what replacing the target on a copy of the plate and solving with
--- that copy give (`copy-shown`), or the replacement's refusal with plus zeros (`refusal-shown`).
--- Document 02, §5. Assumes nothing.
+-- that copy give (`copy-shown`), and so what they give on the plate itself (`as-shown`); or it is the
+-- replacement's refusal with plus zeros (`refusal-shown`). Document 02, §5. Assumes nothing.
 use Prim.Native.Nat.{ℕ}
 use mathlib.Core.Path.{_≡_, refl, sym, ap}
 use mathlib.Core.List.{List}
 use borrow.Author.Tests.{eq-eqb, ne-eqb}
-use lib.Ieee.{Float}
+use lib.Ieee.{Float, nan}
+use lib.ListN.{getD}
 use Rattle.linalg.specs.Matrices.{fromColumns}
 use Rattle.frames.specs.Lent.{vectorAt, worldAt, bearingsAt}
 use Rattle.lambdatwist.specs.Solve.{refused}
+use Rattle.plates.specs.Plate.{zeroEdges}
 use Rattle.plates.specs.SolvePlate.{solvePlate}
-use Rattle.preview.specs.Preview.{zeroEdges, edgesShown, answerShown, preview}
+use Rattle.preview.specs.Preview.{edgesShown, answerShown, preview}
 use Rattle.lent_answers.specs.Plated.{plateIn, plateEntries, plateAfter, inverseAfter}
 use Rattle.lent_answers.proofs.WriteLaws.{plate-back}
 use Rattle.p3p.specs.PlateLent.{replaced, solvedPlate}
 use Rattle.p3p.specs.PreviewLent.{previewed}
-use Rattle.p3p.specs.Types.{Plate, Outcome, Shown}
+use Rattle.p3p.specs.Types.{SquaredEdges, Plate, Outcome, Shown}
 
 -- a plate that is read and written again is read as the same one
-read-again : (xs : List Float) (hasInverse : ℕ)
-    → plateIn (plateEntries (plateIn xs hasInverse)) hasInverse ≡ plateIn xs hasInverse
+pub read-again : (xs ys : List Float) (hasInverse : ℕ) {plate : Plate}
+    → plate ≡ plateIn xs hasInverse
+    → ys ≡ plateEntries plate
+    → plateIn ys hasInverse ≡ plateIn xs hasInverse
 unfolding plateIn plateEntries worldAt vectorAt fromColumns
-read-again xs hasInverse = refl
+read-again xs ys hasInverse read written = rw (written, read)
 
--- of a plate in memory, xs, and a copy of it, ys
-module _ (xs ys : List Float) (hasInverse target : ℕ) (point bearings : List Float) {plate : Plate}
-    (read : plate ≡ plateIn xs hasInverse)
-    (written : ys ≡ plateEntries plate) where
+-- the squared edges that stand in memory
+abbrev edgesIn : List Float → SquaredEdges
+edgesIn xs = record { a01 = getD xs 9 nan; a02 = getD xs 10 nan; a12 = getD xs 11 nan }
+
+-- of a plate in memory, xs, and a copy of it, ys, which is read as the same plate
+module _ (xs ys : List Float) (hasInverse target : ℕ) (point bearings : List Float)
+    (same : plateIn ys hasInverse ≡ plateIn xs hasInverse) where
   -- what the replacement does to the copy
   abbrev copy : Outcome
   copy = replaced ys hasInverse target point
@@ -37,7 +44,7 @@ module _ (xs ys : List Float) (hasInverse target : ℕ) (point bearings : List F
   by-copy : shown
       ≡ record { answer = answerShown copy (bearingsAt bearings 0); edges = edgesShown copy }
   unfolding previewed preview replaced
-  by-copy = rw (written, read, read-again xs hasInverse)
+  by-copy = rw same
 
   pub refusal-shown : {n : ℕ}
       → n ≡ copy .refusal
@@ -61,7 +68,19 @@ module _ (xs ys : List Float) (hasInverse target : ℕ) (point bearings : List F
       → shown
       ≡ record {
         answer = solvedPlate (plateAfter copy ys) (inverseAfter copy hasInverse) bearings;
-        edges = after .edges;
+        edges = edgesIn (plateAfter copy ys);
       }
-  unfolding answerShown edgesShown solvedPlate
+  unfolding answerShown edgesShown solvedPlate plateIn
   copy-shown h = rw (by-copy, eq-eqb (copy .refusal) 0 h) (ap shownOf (sym (read-back h)))
+
+-- and so, of the plate's own memory: what is shown is what accepting it gives
+pub as-shown : (xs : List Float) (hasInverse target : ℕ) (point bearings : List Float)
+    → replaced xs hasInverse target point .refusal ≡ 0
+    → previewed xs hasInverse target point bearings
+    ≡ record {
+      answer = solvedPlate (plateAfter (replaced xs hasInverse target point) xs)
+          (inverseAfter (replaced xs hasInverse target point) hasInverse) bearings;
+      edges = edgesIn (plateAfter (replaced xs hasInverse target point) xs);
+    }
+as-shown xs hasInverse target point bearings =
+    copy-shown xs xs hasInverse target point bearings refl

@@ -39,8 +39,9 @@ plateOf world = do
 abbrev pub Consistent : Plate → Type 0
 Consistent plate = plate ≡ plateOf (plate .world) .value
 
+unfoldable pub zeroEdges : SquaredEdges
+zeroEdges = record { a01 = plusZero; a02 = plusZero; a12 = plusZero }
+
 -- "one of plus zeros without inverse"
 unfoldable pub zeroPlate : Plate
-zeroPlate =
-    withBasis (points zeros zeros zeros)
-    (record { a01 = plusZero; a02 = plusZero; a12 = plusZero }) Singular
+zeroPlate = withBasis (points zeros zeros zeros) zeroEdges Singular

@@ -5,16 +5,13 @@
 use Prim.Native.Nat.{ℕ}
 use mathlib.Core.Bool.{not}
 use lib.Dec.{eqb}
-use Rattle.ieee754.specs.Literal.{plusZero}
 use Rattle.ieee754.specs.Traced.{if_then_else_}
 use Rattle.lambdatwist.specs.Solve.{refused}
+use Rattle.plates.specs.Plate.{zeroEdges}
 use Rattle.plates.specs.Replace.{replace}
 use Rattle.plates.specs.SolvePlate.{solvePlate}
 use Rattle.preview.specs.Types.{Vector3, Bearings, SquaredEdges, Answer, Plate, Outcome}
 use Rattle.preview.specs.Types.{Shown}
-
-unfoldable pub zeroEdges : SquaredEdges
-zeroEdges = record { a01 = plusZero; a02 = plusZero; a12 = plusZero }
 
 -- the edges of the copy, also where the solve with it is refused
 unfoldable pub edgesShown : Outcome → SquaredEdges

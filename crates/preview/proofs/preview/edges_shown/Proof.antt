@@ -1,6 +1,7 @@
 -- `preview::preview::edges_shown` meets its contract. Assumes nothing.
 use borrow.Author.Tests.{eq-eqb, ne-eqb}
-use Rattle.preview.specs.Preview.{zeroEdges, edgesShown}
+use Rattle.plates.specs.Plate.{zeroEdges}
+use Rattle.preview.specs.Preview.{edgesShown}
 use Rattle.preview.proofs.preview.edges_shown.Statement.{statement}
 use Rattle.preview.proofs.preview.edges_shown.Tie as tie
 
