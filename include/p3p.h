@@ -175,9 +175,10 @@ uint32_t p3p_plate_solve(const double plate[21], uint32_t has_inverse, const dou
                          uint32_t *count);
 
 /* What p3p_plate_solve would give if a target of the plate were at another point, and the squared
- * edges that would be stored. The plate is only read. p3p_plate_replace and then p3p_plate_solve
- * give just what was shown, bit for bit, the refusals too: the replacement's questions are asked
- * first, then the solve's. Whatever squared edges and inverse the plate holds, the answer is what
+ * edges that would be stored. The plate is only read. The replacement's questions are asked first,
+ * then the solve's. Where the replacement is not refused, p3p_plate_replace and then
+ * p3p_plate_solve give just what was shown, bit for bit but for NaNs among the edges, and the
+ * solve's refusal too; and whatever squared edges and inverse the plate holds, the answer is what
  * p3p_solve gives of its points, the new one among them, and the bearings.
  *
  * target   the number of the target, 0, 1 or 2.

@@ -20,9 +20,8 @@ static const double points[9] = {0.0, 0.0, 0.0, 0.5, 0.0, 0.0, 0.0, 0.375, 0.0};
 static const double checking[3] = {0.5, 0.375, 0.125};
 static const double hole[3] = {0.25, -0.5, 0.0};
 static const double degrees = 57.29577951308232;
-/* The score up to which the checking target confirms a pose, by your measuring error: 0.5 mm at
- * 2 m. */
-static const double limit = 6.25e-8;
+/* The angle in degrees up to which the checking target confirms a pose, by your measuring error. */
+static const double limit = 0.01;
 
 /* The directions in which the camera sees the targets in the frame at hand, the last for checking.
  * The third target has been knocked since the plate was made. */
@@ -46,12 +45,13 @@ static const struct entry entries[] = {
 /* The frame's bearings. */
 static double bearings[9], bearing[3];
 
-/* What the frame shows with a plate: its squared edges; then a refusal, or the checking target's
- * score and where the hole is. */
+/* What the frame shows with a plate: its squared edges; then a refusal, or of the best pose whether
+ * it is lifted, how far the checking target is off its bearing, in degrees, and where the hole
+ * is. */
 struct view {
     double edges[3];
-    uint32_t refusal;
-    double score, camera[3];
+    uint32_t refusal, lifted;
+    double angle, camera[3];
 };
 
 static void normalise(const double direction[3], double unit[3])
@@ -69,14 +69,19 @@ static void apply(const double pose[12], const double point[3], double camera[3]
                     + pose[9 + i];
 }
 
-/* Enters the choice among a view's poses and the hole; example.c asks more of the choice. */
-static void find_hole(struct view *view, const double poses[48], uint32_t count)
+/* Chooses among a view's poses, and finds the hole by the best. */
+static void find_hole(struct view *view, const double poses[48], const uint32_t lifted[4],
+                      uint32_t count)
 {
     uint32_t best;
+    double score;
     if (view->refusal == 0)
-        view->refusal = p3p_choose(poses, count, checking, bearing, &best, &view->score);
-    if (view->refusal == 0)
-        apply(poses + 12 * (best - 1), hole, view->camera);
+        view->refusal = p3p_choose(poses, count, checking, bearing, &best, &score);
+    if (view->refusal != 0)
+        return;
+    view->lifted = lifted[best - 1];
+    view->angle = atan(sqrt(score)) * degrees;
+    apply(poses + 12 * (best - 1), hole, view->camera);
 }
 
 /* The view with a plate as it is stored. */
@@ -87,7 +92,7 @@ static void look(const struct plate *plate, struct view *view)
     memcpy(view->edges, plate->numbers + 9, sizeof view->edges);
     view->refusal = p3p_plate_solve(plate->numbers, plate->has_inverse, bearings, poses, updates,
                                     lifted, &count);
-    find_hole(view, poses, count);
+    find_hole(view, poses, lifted, count);
 }
 
 /* The view with the plate as it would be after an entry. */
@@ -99,15 +104,15 @@ static void look_ahead(const struct plate *plate, const struct entry *entry, str
     view->refusal = p3p_plate_preview(plate->numbers, plate->has_inverse, entry->target,
                                       entry->point, bearings, poses, updates, lifted, &count,
                                       view->edges);
-    find_hole(view, poses, count);
+    find_hole(view, poses, lifted, count);
 }
 
-/* Whether the new point may be stored: the checking target confirms it, no worse than it does the
- * present one. */
+/* Whether the new point may be stored: the checking target confirms it by a pose that is not
+ * lifted, and no worse than the present one. */
 static int is_acceptable(const struct view *then, const struct view *now)
 {
-    return then->refusal == 0 && then->score <= limit
-           && (now->refusal != 0 || then->score <= now->score);
+    return then->refusal == 0 && !then->lifted && then->angle <= limit
+           && (now->refusal != 0 || then->angle <= now->angle);
 }
 
 /* A line in millimetres and degrees. */
@@ -121,7 +126,7 @@ static void print_view(const char *name, const struct view *view, const char *ve
     } else {
         for (int i = 0; i < 3; i++)
             printf(" %8.3f", 1000 * view->camera[i]);
-        printf(" %8.4f", atan(sqrt(view->score)) * degrees);
+        printf(" %8.4f", view->angle);
     }
     printf("  %s\n", verdict);
 }

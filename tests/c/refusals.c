@@ -1,7 +1,8 @@
-/* Every refusal by a call, and that a refused call has written nothing. Memory is filled with a
- * pattern before each call; an answered call must have changed it, so that the comparison is known
- * to see a write. Previews must give what the replacement and the solve give that they show, and
- * have written to nothing that they only read. Prints how many of the calls went wrong.
+/* Every refusal by a call, and that a refused call has written nothing, but for a preview's edges.
+ * Memory is filled with a pattern before each call; an answered call must have changed it, so that
+ * the comparison is known to see a write. A preview must leave what replacing on a copy and solving
+ * with it leave, write the edges in any case, and write to nothing that it only reads. Prints how
+ * many of the calls went wrong.
  *   refusals [CHANGE]
  * CHANGE: an expectation that is changed, which must be found wrong. `number`: each call returns
  * one more. Of previews: `edges`, the first of the squared edges has the other sign; `poses`, the
@@ -221,7 +222,7 @@ static void plate_solves(void)
            solve_plate(0, made_inverse, bearings));
 }
 
-/* Previews. All that a preview only reads. */
+/* All that a preview only reads. */
 struct given {
     double plate[21], point[3], bearings[9];
     uint32_t has_inverse, target;

@@ -9,9 +9,8 @@ use p3p::{Plate, Poses, Refusal};
 const POINTS: [[f64; 3]; 3] = [[0.0, 0.0, 0.0], [0.5, 0.0, 0.0], [0.0, 0.375, 0.0]];
 const CHECKING: [f64; 3] = [0.5, 0.375, 0.125];
 const HOLE: [f64; 3] = [0.25, -0.5, 0.0];
-// The score up to which the checking target confirms a pose, by your measuring error: 0.5 mm at
-// 2 m.
-const LIMIT: f64 = 6.25e-8;
+// The angle in degrees up to which the checking target confirms a pose, by your measuring error.
+const LIMIT: f64 = 0.01;
 
 // The directions in which the camera sees the targets in the frame at hand, the last for checking.
 // The third target has been knocked since the plate was made.
@@ -27,11 +26,20 @@ const ENTRIES: [(&str, u32, [f64; 3]); 5] = [
     ("as measured", 2, [0.0, 0.38, 0.005]),
 ];
 
-/// What the frame shows with a plate: its squared edges; then a refusal, or the checking target's
-/// score and where the hole is.
+/// What the frame shows with a plate: its squared edges; then a refusal, or what the best pose
+/// gives.
 struct View {
     squared_edges: [f64; 3],
-    found: Result<(f64, [f64; 3]), Refusal>,
+    found: Result<Found, Refusal>,
+}
+
+/// Of the best pose whether it is lifted, how far the checking target is off its bearing, in
+/// degrees, and where the hole is.
+#[derive(Clone, Copy, PartialEq)]
+struct Found {
+    lifted: bool,
+    angle: f64,
+    camera: [f64; 3],
 }
 
 /// The frame's bearings to the targets, and that to the checking target.
@@ -46,11 +54,13 @@ impl Frame {
         Self { bearings: [f0, f1, f2], checking }
     }
 
-    /// The view of poses that a solve or a preview has given; plate.rs asks more of the choice.
+    /// The view of poses that a solve or a preview has given.
     fn view(&self, squared_edges: [f64; 3], poses: Result<Poses, Refusal>) -> View {
         let found = poses.and_then(|poses| {
             let choice = p3p::choose(&poses, &CHECKING, &self.checking)?;
-            Ok((choice.score, poses[choice.index].apply(&HOLE)))
+            let best = poses[choice.index];
+            let angle = choice.score.sqrt().atan().to_degrees();
+            Ok(Found { lifted: best.lifted, angle, camera: best.apply(&HOLE) })
         });
         View { squared_edges, found }
     }
@@ -67,14 +77,11 @@ impl Frame {
     }
 }
 
-/// Whether the new point may be stored: the checking target confirms it, no worse than it does the
-/// present one.
+/// Whether the new point may be stored: the checking target confirms it by a pose that is not
+/// lifted, and no worse than the present one.
 fn is_acceptable(then: &View, now: &View) -> bool {
-    match (then.found, now.found) {
-        (Ok((score, _)), Ok((present, _))) => score <= LIMIT && score <= present,
-        (Ok((score, _)), Err(_)) => score <= LIMIT,
-        (Err(_), _) => false,
-    }
+    let Ok(then) = then.found else { return false };
+    !then.lifted && then.angle <= LIMIT && now.found.map_or(true, |now| then.angle <= now.angle)
 }
 
 /// A line in millimetres and degrees.
@@ -82,9 +89,9 @@ fn print_view(name: &str, view: &View, verdict: &str) {
     let [e01, e02, e12] = view.squared_edges.map(|edge| 1000.0 * edge.sqrt());
     print!("{name:11} {e01:8.3} {e02:8.3} {e12:8.3}");
     match view.found {
-        Ok((score, camera)) => {
+        Ok(Found { angle, camera, .. }) => {
             let [x, y, z] = camera.map(|entry| 1000.0 * entry);
-            print!(" {x:8.3} {y:8.3} {z:8.3} {:8.4}", score.sqrt().atan().to_degrees());
+            print!(" {x:8.3} {y:8.3} {z:8.3} {angle:8.4}");
         }
         Err(refusal) => print!("  refused {:<26}", refusal.number()),
     }

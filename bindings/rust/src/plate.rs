@@ -122,10 +122,12 @@ impl Plate {
         lent.answer(number, |pose| pose)
     }
 
-    /// What [`replace`](Self::replace) and then [`solve`](Self::solve) would give, bit for bit; the
-    /// plate stays as it is. The replacement's questions are asked first, then the solve's.
-    /// Whatever squared edges and inverse the plate holds, the answer is what
-    /// [`solve`](crate::solve) gives of its points, the new one among them, and the bearings.
+    /// What a target at another point would do; the plate stays as it is. The questions of
+    /// [`replace`](Self::replace) are asked first, then those of the solve. Where the replacement
+    /// is not refused, it and then [`solve`](Self::solve) give just what was shown, bit for bit but
+    /// for NaNs among the edges, and the solve's refusal too; and whatever squared edges and
+    /// inverse the plate holds, the answer is what [`solve`](crate::solve) gives of its points, the
+    /// new one among them, and the bearings.
     pub fn preview(&self, target: u32, point: &[f64; 3], bearings: &[[f64; 3]; 3]) -> Preview {
         let StoredPlate { numbers, has_inverse } = &self.stored;
         let (mut lent, mut squared_edges) = (Lent::default(), [0.0; 3]);

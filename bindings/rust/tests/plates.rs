@@ -193,8 +193,8 @@ fn a_nan_in_another_point_does_not_stop_a_replacement() {
 #[test]
 fn a_preview_is_the_solve_of_the_moved_points() {
     let plate = made(&POINTS);
-    let plates = [plate, altered(&plate, 10, 7.0), altered(&plate, 12, f64::NAN)];
-    for old in [plates[0], plates[1], plates[2], without_inverse(&plate)] {
+    let wrong = [altered(&plate, 10, 7.0), altered(&plate, 12, f64::NAN), without_inverse(&plate)];
+    for old in [&[plate][..], &wrong].concat() {
         for target in 0..3 {
             let mut points = POINTS;
             points[target as usize] = [0.1, -0.2, 0.3];

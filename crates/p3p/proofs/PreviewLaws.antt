@@ -1,6 +1,6 @@
 -- A preview over lent memory is what replacing the target on a copy of the plate and solving with
--- that copy give (`copy-shown`), and so what they give on the plate itself (`as-shown`); or it is the
--- replacement's refusal with plus zeros (`refusal-shown`). Document 02, §5. Assumes nothing.
+-- that copy give (`copy-shown`), and so what they give on the plate itself (`as-shown`); or it is
+-- the replacement's refusal with plus zeros (`refusal-shown`). Document 02, §5. Assumes nothing.
 use Prim.Native.Nat.{ℕ}
 use mathlib.Core.Path.{_≡_, refl, sym, ap}
 use mathlib.Core.List.{List}
