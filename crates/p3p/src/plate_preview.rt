@@ -1,5 +1,6 @@
 // What a moved target would do, over lent memory (document 02, §5). The plate is only read. The
-// squared edges are always written: plus zeros where the replacement is refused, and only there.
+// squared edges are always written: plus zeros where the replacement is refused, else those that
+// would be stored.
 ghost use mathlib.Core.Path.{_≡_};
 ghost use Rattle.lent_answers.specs.Solved.{posesAfter, updatesAfter, liftedAfter, countAfter};
 ghost use Rattle.p3p.specs.PreviewLent.{previewed, edgeEntries};

@@ -12,8 +12,8 @@ use plates::plate::Plate;
 use plates::replace::replace;
 use plates::solve_plate::solve_plate;
 
-// The answer with the target moved, and the squared edges that would be stored: plus zeros where
-// the replacement is refused, and only there.
+// The answer with the target moved, and the squared edges that would be stored, also where the
+// solve refuses; plus zeros where the replacement is refused.
 pub struct Shown {
     pub answer: Answer,
     pub edges: SquaredEdges,
