@@ -80,8 +80,10 @@ impl Frame {
 /// Whether the new point may be stored: the checking target confirms it by a pose that is not
 /// lifted, and no worse than the present one.
 fn is_acceptable(then: &View, now: &View) -> bool {
-    let Ok(then) = then.found else { return false };
-    !then.lifted && then.angle <= LIMIT && now.found.map_or(true, |now| then.angle <= now.angle)
+    then.found.map_or(false, |then| {
+        let no_worse = now.found.map_or(true, |now| then.angle <= now.angle);
+        !then.lifted && then.angle <= LIMIT && no_worse
+    })
 }
 
 /// A line in millimetres and degrees.
