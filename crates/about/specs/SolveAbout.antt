@@ -1,8 +1,8 @@
 -- The solve about the first target: document 02, §1. Question 1 of document 01, then the
 -- differences; "number 1 is also given where a difference is not finite, right after the present
 -- first question"; then the present solve of the differences.
-use Rattle.std.specs.Prelude.{not, eqb}
-use Rattle.ieee754.specs.Traced.{Traced, pure, ◌>>=◌, if◌then◌else◌}
+use Rattle.std.specs.Prelude.{not, eqb, if◌then◌else◌}
+use Rattle.ieee754.specs.Traced.{Traced, pure, ◌>>=◌}
 use Rattle.linalg.specs.Vectors.{zeros}
 use Rattle.p3p_common.specs.Input.{input_finite}
 use Rattle.lambdatwist.specs.Solve.{refused, solve}

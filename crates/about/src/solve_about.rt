@@ -12,7 +12,7 @@ use p3p_common::input::{P3pInput, input_finite};
 
 // The poses of `answer` take x - origin to the camera. `origin` is the first world point as it was
 // given, and plus zeros where the answer is refused.
-#[derive(Drop)]
+#[derive(Clone, Copy)]
 pub struct AnswerAbout {
     pub answer: Answer,
     pub origin: Vector3,

@@ -1,10 +1,10 @@
 -- The choice of one pose. From document 01, module 8: lowest finite score wins, the earlier pose on
 -- a tie, as `best_by` of pose/p3p/common.rs does. No score is minus zero, so the order of numbers
 -- is that of `total_cmp`. A pose without a score is passed over: document 02, §2.
-use Rattle.std.specs.Prelude.{ℕ, ◌+◌, min, List, [], ◌∷◌, take, Float}
+use Rattle.std.specs.Prelude.{ℕ, ◌+◌, min, List, [], ◌∷◌, take, Float, if◌then◌else◌}
 use Rattle.std.specs.Float.Ieee.{lt}
 use Rattle.std.specs.Float.Ieee.Scale.{finite}
-use Rattle.ieee754.specs.Traced.{Traced, pure, ◌>>=◌, if◌then◌else◌}
+use Rattle.ieee754.specs.Traced.{Traced, pure, ◌>>=◌}
 use Rattle.choice.specs.Answer.{no_score}
 use Rattle.choice.specs.Score.{score}
 use Rattle.choice.specs.Types.{Vector3, Pose, Scored, Score, Behind, Choice, Best, Refused}

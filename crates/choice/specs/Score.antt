@@ -1,8 +1,9 @@
 -- The score of a pose by a fourth target. From document 01, module 8, as document 02, §2, amends
 -- it.
+use Rattle.std.specs.Prelude.{if◌then◌else◌}
 use Rattle.std.specs.Float.Ieee.{lt}
 use Rattle.ieee754.specs.Literal.{plus_zero}
-use Rattle.ieee754.specs.Traced.{Traced, pure, ◌>>=◌, if◌then◌else◌, ◌⊗◌, ◌⊘◌, !◌}
+use Rattle.ieee754.specs.Traced.{Traced, pure, ◌>>=◌, ◌⊗◌, ◌⊘◌, !◌}
 use Rattle.linalg.specs.Vectors.{dot, norm_squared, cross}
 use Rattle.choice.specs.Types.{Vector3, Pose, Scored, Score, Behind}
 use Rattle.frames.specs.Poses.{camera_point}

@@ -10,7 +10,7 @@ use frames::pose::Pose;
 use ieee754::is_finite::is_finite;
 use linalg::vector3::Vector3;
 
-#[derive(Drop)]
+#[derive(Clone, Copy)]
 pub enum Choice {
     // The place of the chosen pose, from 1, and its score.
     Best(u32, f64),

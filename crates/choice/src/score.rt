@@ -6,7 +6,7 @@ ghost use Rattle.choice.specs.Score as Score;
 use frames::pose::Pose;
 use linalg::vector3::Vector3;
 
-#[derive(Drop)]
+#[derive(Clone, Copy)]
 pub enum Scored {
     // A pose's score. It need not be finite.
     Score(f64),

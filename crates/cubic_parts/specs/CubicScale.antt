@@ -1,11 +1,11 @@
 -- `cubic_variable_scale` of polynomial.rs, and the coefficients over that scale, with which
 -- `polished_cubic_root` goes on. Document 01, module 3.
-use Rattle.std.specs.Prelude.{Bool, ◌&&◌, ◌||◌, Float}
+use Rattle.std.specs.Prelude.{Bool, ◌&&◌, ◌||◌, Float, if◌then◌else◌}
 use Rattle.std.specs.Float.Ieee.{lt, eq}
 use Rattle.ieee754.specs.Literal.{plus_zero, one}
 use Rattle.ieee754.specs.Magnitude.{abs}
 use Rattle.ieee754.specs.Maximum.{max}
-use Rattle.ieee754.specs.Traced.{Traced, pure, ◌>>=◌, if◌then◌else◌, !◌, √◌, ∛◌, ◌⊗◌, ◌⊘◌}
+use Rattle.ieee754.specs.Traced.{Traced, pure, ◌>>=◌, !◌, √◌, ∛◌, ◌⊗◌, ◌⊘◌}
 use Rattle.cubic_parts.specs.Literal.{ten⁵⁰, ten¹⁰⁰, ten¹⁵⁰, ten⁻⁵⁰, ten⁻¹⁰⁰, ten⁻¹⁵⁰}
 use Rattle.cubic_parts.specs.Types.{Monic}
 

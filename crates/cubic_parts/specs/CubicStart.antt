@@ -2,10 +2,10 @@
 -- b*x^2 + c*x + d: Cardano's where it is the only real one; else a point outside a turning point,
 -- or -b / 3 where there are no turning points. The Rust returns None only at a turning point, where
 -- the parabola there has no leading term or a negative radicand. Document 01, module 3.
-use Rattle.std.specs.Prelude.{◌||◌, Float}
+use Rattle.std.specs.Prelude.{◌||◌, Float, if◌then◌else◌}
 use Rattle.std.specs.Float.Ieee.{neg, lt, le, eq}
 use Rattle.ieee754.specs.Literal.{plus_zero, half, two}
-use Rattle.ieee754.specs.Traced.{Traced, pure, ◌>>=◌, if◌then◌else◌, !◌, ⊝◌, √◌, ◌⊗◌, ◌⊘◌, ◌⊕◌, ◌⊖◌}
+use Rattle.ieee754.specs.Traced.{Traced, pure, ◌>>=◌, !◌, ⊝◌, √◌, ◌⊗◌, ◌⊘◌, ◌⊕◌, ◌⊖◌}
 use Rattle.cubic_parts.specs.Literal.{three, twenty_seven}
 use Rattle.cubic_parts.specs.Steps.{after}
 use Rattle.cubic_parts.specs.Cardano.{cardano_single_real}

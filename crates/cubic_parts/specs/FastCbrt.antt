@@ -1,13 +1,13 @@
 -- `fast_cbrt` of polynomial.rs: a cube root by two steps of Halley's method, from a start that
 -- divides the bit pattern by three. Document 01, module 3.
-use Rattle.std.specs.Prelude.{◌+◌, ◌/◌, not, ◌||◌, Float}
+use Rattle.std.specs.Prelude.{◌+◌, ◌/◌, not, ◌||◌, Float, if◌then◌else◌}
 use Rattle.std.specs.Float.{binary64}
 use Rattle.std.specs.Float.Ieee.{to_bits, of_bits, lt, eq}
 use Rattle.std.specs.Float.Ieee.Scale.{finite}
 use Rattle.ieee754.specs.Literal.{plus_zero, one, two, min_positive}
 use Rattle.ieee754.specs.Magnitude.{abs}
 use Rattle.ieee754.specs.CopySign.{copysign}
-use Rattle.ieee754.specs.Traced.{Traced, pure, ◌>>=◌, if◌then◌else◌, !◌, ∛◌, ◌⊗◌, ◌⊘◌, ◌⊕◌}
+use Rattle.ieee754.specs.Traced.{Traced, pure, ◌>>=◌, !◌, ∛◌, ◌⊗◌, ◌⊘◌, ◌⊕◌}
 use Rattle.cubic_parts.specs.Steps.{after}
 use Rattle.cubic_parts.specs.Types.{Step, Next, Stop}
 

@@ -1,11 +1,11 @@
 -- The Newton steps of `polished_cubic_root` of polynomial.rs, each with its stops. Document 01,
 -- module 3.
-use Rattle.std.specs.Prelude.{ℕ, zero, suc, not, ◌||◌, Float}
+use Rattle.std.specs.Prelude.{ℕ, zero, suc, not, ◌||◌, Float, if◌then◌else◌}
 use Rattle.std.specs.Float.Ieee.{lt, eq}
 use Rattle.std.specs.Float.Ieee.Scale.{finite}
 use Rattle.ieee754.specs.Literal.{plus_zero, two}
 use Rattle.ieee754.specs.Magnitude.{abs}
-use Rattle.ieee754.specs.Traced.{Traced, pure, ◌>>=◌, if◌then◌else◌, !◌, ◌⊗◌, ◌⊘◌, ◌⊕◌, ◌⊖◌}
+use Rattle.ieee754.specs.Traced.{Traced, pure, ◌>>=◌, !◌, ◌⊗◌, ◌⊘◌, ◌⊕◌, ◌⊖◌}
 use Rattle.cubic_parts.specs.Literal.{three, ten⁻¹⁴}
 use Rattle.cubic_parts.specs.Steps.{after}
 use Rattle.cubic_parts.specs.CubicStart.{cubic_value}

@@ -1,5 +1,6 @@
 -- The depth candidates of a root are at most four: one more is stored only where there is room.
 -- Assumes nothing.
+use Rattle.std.specs.Prelude.{if◌then◌else◌}
 use Prim.Native.Nat.{◌≤◌}
 use mathlib.Core.Bool.{Bool, ◌&&◌, ◌||◌}
 use native.Mathlib.Omega.{arith}
@@ -8,7 +9,7 @@ use lib.Ieee.{Float, lt, le, neg}
 use lib.Ieee.Fits.{and_r}
 use Rattle.ieee754.specs.Literal.{plus_zero}
 use Rattle.ieee754.specs.Magnitude.{abs}
-use Rattle.ieee754.specs.Traced.{Traced, pure, ◌>>=◌, if◌then◌else◌}
+use Rattle.ieee754.specs.Traced.{Traced, pure, ◌>>=◌}
 use Rattle.ieee754.proofs.Tests.{either_way}
 use Rattle.polynomial.specs.Answer.{pair_of, with_pair}
 use Rattle.polynomial.specs.declared.pair.RootPair.{RootPair}

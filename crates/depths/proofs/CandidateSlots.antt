@@ -1,7 +1,7 @@
 -- A struct of candidates has four slots. Assumes nothing.
 use mathlib.Core.Path.{◌≡◌}
 use mathlib.Core.List.{[], ◌∷◌}
-use lib.ListN.{length, length-map}
+use lib.ListN.{length}
 use denote.Laws.{Is}
 use denote.Struct.Declared.{row}
 use denote.Struct.Laws as struct
@@ -14,5 +14,5 @@ pub four-slots : (found : Candidates)
     (struct.val candidates.the_type candidates-laws.the_laws found ∷ [])
     → length found.slots ≡ 4
 four-slots found ok =
-    simp length-map at (struct.owed candidates.the_type candidates-laws.the_laws found
+    (struct.owed candidates.the_type candidates-laws.the_laws found
     (struct.val candidates.the_type candidates-laws.the_laws found ∷ []) ok).1.1.0.1.0.1

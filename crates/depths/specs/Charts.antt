@@ -1,12 +1,12 @@
 -- The two charts of `solve_ordered` (lambdatwist.rs): from the null vector of one sign to at most
 -- two depth candidates, one for each root of the chart's quadratic. Where the quadratic refuses,
 -- only that sign's turn ends. Whether the pair of roots was lifted is handed on (document 02, §8).
-use Rattle.std.specs.Prelude.{Bool, not, ◌||◌, Float}
+use Rattle.std.specs.Prelude.{Bool, not, ◌||◌, Float, if◌then◌else◌}
 use Rattle.std.specs.Float.Ieee.{lt, le, eq}
 use Rattle.std.specs.Float.Ieee.Scale.{finite}
 use Rattle.ieee754.specs.Literal.{plus_zero, one, two}
 use Rattle.ieee754.specs.Magnitude.{abs}
-use Rattle.ieee754.specs.Traced.{Traced, pure, ◌>>=◌, if◌then◌else◌, ◌⊗◌, ◌⊕◌, ◌⊖◌, ◌⊘◌, !◌, ⊝◌, √◌}
+use Rattle.ieee754.specs.Traced.{Traced, pure, ◌>>=◌, ◌⊗◌, ◌⊕◌, ◌⊖◌, ◌⊘◌, !◌, ⊝◌, √◌}
 use Rattle.linalg.specs.Vectors.{vector}
 use Rattle.polynomial.specs.Answer.{pair_of, with_pair}
 use Rattle.polynomial.specs.Quadratic.{quadratic_real_monic}

@@ -1,7 +1,6 @@
--- What `push` appends: the test of `push_if_positive` in two steps, whether a root gives depths, and
--- whether there is room for them.
-use Rattle.std.specs.Prelude.{◌+◌, Bool, ltb, set}
-use Rattle.ieee754.specs.Traced.{if◌then◌else◌}
+-- What `push` appends: the test of `push_if_positive` in two steps, whether a root gives depths,
+-- and whether there is room for them.
+use Rattle.std.specs.Prelude.{◌+◌, Bool, ltb, set, if◌then◌else◌}
 use Rattle.depths.specs.DepthSlots.{candidate}
 use Rattle.depths.specs.Types.{Candidates, Depths, At, Nowhere, ChartDepths}
 

@@ -1,11 +1,11 @@
 -- The square root of minus the second eigenvalue over the first, with either sign of which a null
 -- vector is made: `solve_ordered` (lambdatwist.rs), from `let ratio_squared` on.
-use Rattle.std.specs.Prelude.{Bool, true, not, Float}
+use Rattle.std.specs.Prelude.{Bool, true, not, Float, if◌then◌else◌}
 use Rattle.std.specs.Float.Ieee.{lt}
 use Rattle.std.specs.Float.Ieee.Scale.{finite}
 use Rattle.ieee754.specs.Literal.{plus_zero, sixty_four, epsilon}
 use Rattle.ieee754.specs.Maximum.{max}
-use Rattle.ieee754.specs.Traced.{Traced, pure, ◌>>=◌, if◌then◌else◌, ◌⊗◌, ◌⊘◌, !◌, ⊝◌, √◌}
+use Rattle.ieee754.specs.Traced.{Traced, pure, ◌>>=◌, ◌⊗◌, ◌⊘◌, !◌, ⊝◌, √◌}
 use Rattle.depths.specs.Types.{Ratio, Real, NotReal}
 
 -- ---- what follows a ratio: what `k` makes of it, and `none` where it is not real

@@ -7,7 +7,7 @@ ghost use Rattle.depths.specs.Pushed.{pushed};
 use linalg::vector3::Vector3;
 
 // The depths of a root, where they are a candidate.
-#[derive(Drop)]
+#[derive(Clone, Copy)]
 pub enum Depths {
     At(Vector3),
     Nowhere,
@@ -15,14 +15,14 @@ pub enum Depths {
 
 // Three depths, and whether the pair of eigenvalues or of depth ratios that they came from was
 // lifted.
-#[derive(Drop)]
+#[derive(Clone, Copy)]
 pub struct Candidate {
     pub depths: Vector3,
     pub lifted: bool,
 }
 
 // `lifted` says it of the eigenvalues, which all the candidates came from.
-#[derive(Drop)]
+#[derive(Clone, Copy)]
 pub struct Candidates {
     pub lifted: bool,
     pub count: usize,

@@ -27,7 +27,7 @@ pub fn no_divisor(denominator: f64) -> bool
 }
 
 // What a chart gives for the two roots of its quadratic, and whether these were lifted.
-#[derive(Drop)]
+#[derive(Clone, Copy)]
 pub struct ChartDepths {
     pub lifted: bool,
     pub first: Depths,

@@ -8,7 +8,7 @@ use ieee754::literal::EPSILON;
 use ieee754::max::max;
 use ieee754::sqrt::sqrt;
 
-#[derive(Drop)]
+#[derive(Clone, Copy)]
 pub enum Ratio {
     Real(f64),
     NotReal,

@@ -1,11 +1,11 @@
 -- The two eigenvalues that are not known: the second part of `eig_with_known_zero`
 -- (lambdatwist.rs). They are the roots of a quadratic, the greater in magnitude first; a
 -- quadratic's refusal ends the solve. Whether the pair was lifted is handed on (document 02, §8).
-use Rattle.std.specs.Prelude.{Bool, ◌||◌, Float}
+use Rattle.std.specs.Prelude.{Bool, ◌||◌, Float, if◌then◌else◌}
 use Rattle.std.specs.Float.Ieee.{lt, eq}
 use Rattle.ieee754.specs.Literal.{plus_zero}
 use Rattle.ieee754.specs.Magnitude.{abs}
-use Rattle.ieee754.specs.Traced.{Traced, pure, ◌>>=◌, if◌then◌else◌, ◌⊗◌, ◌⊕◌, ◌⊖◌, !◌, ⊝◌}
+use Rattle.ieee754.specs.Traced.{Traced, pure, ◌>>=◌, ◌⊗◌, ◌⊕◌, ◌⊖◌, !◌, ⊝◌}
 use Rattle.linalg.specs.Matrices.{trace}
 use Rattle.polynomial.specs.Answer.{pair_of, with_pair}
 use Rattle.polynomial.specs.Quadratic.{quadratic_real_monic}

@@ -1,12 +1,12 @@
 -- The eigenvector of a nonzero eigenvalue: the closure `eigenvector` of `eig_with_known_zero`
 -- (lambdatwist.rs), and what is computed before it for both values.
-use Rattle.std.specs.Prelude.{not, ◌||◌, Float}
+use Rattle.std.specs.Prelude.{not, ◌||◌, Float, if◌then◌else◌}
 use Rattle.std.specs.Float.Ieee.{le}
 use Rattle.std.specs.Float.Ieee.Scale.{finite}
 use Rattle.ieee754.specs.Literal.{one, sixty_four, epsilon, min_positive}
 use Rattle.ieee754.specs.Magnitude.{abs}
 use Rattle.ieee754.specs.Maximum.{max}
-use Rattle.ieee754.specs.Traced.{Traced, pure, ◌>>=◌, if◌then◌else◌, ◌⊗◌, ◌⊕◌, ◌⊖◌, ◌⊘◌, !◌, ⊝◌, √◌}
+use Rattle.ieee754.specs.Traced.{Traced, pure, ◌>>=◌, ◌⊗◌, ◌⊕◌, ◌⊖◌, ◌⊘◌, !◌, ⊝◌, √◌}
 use Rattle.linalg.specs.Vectors.{vector, all_finite}
 use Rattle.eigen.specs.RowCrosses.{eigenvector_from_row_crosses}
 use Rattle.eigen.specs.Types.{Vector3, Matrix3, Eigenvector, Normalised, Missing, Precomputed}

@@ -1,11 +1,11 @@
 -- `eigenvector_from_row_crosses` of lambdatwist.rs: the longest cross product of two rows of
 -- matrix - eigenvalue, divided by its length.
-use Rattle.std.specs.Prelude.{◌&&◌, Float}
+use Rattle.std.specs.Prelude.{◌&&◌, Float, if◌then◌else◌}
 use Rattle.std.specs.Float.Ieee.{lt}
 use Rattle.std.specs.Float.Ieee.Scale.{finite}
 use Rattle.ieee754.specs.Literal.{min_positive}
 use Rattle.ieee754.specs.TotalOrder.{total_cmp}
-use Rattle.ieee754.specs.Traced.{Traced, pure, ◌>>=◌, if◌then◌else◌, ◌⊖◌, !◌}
+use Rattle.ieee754.specs.Traced.{Traced, pure, ◌>>=◌, ◌⊖◌, !◌}
 use Rattle.linalg.specs.Vectors.{vector, cross, norm_squared, norm, vec_div}
 use Rattle.eigen.specs.Types.{Order, Less, Equal, Greater, Vector3, Matrix3, Eigenvector}
 use Rattle.eigen.specs.Types.{Normalised, Missing}

@@ -1,9 +1,10 @@
 -- The eigenvector of the known eigenvalue zero: the first part of `eig_with_known_zero`
 -- (lambdatwist.rs). It becomes the third column of the eigenvectors, which the solve never reads;
 -- but where it is missing the solve ends.
+use Rattle.std.specs.Prelude.{if◌then◌else◌}
 use Rattle.std.specs.Float.Ieee.{le}
 use Rattle.ieee754.specs.Literal.{plus_zero, sixty_four, epsilon}
-use Rattle.ieee754.specs.Traced.{Traced, pure, ◌>>=◌, if◌then◌else◌, ◌⊗◌, ◌⊖◌, !◌, √◌}
+use Rattle.ieee754.specs.Traced.{Traced, pure, ◌>>=◌, ◌⊗◌, ◌⊖◌, !◌, √◌}
 use Rattle.linalg.specs.Vectors.{vector, norm_squared, vec_div}
 use Rattle.linalg.specs.Matrices.{mat_norm_squared}
 use Rattle.eigen.specs.RowCrosses.{eigenvector_from_row_crosses}

@@ -12,7 +12,7 @@ use linalg::matrix3::Matrix3;
 use linalg::vector3::Vector3;
 
 // The two vectors, then their values, and whether these are a lifted pair.
-#[derive(Drop)]
+#[derive(Clone, Copy)]
 pub enum Eigenpairs {
     Both(Vector3, Vector3, f64, f64, bool),
     Neither,

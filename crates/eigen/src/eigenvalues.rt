@@ -8,7 +8,7 @@ use linalg::matrix3::Matrix3;
 use polynomial::pair::{RootPair, pair_of};
 use polynomial::quadratic::quadratic_real_monic;
 
-#[derive(Drop)]
+#[derive(Clone, Copy)]
 pub enum Eigenvalues {
     // The two, and whether they are a lifted pair.
     Pair(f64, f64, bool),

@@ -14,7 +14,7 @@ use linalg::matrix3::Matrix3;
 use linalg::vector3::Vector3;
 
 // `square` is off_diagonal_squared and `product` is product00_11.
-#[derive(Drop)]
+#[derive(Clone, Copy)]
 pub struct Precomputed {
     pub square: f64,
     pub product: f64,

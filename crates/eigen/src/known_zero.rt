@@ -11,7 +11,7 @@ use crate::zero_vector::zero_vector;
 use linalg::matrix3::Matrix3;
 use linalg::vector3::Vector3;
 
-#[derive(Drop)]
+#[derive(Clone, Copy)]
 pub enum Eigensystem {
     // The eigenvectors, the eigenvalues, and whether the two that were not known are a lifted pair.
     Found(Matrix3, Vector3, bool),

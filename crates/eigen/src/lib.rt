@@ -1,5 +1,7 @@
 // The eigensystem of a symmetric matrix of which zero is an eigenvalue: eig_with_known_zero and
 // eigenvector_from_row_crosses of pose/p3p/lambdatwist.rs, document 01, module 6.
+#![tactic(auto)]
+
 pub mod eigenpairs;
 pub mod eigenvalues;
 pub mod eigenvector;

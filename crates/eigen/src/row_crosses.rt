@@ -9,7 +9,7 @@ use ieee754::total_cmp::{Order, total_cmp};
 use linalg::matrix3::Matrix3;
 use linalg::vector3::Vector3;
 
-#[derive(Drop)]
+#[derive(Clone, Copy)]
 pub enum Eigenvector {
     Normalised(Vector3),
     Missing,

@@ -1,5 +1,7 @@
 // The program that README names: the poses of a plate, the one that its fourth target confirms, and
 // where the camera sees a hole that is to be drilled.
+#![tactic(auto)]
+
 use choice::choose::{Choice, choose};
 use frames::bearings::Bearings;
 use frames::pose::Pose;
@@ -7,8 +9,8 @@ use frames::world::World;
 use ieee754::abs::abs;
 use ieee754::bits::to_bits;
 use lambdatwist::solve::solve;
-use libc::STDOUT_FILENO;
 use linalg::vector3::Vector3;
+use std::io;
 
 // A point of the plate, in metres.
 fn point(x: f64, y: f64, z: f64) -> Vector3 {
@@ -40,17 +42,14 @@ fn confirmed(score: f64) -> bool {
 
 // A length to the nearest millimetre. Beside 2^52 a double has no fraction: it is rounded, and its
 // last 52 bits are the whole number.
-fn print_millimetres(metres: f64) {
+fn print_millimetres(rt: &impl Print, metres: f64) -> io::Result<()> {
     let sum = abs(metres) * 1000.0 + 4503599627370496.0;
-    if metres < 0.0 {
-        io::write_all(STDOUT_FILENO, b" -");
-    } else {
-        io::write_all(STDOUT_FILENO, b" ");
-    }
-    io::print_decimal(STDOUT_FILENO, to_bits(sum) % 4503599627370496);
+    let sign = if metres < 0.0 { "-" } else { "" };
+    let whole = to_bits(sum) % 4503599627370496;
+    print!(rt; " {sign}{whole}")
 }
 
-fn main() {
+fn main(rt: HostRuntime) -> io::Result<()> {
     // Three targets of the plate, and the bearings at which the camera sees them.
     let p0 = point(0.0, 0.0, 0.0);
     let p1 = point(0.5, 0.0, 0.0);
@@ -67,25 +66,20 @@ fn main() {
     let poses = answer.poses;
     let choice = choose(poses, answer.count, target, bearing);
     let Choice::Best(place, score) = choice else {
-        io::write_all(STDOUT_FILENO, b"no pose chosen\n");
-        return;
+        return println!(rt; "no pose chosen");
     };
     let best = at_place(poses, place);
     if !confirmed(score) {
-        io::write_all(STDOUT_FILENO, b"not confirmed\n");
-        return;
+        return println!(rt; "not confirmed");
     }
 
     // Where a hole of the plate lies before the camera.
     let hole = best.camera_point(point(0.25, -0.5, 0.0));
 
-    io::write_all(STDOUT_FILENO, b"poses ");
-    io::print_decimal(STDOUT_FILENO, answer.count as u64);
-    io::write_all(STDOUT_FILENO, b" best ");
-    io::print_decimal(STDOUT_FILENO, place as u64);
-    io::write_all(STDOUT_FILENO, b" hole");
-    print_millimetres(hole.x);
-    print_millimetres(hole.y);
-    print_millimetres(hole.z);
-    io::write_all(STDOUT_FILENO, b" mm\n");
+    let count = answer.count;
+    print!(rt; "poses {count} best {place} hole")?;
+    print_millimetres(&rt, hole.x)?;
+    print_millimetres(&rt, hole.y)?;
+    print_millimetres(&rt, hole.z)?;
+    println!(rt; " mm")
 }

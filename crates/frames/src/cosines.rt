@@ -1,5 +1,5 @@
 // The cosines of the angles between three bearings, by the bearings that each lies between.
-#[derive(Drop)]
+#[derive(Clone, Copy)]
 pub struct Cosines {
     pub m01: f64,
     pub m02: f64,

@@ -3,7 +3,7 @@ use crate::bearings::Bearings;
 use crate::world::World;
 use linalg::vector3::Vector3;
 
-#[derive(Drop)]
+#[derive(Clone, Copy)]
 pub struct Frame {
     pub world: World,
     pub bearings: Bearings,

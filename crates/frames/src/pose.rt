@@ -5,7 +5,7 @@ ghost use Rattle.frames.specs.Poses.{zero_pose, camera_point};
 use linalg::matrix3::Matrix3;
 use linalg::vector3::Vector3;
 
-#[derive(Drop)]
+#[derive(Clone, Copy)]
 pub struct Pose {
     pub rotation: Matrix3,
     pub translation: Vector3,

@@ -1,5 +1,5 @@
 // The squared lengths of the edges between three world points, by the points that each joins.
-#[derive(Drop)]
+#[derive(Clone, Copy)]
 pub struct SquaredEdges {
     pub a01: f64,
     pub a02: f64,

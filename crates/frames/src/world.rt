@@ -4,7 +4,7 @@ ghost use Rattle.frames.specs.Points.{world_finite};
 
 use linalg::vector3::Vector3;
 
-#[derive(Drop)]
+#[derive(Clone, Copy)]
 pub struct World {
     pub p0: Vector3,
     pub p1: Vector3,

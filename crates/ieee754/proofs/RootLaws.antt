@@ -1,8 +1,8 @@
--- What `round_root` of Root.antt means. For a reader there are two laws. `dropped-drops`: with the k
--- digits that it drops, the root is below 2 ^ (prec + k) units, and no less than 2 ^ (prec - 1 + k)
--- unless k is 0, so 2 ^ k units is the step of the format's values there. `kept_near`: what is
--- kept, which is the result in such steps (`round_root-is`), is no further from the root than half a
--- step. For a proof there is one, `round_root-at`: how to meet `round_root`. Assumes nothing.
+-- What `round_root` of Root.antt means. For a reader there are two laws. `dropped-drops`: with the
+-- k digits that it drops, the root is below 2 ^ (prec + k) units, and no less than 2 ^ (prec - 1 +
+-- k) unless k is 0, so 2 ^ k units is the step of the format's values there. `kept_near`: what is
+-- kept, which is the result in such steps (`round_root-is`), is no further from the root than half
+-- a step. For a proof there is one, `round_root-at`: how to meet `round_root`. Assumes nothing.
 use Prim.Native.Nat.{ℕ, zero, suc, ◌+◌, ◌-◌, ◌*◌, ◌/◌, ◌^◌, ◌≤◌, ◌<◌, zero-le, compare, Ordering}
 use mathlib.Core.Path.{◌≡◌, refl, sym, ap, ◌∙◌, subst}
 use mathlib.Core.Logic.{◌⊎◌, inl, inr}

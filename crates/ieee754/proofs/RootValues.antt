@@ -118,6 +118,8 @@ by_zero : (op : Float → Float)
     → x ≡ op x
 by_zero op z (fin t zero e) s a c A C v = z t e
 by_zero op z (fin t (suc m) e) s a c A C v = absurd (no-digits m e a c A C v.1)
+by_zero op z nan s a c A C v = elim v [ ]
+by_zero op z (inf _) s a c A C v = elim v [ ]
 
 pub sqrt-zero : (x : Float) (s : Bool) (a c : ℕ) → a ≡ 0 → 0 < c → HasValue x s a c → x ≡ sqrt x
 unfolding sqrt
@@ -137,12 +139,16 @@ sqrt-of (fin true m e) a c A C v = absurd (true≢false v.0)
 sqrt-of (fin false zero e) a c A C v = absurd (no_zero e a c A v.1)
 sqrt-of (fin false (suc m) e) a c A C v =
     round_root-same 2 binary64 false (suc m * up e) (down e) a c (down_pos e) C v.1
+sqrt-of nan a c A C v = elim v [ ]
+sqrt-of (inf _) a c A C v = elim v [ ]
 
 pub sqrt_negative : (x : Float) (a c : ℕ) → 0 < a → HasValue x true a c → sqrt x ≡ nan
 unfolding sqrt
 sqrt_negative (fin true zero e) a c A v = absurd (no_zero e a c A v.1)
 sqrt_negative (fin true (suc m) e) a c A v = refl
 sqrt_negative (fin false m e) a c A v = absurd (false≢true v.0)
+sqrt_negative nan a c A v = elim v [ ]
+sqrt_negative (inf _) a c A v = elim v [ ]
 
 pub cbrt-of : (x : Float) (s : Bool) (a c : ℕ)
     → 0 < a
@@ -154,6 +160,8 @@ cbrt-of (fin t zero e) s a c A C v = absurd (no_zero e a c A v.1)
 cbrt-of (fin t (suc m) e) s a c A C v =
     round_root-same 3 binary64 t (suc m * up e) (down e) a c (down_pos e) C v.1
     ∙ ap (λ (b : Bool). round_root 3 binary64 b a c) v.0
+cbrt-of nan s a c A C v = elim v [ ]
+cbrt-of (inf _) s a c A C v = elim v [ ]
 
 -- ---- the sign goes through
 

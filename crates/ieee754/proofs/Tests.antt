@@ -1,9 +1,10 @@
 -- Two or three tests by their truth, and what holds of both values of a choice. Assumes nothing.
+use Rattle.std.specs.Prelude.{if◌then◌else◌}
 use mathlib.Core.Path.{◌≡◌, refl}
 use mathlib.Core.Bool.{Bool, true, false, not, cond, ◌&&◌, ◌||◌}
 use lib.Dec.{T}
 use lib.Ieee.Fits.{and_i, and_l, and_r}
-use Rattle.ieee754.specs.Traced.{Traced, pure, if◌then◌else◌}
+use Rattle.ieee754.specs.Traced.{Traced, pure}
 
 -- two tests of which one does not pass
 pub not-both-left : (a b : Bool) → T (not a) → T (not (a && b))

@@ -21,10 +21,6 @@ pure a = record { value = a; regular = true }
 abbrev pub ◌>>=◌ : {A B : Type 0} → Traced A → (A → Traced B) → Traced B
 ◌>>=◌ m k = record { value = (k m.value).value; regular = m.regular && (k m.value).regular }
 
-abbrev pub if◌then◌else◌ : {A : Type 0} → Bool → A → A → A
-if true then a else b = a
-if false then a else b = b
-
 -- ---- what is asked of an operation's exact result. On a NaN or an infinity, and for the square
 -- root of a negative number, there is none, and nothing is asked.
 
@@ -137,4 +133,3 @@ infixl 90 !◌ ⊝◌ √◌ ∛◌
 infixl 70 ◌⊗◌ ◌⊘◌
 infixl 60 ◌⊕◌ ◌⊖◌
 infixl 50 ◌>>=◌
-infixl 40 if◌then◌else◌

@@ -28,9 +28,9 @@ fn product_exp(p: Wide, e: u64) -> u64
 // x * y + z at finite numbers. Each factor's significand is moved up by 9 digits, so that the
 // product is over 2^(1074 + 9 + 1074 + 9).
 fn fma_finite(x: f64, y: f64, z: f64) -> f64
-    requires fact_1 { T (finite x) }
-    requires fact_2 { T (finite y) }
-    requires fact_3 { T (finite z) }
+    requires x_finite { T (finite x) }
+    requires y_finite { T (finite y) }
+    requires z_finite { T (finite z) }
     ensures { result ≡ fma x y z }
 {
     let a = unpack(x);

@@ -16,8 +16,8 @@ use ieee754_parts::wide::{product, shift_left};
 // At finite numbers. Over 2^2166 the square is a.sig * a.sig times 2^(square + 18), and z is c.sig
 // times 2^(addend + 18).
 fn fma_square_finite(x: f64, z: f64) -> f64
-    requires fact_1 { T (finite x) }
-    requires fact_2 { T (finite z) }
+    requires x_finite { T (finite x) }
+    requires z_finite { T (finite z) }
     ensures { result ≡ fma x x z }
 {
     let a = unpack(x);

@@ -2,6 +2,8 @@
 // document 01, module 1. Each public function equals a definition of specs/ for every double, NaN
 // and infinities included. The whole-number parts of the roots and of the fused multiply-add are in
 // the crates `ieee754_parts` and `ieee754_roots`.
+#![tactic(auto)]
+
 pub mod abs;
 pub mod bits;
 pub mod cbrt;

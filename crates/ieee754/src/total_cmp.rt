@@ -4,7 +4,7 @@ ghost use Rattle.ieee754.specs.TotalOrder.{total_order, total_cmp};
 
 use crate::copysign::negative;
 
-#[derive(Drop)]
+#[derive(Clone, Copy)]
 pub enum Order {
     Less,
     Equal,

@@ -19,6 +19,7 @@ use Rattle.ieee754.specs.Maximum.{max}
 use Rattle.ieee754.specs.Clamp.{clamp}
 use Rattle.ieee754.specs.TotalOrder.{total_order, total_cmp}
 use Rattle.ieee754.specs.Root.{sqrt, cbrt}
+use Rattle.std.specs.Prelude as prelude
 use Rattle.ieee754.specs.Traced as traced
 use Rattle.ieee754.specs.Traced.{Traced, add_regular, mul_regular, div_regular, fma_regular}
 use Rattle.ieee754.specs.Traced.{sqrt_regular, cbrt_regular}
@@ -271,7 +272,7 @@ pub choose : {A : Type 0} (R : A → A → Type 0) {b b' : Bool} {x x' y y' : A}
     → b ≡ b'
     → R x x'
     → R y y'
-    → R (traced.if◌then◌else◌ b x y) (traced.if◌then◌else◌ b' x' y')
+    → R (prelude.if◌then◌else◌ b x y) (prelude.if◌then◌else◌ b' x' y')
 choose R {b = true} {b' = true} e f g = f
 choose R {b = true} {b' = false} e f g = absurd (true≢false e)
 choose R {b = false} {b' = true} e f g = absurd (false≢true e)
@@ -302,7 +303,7 @@ module _ {A : Type 0} {R : A → A → Type 0} where
       → b ≡ b'
       → Both R m m'
       → Both R l l'
-      → Both R (traced.if◌then◌else◌ b m l) (traced.if◌then◌else◌ b' m' l')
+      → Both R (prelude.if◌then◌else◌ b m l) (prelude.if◌then◌else◌ b' m' l')
   if◌then◌else◌ = choose (Both R)
 
   -- a weaker relation

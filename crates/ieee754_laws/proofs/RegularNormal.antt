@@ -224,6 +224,8 @@ above-min : (x : Float) (w : ℕ)
     → 2 ^ 52 < w
     → lt min_positive x ≡ true
 unfolding lt of_bits
+above-min nan w v h = elim v [ ]
+above-min (inf _) w v h = elim v [ ]
 above-min (fin true m e) w v h = absurd (true≢false v.0)
 above-min (fin false m e) w v h =
     let more : 1 * down e < m * up e * 2 ^ 1022 =

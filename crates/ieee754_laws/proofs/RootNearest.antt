@@ -63,6 +63,8 @@ double-whole : (y : Float) (t : Bool) (b : ℕ)
     → T (fits binary64 y)
     → HasValue y t b (2 ^ 1074)
     → Whole b
+double-whole nan t b F v = elim v [ ]
+double-whole (inf _) t b F v = elim v [ ]
 double-whole (fin s zero e) t b F v = record {
   digits = 0;
   exponent = 0;

@@ -7,7 +7,7 @@ use crate::format::LEADING;
 use crate::wide::{Wide, jam_wide};
 
 // sig * 2^exp.
-#[derive(Drop)]
+#[derive(Clone, Copy)]
 pub struct Scaled {
     pub sig: u64,
     pub exp: u64,

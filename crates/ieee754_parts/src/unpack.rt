@@ -6,7 +6,7 @@ ghost use Rattle.ieee754_parts.specs.Unpacked.{IsUnpacked};
 use crate::format::{LEADING, SIGN};
 
 // The number ±sig * 2^exp / 2^1074.
-#[derive(Drop)]
+#[derive(Clone, Copy)]
 pub struct Unpacked {
     pub negative: bool,
     pub sig: u64,

@@ -7,14 +7,14 @@ ghost use Rattle.ieee754_parts.specs.Value.{value};
 use std::num::{wrapping_add_u64, wrapping_sub_u64};
 
 // hi * 2^64 + lo.
-#[derive(Drop)]
+#[derive(Clone, Copy)]
 pub struct Wide {
     pub hi: u64,
     pub lo: u64,
 }
 
 // The low word of a difference, and whether it has digits above that are lost.
-#[derive(Drop)]
+#[derive(Clone, Copy)]
 pub struct Difference {
     pub lost: bool,
     pub lo: u64,

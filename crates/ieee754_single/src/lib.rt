@@ -1,5 +1,7 @@
 // Two single operations and the third of a word, which crate p3p does not export, for bench/ieee754
 // to link and to compare with C's.
+#![tactic(auto)]
+
 ghost use Rattle.std.specs.Prelude.{◌≡◌, ◌/◌};
 ghost use Rattle.ieee754.specs.Fma as Fma;
 ghost use Rattle.ieee754.specs.Magnitude as Magnitude;

@@ -1,10 +1,10 @@
 -- From depth candidates to poses: the end of `solve_ordered` (lambdatwist.rs). Each candidate is
 -- refined, and where its depths are positive a pose is made of it and goes to the gate. The pose
 -- has its candidate's mark (document 02, §8).
-use Rattle.std.specs.Prelude.{Bool, ◌&&◌, not, List, [], ◌∷◌, take}
+use Rattle.std.specs.Prelude.{Bool, ◌&&◌, not, List, [], ◌∷◌, take, if◌then◌else◌}
 use Rattle.std.specs.Float.Ieee.{le}
 use Rattle.ieee754.specs.Literal.{plus_zero}
-use Rattle.ieee754.specs.Traced.{Traced, pure, ◌>>=◌, if◌then◌else◌}
+use Rattle.ieee754.specs.Traced.{Traced, pure, ◌>>=◌}
 use Rattle.linalg.specs.Vectors.{vec_sub, vec_mul, all_finite}
 use Rattle.linalg.specs.Matrices.{mat_vec}
 use Rattle.refinement.specs.RefineDepths.{refine_depths}

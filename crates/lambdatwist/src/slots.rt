@@ -10,7 +10,7 @@ use frames::pose::Pose;
 use p3p_common::solutions::Solutions;
 
 // What a candidate gives.
-#[derive(Drop)]
+#[derive(Clone, Copy)]
 pub enum Turn {
     // A pose, with the updates of its depths.
     Kept(Pose, u32),

@@ -29,7 +29,7 @@ use polynomial::cubic::polished_cubic_root;
 // `refusal` is 0 where there is a pose, and otherwise 1, 2 or 3, with count 0 and plus zeros in
 // every slot. `lifted` says of each pose whether the pair of eigenvalues or of depth ratios that it
 // came from was lifted (document 02, §8). Slots beyond the count hold plus zeros and false.
-#[derive(Drop)]
+#[derive(Clone, Copy)]
 pub struct Answer {
     pub refusal: u32,
     pub count: u32,

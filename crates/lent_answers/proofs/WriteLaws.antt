@@ -1,5 +1,6 @@
 -- What is held where an answer is refused and where it is not, a flag, the four slots one after
 -- another, and a plate read back. Assumes nothing.
+use Rattle.std.specs.Prelude.{if◌then◌else◌}
 use Prim.Native.Nat.{ℕ}
 use mathlib.Core.Path.{◌≡◌, refl, sym, ap}
 use mathlib.Core.Bool.{Bool, true, false, not}
@@ -8,7 +9,6 @@ use borrow.Author.Tests.{eq-eqb, ne_eqb}
 use lib.Dec.{eqb}
 use lib.ListN.{length, get_or}
 use mir.Val.{bool_byte}
-use Rattle.ieee754.specs.Traced.{if◌then◌else◌}
 use Rattle.frames.proofs.Entries.{list-of-four}
 use Rattle.linalg.specs.Matrices.{from_columns}
 use Rattle.frames.specs.Lent.{vector_at, world_at, entries}

@@ -2,9 +2,8 @@
 -- edges (01, 02, 12), nine of the inverse by columns; and a number that says whether there is an
 -- inverse. What these hold after an operation: the new plate, or what they held before where it is
 -- refused (document 01, "Questions, in order").
-use Rattle.std.specs.Prelude.{ℕ, not, List, [], ◌∷◌, eqb, Float, get_or}
+use Rattle.std.specs.Prelude.{ℕ, not, List, [], ◌∷◌, eqb, Float, get_or, if◌then◌else◌}
 use Rattle.std.specs.Float.{nan}
-use Rattle.ieee754.specs.Traced.{if◌then◌else◌}
 use Rattle.linalg.specs.Matrices.{from_columns}
 use Rattle.frames.specs.Lent.{vector_at, world_at}
 use Rattle.lent_answers.specs.Solved.{flag}

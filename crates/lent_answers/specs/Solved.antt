@@ -1,7 +1,6 @@
 -- What lent arrays hold after a solve: its answer, or what they held before where it is refused
 -- (document 01, "Questions, in order").
-use Rattle.std.specs.Prelude.{ℕ, Bool, true, false, List, [], ◌∷◌, map, ◌++◌, eqb, Float}
-use Rattle.ieee754.specs.Traced.{if◌then◌else◌}
+use Rattle.std.specs.Prelude.{ℕ, Bool, true, false, List, [], ◌∷◌, map, ◌++◌, eqb, Float, if◌then◌else◌}
 use Rattle.frames.specs.Lent.{entries}
 use Rattle.lent_answers.specs.Types.{Pose, Answer}
 

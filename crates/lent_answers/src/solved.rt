@@ -39,7 +39,9 @@ fn flags(lifted: [bool; 4]) -> [u32; 4]
     ]
 }
 
-// Writes an answer. Returns its refusal number, 0 where it was written.
+// Writes an answer. Returns its refusal number, 0 where it was written. Put into its callers: an
+// answer that is handed on is copied by memcpy, which the library is not to need.
+#[inline]
 pub fn write_answer(
     answer: Answer,
     poses: &mut [f64; 48],

@@ -5,7 +5,7 @@ ghost use Rattle.linalg.specs.Matrices.{mat_vec, mat_mul, mat_norm_squared, trac
 
 use crate::vector3::Vector3;
 
-#[derive(Drop)]
+#[derive(Clone, Copy)]
 pub struct Matrix3 {
     pub m00: f64,
     pub m01: f64,

@@ -7,7 +7,7 @@ use ieee754::abs::abs;
 use ieee754::is_finite::is_finite;
 use ieee754::sqrt::sqrt;
 
-#[derive(Drop)]
+#[derive(Clone, Copy)]
 pub struct Vector3 {
     pub x: f64,
     pub y: f64,

@@ -31,12 +31,12 @@ pub none : (l : List ℕ) (at : ℕ) → Stored l at [] at l
 none l at = record { next-at = omega arith; holds = refl }
 
 -- two runs of stores, the second from where the first ends, are one
-infixl 50 ◌and-then◌
-pub ◌and-then◌ : {l l' l'' xs ys : List ℕ} {at next end : ℕ}
+infixl 50 ◌and_then◌
+pub ◌and_then◌ : {l l' l'' xs ys : List ℕ} {at next end : ℕ}
     → Stored l at xs next l'
     → Stored l' next ys end l''
     → Stored l at (xs ++ ys) end l''
-◌and-then◌ {l} {l'} {l''} {xs} {ys} {at} {next} {end} p q = record {
+◌and_then◌ {l} {l'} {l''} {xs} {ys} {at} {next} {end} p q = record {
   next-at = simp length-append (omega (arith, p.next-at, q.next-at));
   holds =
       q.holds

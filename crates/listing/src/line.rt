@@ -60,7 +60,7 @@ pub fn put_accepted(out: &mut [u8], at: usize, number: u64, count: u32, best: u3
 
 // A slot of an answer: a pose, the updates of its depths, and whether a pair of roots that it came
 // from was lifted.
-#[derive(Drop)]
+#[derive(Clone, Copy)]
 pub struct Slot {
     pub pose: Pose,
     pub updates: u32,

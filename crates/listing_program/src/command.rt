@@ -3,10 +3,13 @@ ghost use Rattle.std.specs.Prelude.{◌≡◌};
 ghost use Rattle.listing_program.specs.Requests.{request_of, request_of_one};
 
 use crate::list;
-use libc::{STDERR_FILENO, STDIN_FILENO, STDOUT_FILENO};
+use crate::stream::Streams;
+use std::env::FillError;
+use std::io::{Read, Write};
+use std::rt::Env;
 
 // What the arguments ask for.
-#[derive(Drop)]
+#[derive(Clone, Copy)]
 pub enum Request {
     // The listing of standard input.
     Listing,
@@ -20,10 +23,10 @@ pub enum Request {
 fn requested_by(argument: &[u8]) -> Request
     ensures { result ≡ request_of_one argument.now }
 {
-    if check::same(argument, b"--help") {
+    if argument == b"--help".as_slice() {
         return Request::Help;
     }
-    if check::same(argument, b"--version") {
+    if argument == b"--version".as_slice() {
         return Request::Version;
     }
     Request::Usage
@@ -43,13 +46,13 @@ pub fn requested(words: usize, argument: &[u8]) -> Request
     requested_by(argument)
 }
 
-fn put(text: &[u8]) {
-    if !io::write_all(STDOUT_FILENO, text) {
-        os::fail(b"poses: cannot write the reply");
+fn put<R, W: Write, E: Write>(text: &[u8], streams: &mut Streams<R, W, E>) {
+    if let Err(error) = streams.output.write_all(text) {
+        failures::say(&mut streams.errors, "poses: cannot write the reply", error);
     }
 }
 
-fn put_help() {
+fn put_help<R, W: Write, E: Write>(streams: &mut Streams<R, W, E>) {
     put(
         b"usage: poses < FILE > LISTING\n\
         Reads frame records of 195 bytes each and lists the poses of every record, or the\n\
@@ -57,25 +60,41 @@ fn put_help() {
         the questions, docs/USING.md what a refusal asks of you.\n\
         A listing is whole only with its last line, `end ..` or `stop ..`. Where that is\n\
         missing, standard error says why, unless a signal ended the run.\n",
+        streams,
     );
 }
 
-// Lists standard input, or says what is asked for in its place.
-pub fn answer(request: Request) {
+// Lists the input, or says what is asked for in its place.
+pub fn answer<R: Read, W: Write, E: Write>(request: Request, streams: &mut Streams<R, W, E>) {
     match request {
-        Request::Listing => list(STDIN_FILENO),
-        Request::Help => put_help(),
-        Request::Version => put(b"poses 0.3.3\n"),
+        Request::Listing => list(streams),
+        Request::Help => put_help(streams),
+        Request::Version => put(b"poses 0.3.3\n", streams),
         Request::Usage => {
-            io::write_all(STDERR_FILENO, b"usage: poses < FILE > LISTING\n");
+            let _ = streams.errors.write_all(b"usage: poses < FILE > LISTING\n");
         }
     }
 }
 
+// Whether the program is started with a word at a place, which counts from 0, its own name's.
+fn is_given<V: Env>(env: &V, place: usize) -> bool {
+    !matches!(env.arg(place, &mut []), Err(FillError::NotPresent))
+}
+
+// The number of words that the program is started with.
+fn words<V: Env>(env: &V) -> usize {
+    for place in 0..usize::MAX {
+        if !is_given(env, place) {
+            return place;
+        }
+    }
+    usize::MAX
+}
+
 // The program. An argument that does not fit the array is none that it knows, and is taken as an
 // empty one.
-pub fn start() {
+pub fn start<V: Env, R: Read, W: Write, E: Write>(env: &V, streams: &mut Streams<R, W, E>) {
     let mut argument = [0u8; 16];
-    let length = os::arg(1, &mut argument);
-    answer(requested(os::arg_count(), &argument[..length]));
+    let length = env.arg(1, &mut argument).unwrap_or(0);
+    answer(requested(words(env), &argument[..length]), streams);
 }

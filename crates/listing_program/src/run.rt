@@ -3,12 +3,12 @@
 ghost use Rattle.std.specs.Prelude.{◌≡◌, ◌%◌, ◌≤◌, min, length, take};
 ghost use Rattle.listing_program.specs.Goes.{Writes, Reads, Steps};
 
-use crate::stream::{Filling, fill, flush};
-use libc::STDERR_FILENO;
+use crate::stream::{Filling, Streams, fill, flush};
 use listing::line::put_header;
 use listing_records::record::{Course, put_record};
+use std::io::{Read, Write};
 
-#[derive(Drop)]
+#[derive(Clone, Copy)]
 pub struct State {
     // How many bytes of the input's buffer are filled, and where in it the next record begins.
     pub filled: usize,
@@ -21,7 +21,7 @@ pub struct State {
     pub ended: bool,
 }
 
-#[derive(Drop)]
+#[derive(Clone, Copy)]
 pub enum Turn {
     More(State),
     Over,
@@ -34,10 +34,10 @@ fn least(a: usize, b: usize) -> usize
 }
 
 // Writes what waits.
-fn write_on(out: &[u8], state: State) -> Turn
+fn write_on<R, W: Write, E: Write>(streams: &mut Streams<R, W, E>, out: &[u8], state: State) -> Turn
     ensures { Writes state result }
 {
-    if !flush(out, state.at) {
+    if !flush(streams, out, state.at) {
         return Turn::Over;
     }
     Turn::More(State {
@@ -50,7 +50,13 @@ fn write_on(out: &[u8], state: State) -> Turn
 }
 
 // Reads on, from the buffer's begin where all of it has been listed. Nothing waits to be written.
-fn read_on(fd: i32, input: &mut [u8], filled: usize, next: usize, listed: u64) -> Turn
+fn read_on<R: Read, W, E: Write>(
+    streams: &mut Streams<R, W, E>,
+    input: &mut [u8],
+    filled: usize,
+    next: usize,
+    listed: u64,
+) -> Turn
     ensures reads { Reads (length input.old) filled next listed result }
     ensures input_unchanged { take filled input.new ≡ take filled input.old }
 {
@@ -63,7 +69,7 @@ fn read_on(fd: i32, input: &mut [u8], filled: usize, next: usize, listed: u64) -
             ended: false,
         });
     }
-    let filling = fill(fd, input, filled);
+    let filling = fill(streams, input, filled);
     match filling {
         Filling::Filled(n) => Turn::More(State {
             filled: n,
@@ -79,16 +85,17 @@ fn read_on(fd: i32, input: &mut [u8], filled: usize, next: usize, listed: u64) -
             listed,
             ended: true,
         }),
-        Filling::Failed => {
-            // errno is still that of the read: that the buffer was full already does not occur.
-            os::fail(b"poses: cannot read the input");
-            Turn::Over
-        }
+        Filling::Failed => Turn::Over,
     }
 }
 
 // One turn: what stands next in the input is listed, and the run goes on as that asks for.
-fn step(fd: i32, input: &mut [u8], out: &mut [u8], state: State) -> Turn
+fn step<R: Read, W: Write, E: Write>(
+    streams: &mut Streams<R, W, E>,
+    input: &mut [u8],
+    out: &mut [u8],
+    state: State,
+) -> Turn
     ensures steps { Steps input.old out.old out.new state result }
     ensures input_unchanged { take state.filled input.new ≡ take state.filled input.old }
 {
@@ -109,12 +116,12 @@ fn step(fd: i32, input: &mut [u8], out: &mut [u8], state: State) -> Turn
     let at = turn.0;
     let course = turn.1;
     match course {
-        Course::Write => write_on(out, state),
+        Course::Write => write_on(streams, out, state),
         Course::Read => {
-            if !flush(out, at) {
+            if !flush(streams, out, at) {
                 return Turn::Over;
             }
-            read_on(fd, input, filled, state.next, listed)
+            read_on(streams, input, filled, state.next, listed)
         }
         Course::Next(next) => Turn::More(State {
             filled,
@@ -124,20 +131,24 @@ fn step(fd: i32, input: &mut [u8], out: &mut [u8], state: State) -> Turn
             ended,
         }),
         Course::Closed => {
-            flush(out, at);
+            flush(streams, out, at);
             Turn::Over
         }
     }
 }
 
-fn used_up() {
-    io::write_all(STDERR_FILENO, b"poses: the run has used up its turns\n");
+fn used_up<E: Write>(errors: &mut E) {
+    let _ = errors.write_all(b"poses: the run has used up its turns\n");
 }
 
-// A proved loop has to end, and nothing says that the input does: turns are counted down from a
+// A proved loop has to end, and nothing says that the input does: the turns are counted, up to a
 // number that no run uses up. A record never lies across the end of the input's buffer, and a
 // frame's lines always fit the listing's.
-pub(crate) fn run(fd: i32, input: &mut [u8], out: &mut [u8])
+pub(crate) fn run<R: Read, W: Write, E: Write>(
+    streams: &mut Streams<R, W, E>,
+    input: &mut [u8],
+    out: &mut [u8],
+)
     requires { (length input.old % 195 ≡ 0) × (1600 ≤ length out.old) }
 {
     let at = put_header(out, 0);
@@ -148,13 +159,11 @@ pub(crate) fn run(fd: i32, input: &mut [u8], out: &mut [u8])
         listed: 0,
         ended: false,
     };
-    let mut turns: u64 = 0x7fff_ffff_ffff_ffff;
-    while 0 < turns {
-        turns -= 1;
-        let Turn::More(s) = step(fd, input, out, state) else {
+    for _ in 0..u64::MAX {
+        let Turn::More(s) = step(streams, input, out, state) else {
             return;
         };
         state = s;
     }
-    used_up();
+    used_up(&mut streams.errors);
 }

@@ -1,11 +1,20 @@
-// The input, by its file descriptor, and standard output, in parts.
+// The input and the listing's output, in parts.
 ghost use Rattle.std.specs.Prelude.{◌≡◌, ◌<◌, false, length, take};
 ghost use Rattle.listing_program.specs.Goes.{Fills};
 
-use libc::{EINTR, STDOUT_FILENO};
+use std::io;
+use std::io::{ErrorKind, Read, Write};
+
+// What a run reads, what it writes, and what it says on standard error.
+#[derive(Drop)]
+pub struct Streams<R, W, E> {
+    pub input: R,
+    pub output: W,
+    pub errors: E,
+}
 
 // What reading once leads to.
-#[derive(Drop)]
+#[derive(Clone, Copy)]
 pub enum Filling {
     // So many bytes of the buffer are filled. A read that a signal interrupts fills none.
     Filled(usize),
@@ -14,42 +23,61 @@ pub enum Filling {
     Failed,
 }
 
-// Reads once into `input`, of which `filled` bytes are filled already.
-pub(crate) fn fill(fd: i32, input: &mut [u8], filled: usize) -> Filling
+// Reads once into `input`, of which `filled` bytes are filled already. Where that fails, standard
+// error says why; a buffer that is full already does not occur.
+pub(crate) fn fill<R: Read, W, E: Write>(
+    streams: &mut Streams<R, W, E>,
+    input: &mut [u8],
+    filled: usize,
+) -> Filling
     ensures fills { Fills (length input.old) filled result }
     ensures input_unchanged { take filled input.new ≡ take filled input.old }
 {
     if input.len() <= filled {
-        return Filling::Failed;
+        return failed(&mut streams.errors, io::Error::from(ErrorKind::StorageFull));
     }
-    let part = &mut input[filled..];
-    let got = libc::read(fd, part);
-    if got == 0 {
-        return Filling::End;
-    }
-    if got < 0 {
-        if os::errno() == EINTR {
-            return Filling::Filled(filled);
+    match streams.input.read(&mut input[filled..]) {
+        Ok(0) => Filling::End,
+        Ok(n) => Filling::Filled(filled + n),
+        Err(error) => {
+            if error.kind() == ErrorKind::Interrupted {
+                return Filling::Filled(filled);
+            }
+            failed(&mut streams.errors, error)
         }
-        return Filling::Failed;
     }
-    Filling::Filled(filled + io::count(got, part))
+}
+
+fn failed<E: Write>(errors: &mut E, error: io::Error) -> Filling
+    ensures { result ≡ Filling.Failed }
+{
+    failures::say(errors, "poses: cannot read the input", error);
+    Filling::Failed
 }
 
 // Writes the first `n` bytes of `out`, and answers whether all were written. Where they were not,
-// standard error says why; an `n` beyond the end, of which errno knows nothing, does not occur. A
-// write that a signal interrupts counts as one that failed, since `write_all` does not say how much
-// it wrote before. The program handles no signal, so none does.
-pub(crate) fn flush(out: &[u8], n: usize) -> bool
+// standard error says why; an `n` beyond the end does not occur.
+pub(crate) fn flush<R, W: Write, E: Write>(
+    streams: &mut Streams<R, W, E>,
+    out: &[u8],
+    n: usize,
+) -> bool
     ensures { length out.now < n → result ≡ false }
 {
     let written = if n <= out.len() {
-        io::write_all(STDOUT_FILENO, &out[..n])
+        streams.output.write_all(&out[..n])
     } else {
-        false
+        Err(io::Error::from(ErrorKind::InvalidInput))
     };
-    if !written {
-        os::fail(b"poses: cannot write the listing");
+    match written {
+        Ok(()) => true,
+        Err(error) => {
+            failures::say(
+                &mut streams.errors,
+                "poses: cannot write the listing",
+                error,
+            );
+            false
+        }
     }
-    written
 }

@@ -10,7 +10,7 @@ use Rattle.frames.specs.Poses.{zero_pose}
 use Rattle.listing_records.specs.Types.{Pose}
 use Rattle.listing.specs.Bytes.{Stored}
 use Rattle.listing.specs.Lines.{Written, pose_line}
-use Rattle.listing.proofs.Storing.{none, ◌and-then◌, stored-as}
+use Rattle.listing.proofs.Storing.{none, ◌and_then◌, stored-as}
 use Rattle.listing.proofs.Writing.{stored}
 use Rattle.listing_records.specs.FrameLines.{pose_lines}
 

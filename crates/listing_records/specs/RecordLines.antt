@@ -2,8 +2,7 @@
 -- order" and "Frame records and their listing": refusals 7 and 9 stop the run, and the rest go on
 -- to the next record. Of an input that is read in parts, what is not there may still come, so the
 -- input's end and 9 wait until it has ended.
-use Rattle.std.specs.Prelude.{ℕ, Bool, false, not, ◌&&◌, List, [], eqb}
-use Rattle.ieee754.specs.Traced.{if◌then◌else◌}
+use Rattle.std.specs.Prelude.{ℕ, Bool, false, not, ◌&&◌, List, [], eqb, if◌then◌else◌}
 use Rattle.listing.specs.Lines.{refused_line, stop_line, end_line}
 use Rattle.listing_records.specs.FrameLines.{frame_lines}
 use Rattle.listing_records.specs.Types.{End, Stop, Skip, Accepted, Record, Course, Write}

@@ -12,7 +12,7 @@ use listing::line::{left, put_end, put_refused, put_stop};
 use records::record::{Record, read};
 
 // How the run goes on.
-#[derive(Drop)]
+#[derive(Clone, Copy)]
 pub enum Course {
     // What waits is written: there is no room for a record's lines, and nothing was put.
     Write,
@@ -25,7 +25,7 @@ pub enum Course {
 }
 
 // The position after what was put, and how the run goes on.
-#[derive(Drop)]
+#[derive(Clone, Copy)]
 pub struct Listed(pub usize, pub Course);
 
 // Whether more may come for a stop: 9 is asked only where the input has ended.

@@ -44,7 +44,8 @@ module _ {k : ℤ} where
       → AtConditioned k (best_of b cs) (best_of b' cs')
   unfolding best_of
   best_of-scales best Forall₂.nil = best
-  best_of-scales best (Forall₂.cons next rest) = best_of-scales (better-scales best next) rest
+  best_of-scales {b = b} {b' = b'} best (Forall₂.cons {a = a} {b = a'} next rest) =
+      best_of-scales {b = better b a} {b' = better b' a'} (better-scales best next) rest
 
   pub best_permutation-scales : {w w' : World} (bearings : Bearings)
       → AtWorld k w w'

@@ -1,13 +1,13 @@
 -- `leading_cubic_condition` of lambdatwist.rs: how large the leading coefficient of the cubic is
--- beside the largest. The Rust computes s01, s12, s20 and then triple; `squared_sines` has the order
--- of `solve_ordered`, triple first.
-use Rattle.std.specs.Prelude.{not, ◌||◌, Float}
+-- beside the largest. The Rust computes s01, s12, s20 and then triple; `squared_sines` has the
+-- order of `solve_ordered`, triple first.
+use Rattle.std.specs.Prelude.{not, ◌||◌, Float, if◌then◌else◌}
 use Rattle.std.specs.Float.Ieee.{eq}
 use Rattle.std.specs.Float.Ieee.Scale.{finite}
 use Rattle.ieee754.specs.Literal.{plus_zero}
 use Rattle.ieee754.specs.Magnitude.{abs}
 use Rattle.ieee754.specs.Maximum.{max}
-use Rattle.ieee754.specs.Traced.{Traced, pure, ◌>>=◌, if◌then◌else◌, ◌⊘◌, !◌}
+use Rattle.ieee754.specs.Traced.{Traced, pure, ◌>>=◌, ◌⊘◌, !◌}
 use Rattle.orderings.specs.Edges.{edge_vectors, squared_edges}
 use Rattle.orderings.specs.Angles.{cosines, squared_sines}
 use Rattle.orderings.specs.Cubic.{cubic_coefficients}

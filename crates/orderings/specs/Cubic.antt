@@ -1,13 +1,13 @@
 -- The coefficients of the cubic whose root gives the singular matrix (`solve_ordered` and
 -- `leading_cubic_condition` of lambdatwist.rs), and the test by which an ordering of the points is
 -- unusable: `solve_ordered`, up to the retry, and document 01, question 2.
-use Rattle.std.specs.Prelude.{Bool, true, not, Float}
+use Rattle.std.specs.Prelude.{Bool, true, not, Float, if◌then◌else◌}
 use Rattle.std.specs.Float.Ieee.{le}
 use Rattle.std.specs.Float.Ieee.Scale.{finite}
 use Rattle.ieee754.specs.Literal.{two, sixty_four, epsilon}
 use Rattle.ieee754.specs.Magnitude.{abs}
 use Rattle.ieee754.specs.Maximum.{max}
-use Rattle.ieee754.specs.Traced.{Traced, pure, ◌>>=◌, if◌then◌else◌, ◌⊗◌, ◌⊕◌, ◌⊖◌, !◌}
+use Rattle.ieee754.specs.Traced.{Traced, pure, ◌>>=◌, ◌⊗◌, ◌⊕◌, ◌⊖◌, !◌}
 use Rattle.orderings.specs.Types.{SquaredEdges, SquaredSines, Coefficients}
 
 unfoldable pub cubic_coefficients : SquaredEdges → SquaredSines → Traced Coefficients

@@ -1,9 +1,9 @@
 -- The choice of `solve_best_conditioned_permutation` (lambdatwist.rs): of the five other orderings
 -- of the points, the one whose leading coefficient is the largest beside the others. A later one
 -- replaces the best only if its condition is greater, so a NaN in the first stays.
-use Rattle.std.specs.Prelude.{List, [], ◌∷◌}
+use Rattle.std.specs.Prelude.{List, [], ◌∷◌, if◌then◌else◌}
 use Rattle.std.specs.Float.Ieee.{lt}
-use Rattle.ieee754.specs.Traced.{Traced, pure, ◌>>=◌, if◌then◌else◌}
+use Rattle.ieee754.specs.Traced.{Traced, pure, ◌>>=◌}
 use Rattle.frames.specs.Points.{points, rays}
 use Rattle.orderings.specs.Condition.{leading_cubic_condition}
 use Rattle.orderings.specs.Types.{Vector3, P3pInput, Conditioned}

@@ -10,7 +10,7 @@ use ieee754::clamp::clamp;
 use linalg::vector3::Vector3;
 
 // s20, s12 and s01 are squared sines.
-#[derive(Drop)]
+#[derive(Clone, Copy)]
 pub struct SquaredSines {
     pub triple: f64,
     pub s20: f64,
@@ -18,7 +18,7 @@ pub struct SquaredSines {
     pub s01: f64,
 }
 
-#[derive(Drop)]
+#[derive(Clone, Copy)]
 pub struct Factors {
     pub b01: f64,
     pub b02: f64,

@@ -7,7 +7,7 @@ use linalg::matrix3::Matrix3;
 use linalg::vector3::Vector3;
 use p3p_common::world_basis_inverse::{Basis, world_basis_inverse};
 
-#[derive(Drop)]
+#[derive(Clone, Copy)]
 pub enum Source {
     // It is to be made of these edges.
     Made(Vector3, Vector3),

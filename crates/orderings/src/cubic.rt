@@ -11,7 +11,7 @@ use ieee754::is_finite::is_finite;
 use ieee754::literal::EPSILON;
 use ieee754::max::max;
 
-#[derive(Drop)]
+#[derive(Clone, Copy)]
 pub struct Coefficients {
     pub cubic3: f64,
     pub cubic2: f64,

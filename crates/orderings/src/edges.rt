@@ -7,7 +7,7 @@ use frames::squared_edges::SquaredEdges;
 use frames::world::World;
 use linalg::vector3::Vector3;
 
-#[derive(Drop)]
+#[derive(Clone, Copy)]
 pub struct EdgeVectors {
     pub d01: Vector3,
     pub d02: Vector3,

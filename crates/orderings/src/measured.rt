@@ -15,7 +15,7 @@ use linalg::vector3::Vector3;
 
 // The first point, where the inverse basis comes from, the squared edges, the bearings, their
 // cosines and the factors of these.
-#[derive(Drop)]
+#[derive(Clone, Copy)]
 pub struct Measured {
     pub p0: Vector3,
     pub source: Source,

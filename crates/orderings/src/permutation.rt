@@ -10,7 +10,7 @@ use linalg::vector3::Vector3;
 use p3p_common::input::P3pInput;
 
 // An ordering of the points and bearings, with its condition.
-#[derive(Drop)]
+#[derive(Clone, Copy)]
 pub struct Conditioned {
     pub condition: f64,
     pub world: World,

@@ -3,15 +3,12 @@
 -- that a cubic's answer is no pair (`no-cubic-pair`). Assumes nothing.
 use Prim.Native.Nat.{ℕ}
 use mathlib.Core.Path.{◌≡◌, refl, subst}
-use mathlib.Core.List.{List, [], ◌∷◌}
+use mathlib.Core.List.{List, []}
 use native.Mathlib.Omega.{arith}
 use lib.Ieee.{Float}
 use lib.ListN.{length}
-use types.Run.{OneOf, miss}
-use denote.Enum.Declared.{tag_of}
 use Rattle.polynomial.specs.Answer.{number, values}
 use Rattle.polynomial.specs.declared.Roots.TheVariants.{Two, Double, Lifted, One}
-use Rattle.polynomial.specs.contracts.Roots.{the_type}
 use Rattle.p3p.specs.Types.{Roots, Refused}
 use Rattle.p3p.specs.RootsLent.{roots_after, kind_after}
 use Rattle.lent_answers.proofs.WriteLaws.{when-refused}
@@ -38,11 +35,12 @@ module _ {answer : Roots} {k : ℕ} (count : number answer ≡ 0 → length (val
 
 -- an answer of a cubic, which has one root where it is not refused, is no pair
 pub no-cubic-pair : (r : Roots)
-    → OneOf (0 ∷ 1 ∷ 2 ∷ []) (tag_of the_type r)
+    → ((x : Float) → r ≡ One x → ⊥)
+    → ((n : ℕ) → r ≡ Refused n → ⊥)
     → (number r ≡ 0 → length (values r) ≡ 1)
     → ⊥
-no-cubic-pair (Two x y) h one = let e = one refl in omega (arith, e)
-no-cubic-pair (Double x) h one = let e = one refl in omega (arith, e)
-no-cubic-pair (Lifted x) h one = let e = one refl in omega (arith, e)
-no-cubic-pair (One x) h one = miss (0 ∷ 1 ∷ 2 ∷ []) 3 tt h
-no-cubic-pair (Refused n) h one = miss (0 ∷ 1 ∷ 2 ∷ []) 4 tt h
+no-cubic-pair (Two x y) root refusal one = let e = one refl in omega (arith, e)
+no-cubic-pair (Double x) root refusal one = let e = one refl in omega (arith, e)
+no-cubic-pair (Lifted x) root refusal one = let e = one refl in omega (arith, e)
+no-cubic-pair (One x) root refusal one = root x refl
+no-cubic-pair (Refused n) root refusal one = refusal n refl

@@ -1,5 +1,7 @@
 // The functions of this repository for C and Rust to link (`rt staticlib p3p`), each under a plain
 // name with the prefix p3p_. include/p3p.h declares them.
+#![tactic(auto)]
+
 pub mod about_first;
 pub mod choose;
 pub mod plate;

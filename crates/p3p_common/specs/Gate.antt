@@ -1,8 +1,8 @@
 -- What becomes of a pose recovered from edges and positive depths: push_pose_with_cheirality of
 -- pose/p3p/common.rs where `edge_basis_with_positive_depths` holds, with the test of
 -- push_valid_rotation.
-use Rattle.std.specs.Prelude.{not}
-use Rattle.ieee754.specs.Traced.{Traced, pure, ◌>>=◌, if◌then◌else◌}
+use Rattle.std.specs.Prelude.{not, if◌then◌else◌}
+use Rattle.ieee754.specs.Traced.{Traced, pure, ◌>>=◌}
 use Rattle.linalg.specs.Vectors.{all_finite, vec_sub}
 use Rattle.linalg.specs.Matrices.{mat_vec}
 use Rattle.frames.specs.Poses.{camera_point}

@@ -1,10 +1,10 @@
 -- project_to_rotation of pose/p3p/common.rs: modified Gram-Schmidt on the first two columns, their
 -- cross product for the third. The Rust writes `f64::EPSILON.sqrt()` in both tests; here it is
 -- computed once.
-use Rattle.std.specs.Prelude.{not}
+use Rattle.std.specs.Prelude.{not, if◌then◌else◌}
 use Rattle.std.specs.Float.Ieee.{le}
 use Rattle.ieee754.specs.Literal.{epsilon}
-use Rattle.ieee754.specs.Traced.{Traced, pure, ◌>>=◌, if◌then◌else◌, !◌, √◌}
+use Rattle.ieee754.specs.Traced.{Traced, pure, ◌>>=◌, !◌, √◌}
 use Rattle.linalg.specs.Vectors.{dot, norm, cross, vec_sub, vec_mul, vec_div}
 use Rattle.linalg.specs.Matrices.{column0, column1, from_columns, mat_finite}
 use Rattle.p3p_common.specs.Types.{Matrix3, Projection, Rotation, Refused}

@@ -1,7 +1,7 @@
 -- projected_pose_fits_minimal_sample of pose/p3p/common.rs: `all` ends at the first observation
 -- that does not fit, and the rest are not reached.
-use Rattle.std.specs.Prelude.{Bool, false, not}
-use Rattle.ieee754.specs.Traced.{Traced, pure, ◌>>=◌, if◌then◌else◌}
+use Rattle.std.specs.Prelude.{Bool, false, not, if◌then◌else◌}
+use Rattle.ieee754.specs.Traced.{Traced, pure, ◌>>=◌}
 use Rattle.frames.specs.Poses.{camera_point}
 use Rattle.p3p_common.specs.Types.{Vector3, Pose, P3pInput}
 use Rattle.p3p_common.specs.RayFits.{ray_fits}

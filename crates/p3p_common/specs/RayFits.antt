@@ -1,10 +1,10 @@
 -- ray_fits of pose/p3p/common.rs: a camera point lies in front, within 2 ^ -20 of its bearing's
 -- direction.
-use Rattle.std.specs.Prelude.{Bool, false, ◌&&◌}
+use Rattle.std.specs.Prelude.{Bool, false, ◌&&◌, if◌then◌else◌}
 use Rattle.std.specs.Float.Ieee.{lt, le}
 use Rattle.std.specs.Float.Ieee.Scale.{finite}
 use Rattle.ieee754.specs.Literal.{plus_zero}
-use Rattle.ieee754.specs.Traced.{Traced, pure, ◌>>=◌, if◌then◌else◌, ◌⊗◌, !◌}
+use Rattle.ieee754.specs.Traced.{Traced, pure, ◌>>=◌, ◌⊗◌, !◌}
 use Rattle.linalg.specs.Vectors.{dot, norm_squared, cross}
 use Rattle.p3p_common.specs.Types.{Vector3}
 use Rattle.p3p_common.specs.Literal.{projected_ray_tolerance}

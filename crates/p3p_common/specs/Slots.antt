@@ -1,8 +1,7 @@
 -- SolverP3pSolutions of pose/p3p/common.rs, an ArrayVec of at most four poses: four slots and a
 -- count, the updates that each pose's depths took, and whether a pair of roots that it came from
 -- was lifted (document 02, §8). Slots beyond the count hold plus zeros, 0, and no mark.
-use Rattle.std.specs.Prelude.{ℕ, ◌+◌, Bool, false, [], ◌∷◌, ltb, set}
-use Rattle.ieee754.specs.Traced.{if◌then◌else◌}
+use Rattle.std.specs.Prelude.{ℕ, ◌+◌, Bool, false, [], ◌∷◌, ltb, set, if◌then◌else◌}
 use Rattle.frames.specs.Poses.{zero_pose}
 use Rattle.p3p_common.specs.Types.{Pose, Solutions}
 

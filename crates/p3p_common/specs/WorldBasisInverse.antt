@@ -1,11 +1,11 @@
 -- world_basis_inverse of pose/p3p/common.rs: the inverse of the matrix of two edges and their cross
 -- product, by its rows, or nothing where the edges are near to parallel.
-use Rattle.std.specs.Prelude.{Bool, true, not, Float}
+use Rattle.std.specs.Prelude.{Bool, true, not, Float, if◌then◌else◌}
 use Rattle.std.specs.Float.Ieee.{le}
 use Rattle.std.specs.Float.Ieee.Scale.{finite}
 use Rattle.ieee754.specs.Literal.{one, sixty_four, epsilon}
 use Rattle.ieee754.specs.Maximum.{max}
-use Rattle.ieee754.specs.Traced.{Traced, pure, ◌>>=◌, if◌then◌else◌, ◌⊗◌, ◌⊘◌, !◌}
+use Rattle.ieee754.specs.Traced.{Traced, pure, ◌>>=◌, ◌⊗◌, ◌⊘◌, !◌}
 use Rattle.linalg.specs.Vectors.{norm_squared, cross, vec_mul}
 use Rattle.linalg.specs.Matrices.{from_rows}
 use Rattle.p3p_common.specs.Types.{Vector3, Matrix3, Basis, Inverse, Singular}

@@ -12,7 +12,7 @@ use frames::pose::Pose;
 use linalg::matrix3::Matrix3;
 use linalg::vector3::Vector3;
 
-#[derive(Drop)]
+#[derive(Clone, Copy)]
 pub enum Gated {
     // As it came.
     Passed(Pose),

@@ -5,7 +5,7 @@ ghost use Rattle.p3p_common.specs.Input.{input_finite};
 use frames::bearings::Bearings;
 use frames::world::World;
 
-#[derive(Drop)]
+#[derive(Clone, Copy)]
 pub struct P3pInput {
     pub world: World,
     pub bearings: Bearings,

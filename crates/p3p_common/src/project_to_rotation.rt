@@ -7,7 +7,7 @@ use ieee754::literal::EPSILON;
 use ieee754::sqrt::sqrt;
 use linalg::matrix3::Matrix3;
 
-#[derive(Drop)]
+#[derive(Clone, Copy)]
 pub enum Projection {
     Rotation(Matrix3),
     Refused,

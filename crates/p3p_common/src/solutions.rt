@@ -5,7 +5,7 @@ ghost use Rattle.p3p_common.specs.Slots.{empty, push};
 
 use frames::pose::Pose;
 
-#[derive(Drop)]
+#[derive(Clone, Copy)]
 pub struct Solutions {
     pub count: usize,
     pub poses: [Pose; 4],

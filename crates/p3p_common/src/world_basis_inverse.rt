@@ -9,7 +9,7 @@ use ieee754::max::max;
 use linalg::matrix3::Matrix3;
 use linalg::vector3::Vector3;
 
-#[derive(Drop)]
+#[derive(Clone, Copy)]
 pub enum Basis {
     Inverse(Matrix3),
     Singular,

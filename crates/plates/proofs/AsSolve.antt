@@ -1,11 +1,12 @@
 -- A solve with a plate that is worked out from its points is the solve of demand 2 on them, every
 -- refusal included: `plate-solves`. Assumes nothing.
+use Rattle.std.specs.Prelude.{if◌then◌else◌}
 use Prim.Native.Nat.{ℕ}
 use mathlib.Core.Path.{◌≡◌, refl, ap, sym, subst, ◌∙◌}
 use mathlib.Core.Bool.{Bool, true, false, not}
 use lib.Ieee.{Float, le, binary64, mul}
 use Rattle.ieee754.specs.Literal.{sixty_four, epsilon}
-use Rattle.ieee754.specs.Traced.{Traced, pure, ◌>>=◌, if◌then◌else◌}
+use Rattle.ieee754.specs.Traced.{Traced, pure, ◌>>=◌}
 use Rattle.p3p_common.specs.Input.{input_finite}
 use Rattle.p3p_common.specs.WorldBasisInverse.{world_basis_inverse}
 use Rattle.orderings.specs.Edges.{edge_vectors, squared_edges}

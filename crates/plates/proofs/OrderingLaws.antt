@@ -1,11 +1,11 @@
 -- The best of the other orderings by stored edges is that of `best_permutation` where they are the
 -- squared edges of the points: an edge reversed is as long. Assumes nothing.
+use Rattle.std.specs.Prelude.{if◌then◌else◌}
 use Prim.Native.Nat.{ℕ}
 use mathlib.Core.Path.{◌≡◌, refl, ap, ap₂, subst⁻¹}
 use mathlib.Core.Bool.{Bool, true, false}
 use mathlib.Core.List.{List, Forall₂}
 use lib.Ieee.{Float, lt}
-use Rattle.ieee754.specs.Traced.{if◌then◌else◌}
 use Rattle.linalg.specs.Vectors.{vec_sub, norm_squared}
 use Rattle.linalg.proofs.Reversed.{reversed}
 use Rattle.frames.specs.Points.{points}
@@ -86,7 +86,8 @@ module _ (input : P3pInput) where
       → SameOrdering (permutation.best_of b cs) (best_of o os)
   unfolding permutation.best_of best_of
   best_of-same best Forall₂.nil = best
-  best_of-same best (Forall₂.cons next rest) = best_of-same (better-same best next) rest
+  best_of-same {b = b} {o = o} best (Forall₂.cons {a = a} {b = a'} next rest) =
+      best_of-same {b = permutation.better b a} {o = better o a'} (better-same best next) rest
 
   pub best-same :
       SameOrdering (permutation.best_permutation input).value

@@ -1,7 +1,6 @@
 -- Exchanging two targets: document 02, §4, "a target number above 2 is 11". A target may be
 -- exchanged with itself: its plate is worked out anew.
-use Rattle.std.specs.Prelude.{ℕ, ◌||◌, ltb}
-use Rattle.ieee754.specs.Traced.{if◌then◌else◌}
+use Rattle.std.specs.Prelude.{ℕ, ◌||◌, ltb, if◌then◌else◌}
 use Rattle.plates.specs.Target.{target, with_target}
 use Rattle.plates.specs.Outcome.{done, refused}
 use Rattle.plates.specs.Types.{World, Plate, Outcome}

@@ -1,8 +1,8 @@
 -- The choice of `solve_best_conditioned_permutation` (lambdatwist.rs) by the squared edges that a
 -- plate has stored: document 02, §4, "the stored edges serve every ordering".
-use Rattle.std.specs.Prelude.{ℕ, List, [], ◌∷◌}
+use Rattle.std.specs.Prelude.{ℕ, List, [], ◌∷◌, if◌then◌else◌}
 use Rattle.std.specs.Float.Ieee.{lt}
-use Rattle.ieee754.specs.Traced.{Traced, pure, ◌>>=◌, if◌then◌else◌}
+use Rattle.ieee754.specs.Traced.{Traced, pure, ◌>>=◌}
 use Rattle.frames.specs.Points.{rays}
 use Rattle.orderings.specs.Condition.{condition_of_edges}
 use Rattle.plates.specs.Target.{ray, opposite}

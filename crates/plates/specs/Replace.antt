@@ -1,8 +1,7 @@
 -- Replacing one target: document 02, §4, "a nonfinite given point is 1, a target number above 2 is
 -- 11", "asked in that order", and "a refused operation gives back the old plate". The plate's other
 -- points are not looked at.
-use Rattle.std.specs.Prelude.{ℕ, not, ltb}
-use Rattle.ieee754.specs.Traced.{if◌then◌else◌}
+use Rattle.std.specs.Prelude.{ℕ, not, ltb, if◌then◌else◌}
 use Rattle.linalg.specs.Vectors.{all_finite}
 use Rattle.plates.specs.Target.{with_target}
 use Rattle.plates.specs.Outcome.{done, refused}

@@ -2,10 +2,10 @@
 -- stored edges serve every ordering, and the stored inverse, or its lack, only the given one
 -- (others make theirs from the points)". It is `solve` of lambdatwist's specs/Solve otherwise, with
 -- its one retry written out.
-use Rattle.std.specs.Prelude.{ℕ, Bool, not}
+use Rattle.std.specs.Prelude.{ℕ, Bool, not, if◌then◌else◌}
 use Rattle.std.specs.Float.Ieee.{le}
 use Rattle.ieee754.specs.Literal.{sixty_four, epsilon}
-use Rattle.ieee754.specs.Traced.{Traced, pure, ◌>>=◌, if◌then◌else◌, ◌⊗◌, !◌}
+use Rattle.ieee754.specs.Traced.{Traced, pure, ◌>>=◌, ◌⊗◌, !◌}
 use Rattle.linalg.specs.Vectors.{vec_sub}
 use Rattle.p3p_common.specs.Input.{input_finite}
 use Rattle.orderings.specs.Cubic.{is_unusable}

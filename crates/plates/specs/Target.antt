@@ -1,7 +1,6 @@
 -- Targets, and what belongs to them, by number: 0, 1 and 2. The operations refuse other numbers
 -- first; here they count as 2.
-use Rattle.std.specs.Prelude.{ℕ, eqb, Float}
-use Rattle.ieee754.specs.Traced.{if◌then◌else◌}
+use Rattle.std.specs.Prelude.{ℕ, eqb, Float, if◌then◌else◌}
 use Rattle.frames.specs.Points.{points}
 use Rattle.plates.specs.Types.{Vector3, World, Bearings, SquaredEdges}
 

@@ -2,8 +2,7 @@
 -- that is nonfinite, or whose exact scaled value has magnitude 2^1024 or more, or a nonzero one
 -- below 2^-1022, is 13, asked in that order". `scalable` is the test of 13, the other way round,
 -- and the product is exact.
-use Rattle.std.specs.Prelude.{Bool, not, ◌&&◌, ℤ}
-use Rattle.ieee754.specs.Traced.{if◌then◌else◌}
+use Rattle.std.specs.Prelude.{Bool, not, ◌&&◌, ℤ, if◌then◌else◌}
 use Rattle.ieee754.specs.Scaling.{scale}
 use Rattle.scaleb.specs.Scalable.{in_reach, scalable}
 use Rattle.linalg.specs.Vectors.{vector}

@@ -1,5 +1,7 @@
 // A plate that knows its edges: document 02, §4. Three world points with what a solve works out of
 // them alone, the operations that keep it so, and the solve with it.
+#![tactic(auto)]
+
 pub mod exchange;
 pub mod make;
 pub mod ordering;

@@ -10,7 +10,7 @@ use frames::squared_edges::SquaredEdges;
 use orderings::condition::condition_of_edges;
 
 // The numbers of the targets that come first, second and third, and the condition of that ordering.
-#[derive(Drop)]
+#[derive(Clone, Copy)]
 pub struct Ordering {
     pub condition: f64,
     pub i: u32,

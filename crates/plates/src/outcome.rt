@@ -6,7 +6,7 @@ use crate::plate::{Plate, plate_of};
 use frames::world::World;
 
 // `refusal` is 0 where the operation was done; otherwise its number, and the plate is the old one.
-#[derive(Drop)]
+#[derive(Clone, Copy)]
 pub struct Outcome {
     pub refusal: u32,
     pub plate: Plate,

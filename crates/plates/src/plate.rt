@@ -12,7 +12,7 @@ use p3p_common::world_basis_inverse::{Basis, world_basis_inverse};
 // The squared edges of the points, and the inverse basis of the given ordering: plus zeros where it
 // is not `invertible`. Those that `plate_of` makes hold what their points give; a plate made
 // otherwise may hold anything.
-#[derive(Drop)]
+#[derive(Clone, Copy)]
 pub struct Plate {
     pub world: World,
     pub edges: SquaredEdges,

@@ -31,8 +31,8 @@ fn world_scalable(world: World, k: i32) -> bool
 
 // 2^k times a point.
 fn scaled_point(p: Vector3, k: i32) -> Vector3
-    requires t { T (in_reach k) }
-    requires t_2 { T (TimesPower.point_scalable k p) }
+    requires in_reach { T (in_reach k) }
+    requires scalable { T (TimesPower.point_scalable k p) }
     ensures { result ≡ TimesPower.scaled_point k p }
 {
     let x = scaleb(p.x, k);
@@ -42,8 +42,8 @@ fn scaled_point(p: Vector3, k: i32) -> Vector3
 }
 
 fn scaled_world(world: World, k: i32) -> World
-    requires t { T (in_reach k) }
-    requires t_2 { T (TimesPower.world_scalable k world) }
+    requires in_reach { T (in_reach k) }
+    requires scalable { T (TimesPower.world_scalable k world) }
     ensures { result ≡ TimesPower.scaled_world k world }
 {
     let p0 = scaled_point(world.p0, k);

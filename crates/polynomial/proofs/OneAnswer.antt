@@ -2,6 +2,7 @@
 -- answers with two roots of their kind, 4 or 5 (`quadratic-answer`), the cubic with one root, 4 or
 -- 6 (`cubic-answer`). So a quadratic that is not refused has two roots (`quadratic-two`), and such
 -- a cubic has one (`cubic-one`). Assumes nothing.
+use Rattle.std.specs.Prelude.{if◌then◌else◌}
 use mathlib.Core.Path.{◌≡◌, refl, ap, subst}
 use mathlib.Core.Bool.{Bool, true, false, not, ◌&&◌, ◌||◌}
 use Prim.Native.Nat.{ℕ}
@@ -14,7 +15,7 @@ use lib.ListN.{length}
 use mir.Facts.{T_not-not}
 use Rattle.ieee754.specs.Literal.{plus_zero}
 use Rattle.ieee754.specs.Maximum.{max}
-use Rattle.ieee754.specs.Traced.{Traced, pure, if◌then◌else◌}
+use Rattle.ieee754.specs.Traced.{Traced, pure}
 use Rattle.ieee754.proofs.Tests.{either_way, not-both-left, not-both-right}
 use Rattle.cubic_parts.specs.CubicScale.{all_zero, cubic_variable_scale, normalised}
 use Rattle.cubic_parts.specs.CubicStart.{start_root}

@@ -1,9 +1,9 @@
 -- `polished_cubic_root` of polynomial.rs: one real root of x^3 + b*x^2 + c*x + d. Document 01,
 -- module 3.
-use Rattle.std.specs.Prelude.{not, ◌||◌, Float}
+use Rattle.std.specs.Prelude.{not, ◌||◌, Float, if◌then◌else◌}
 use Rattle.std.specs.Float.Ieee.Scale.{finite}
 use Rattle.ieee754.specs.Literal.{plus_zero}
-use Rattle.ieee754.specs.Traced.{Traced, pure, ◌>>=◌, if◌then◌else◌, !◌, ◌⊗◌}
+use Rattle.ieee754.specs.Traced.{Traced, pure, ◌>>=◌, !◌, ◌⊗◌}
 use Rattle.polynomial.specs.Answer.{not_finite, no_root}
 use Rattle.cubic_parts.specs.Steps.{after}
 use Rattle.cubic_parts.specs.CubicScale.{all_zero, cubic_variable_scale, normalised}

@@ -1,13 +1,13 @@
 -- `quadratic_real_monic` and `quadratic_real_monic_computed` of polynomial.rs: the real roots of
 -- x^2 + b*x + c. Document 01, module 2.
-use Rattle.std.specs.Prelude.{not, ◌||◌, Float}
+use Rattle.std.specs.Prelude.{not, ◌||◌, Float, if◌then◌else◌}
 use Rattle.std.specs.Float.Ieee.{neg, lt, eq}
 use Rattle.std.specs.Float.Ieee.Scale.{finite}
 use Rattle.ieee754.specs.Literal.{plus_zero, half, epsilon, min_positive}
 use Rattle.ieee754.specs.Magnitude.{abs}
 use Rattle.ieee754.specs.CopySign.{copysign}
 use Rattle.ieee754.specs.Maximum.{max}
-use Rattle.ieee754.specs.Traced.{Traced, pure, ◌>>=◌, if◌then◌else◌, !◌, ⊝◌, √◌, ◌⊗◌, ◌⊘◌, ◌⊕◌}
+use Rattle.ieee754.specs.Traced.{Traced, pure, ◌>>=◌, !◌, ⊝◌, √◌, ◌⊗◌, ◌⊘◌, ◌⊕◌}
 use Rattle.ieee754.specs.Traced.{mul_add}
 use Rattle.polynomial.specs.Literal.{four, thirty_two}
 use Rattle.polynomial.specs.Answer.{not_finite, no_real_roots}

@@ -1,5 +1,7 @@
 // Root finders for monic quadratics and cubics: the part of polynomial.rs that the Lambda Twist
 // solver calls, document 01, modules 2 and 3. Whatever doubles come in, there is an answer.
+#![tactic(auto)]
+
 pub mod cubic;
 pub mod pair;
 pub mod quadratic;
@@ -7,7 +9,7 @@ pub mod quadratic;
 // The answer of a root finder. A quadratic's pair is told apart by the discriminant as computed
 // (document 02, §8). A refusal has the number that document 01 gives it: 4 where a coefficient is
 // not finite, 5 where a quadratic has no real roots, 6 where a cubic's root was not found.
-#[derive(Drop)]
+#[derive(Clone, Copy)]
 pub enum Roots {
     // A quadratic's two roots: the discriminant is above zero.
     Two(f64, f64),

@@ -5,7 +5,7 @@ ghost use Rattle.polynomial.specs.Answer.{pair_of};
 
 use crate::Roots;
 
-#[derive(Drop)]
+#[derive(Clone, Copy)]
 pub enum RootPair {
     // The two roots, and whether they were lifted.
     Present(f64, f64, bool),

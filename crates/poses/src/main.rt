@@ -1,5 +1,15 @@
 // Reads frame records from standard input and lists their poses on standard output: document 01,
 // "Frame records and their listing".
-fn main() {
-    listing_program::command::start();
+#![tactic(auto)]
+
+use listing_program::command::start;
+use listing_program::stream::Streams;
+
+fn main(rt: HostRuntime) {
+    let mut streams = Streams {
+        input: rt.stdin(),
+        output: rt.stdout(),
+        errors: rt.stderr(),
+    };
+    start(&rt, &mut streams);
 }

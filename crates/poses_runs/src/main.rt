@@ -3,64 +3,72 @@
 // is held to standard output alone, so what is said on standard error goes into a file of the run's
 // folder, and is written out last. tests/poses/make.py made the files, and what is expected: the
 // listings from the Rust's answers.
-use libc::{STDERR_FILENO, STDOUT_FILENO};
-use listing_program::command::{answer, requested, start};
+#![tactic(auto)]
 
-fn list(name: &[u8]) {
-    let fd = os::open_read(name);
-    if fd < 0 {
-        os::fail(name);
-        return;
-    }
-    io::write_all(STDOUT_FILENO, name);
-    io::write_all(STDOUT_FILENO, b"\n");
-    listing_program::list(fd);
-    libc::close(fd);
+use listing_program::command::{answer, requested, start};
+use listing_program::stream::Streams;
+use std::io::{Read, Write};
+use std::rt::{Env, Files};
+use std::{fs, io};
+
+fn list<F: Files + Print, E: Write>(rt: &F, errors: &mut E, name: &str) -> io::Result<()> {
+    let file = match fs::open(rt, name) {
+        Ok(file) => file,
+        Err(error) => {
+            failures::say(errors, name, error);
+            return Ok(());
+        }
+    };
+    rt.println(name)?;
+    let mut streams = Streams {
+        input: file,
+        output: io::writer(rt),
+        errors,
+    };
+    listing_program::list(&mut streams);
+    Ok(())
 }
 
-fn reply() {
-    start();
+fn reply<V: Env, R: Read, W: Write, E: Write>(env: &V, streams: &mut Streams<R, W, E>) {
+    start(env, streams);
     // Standard input, which is empty.
-    answer(requested(1, b""));
-    answer(requested(2, b"--help"));
-    answer(requested(2, b"--version"));
-    answer(requested(2, b"--versions"));
-    answer(requested(3, b"--help"));
+    answer(requested(1, b""), streams);
+    answer(requested(2, b"--help"), streams);
+    answer(requested(2, b"--version"), streams);
+    answer(requested(2, b"--versions"), streams);
+    answer(requested(3, b"--help"), streams);
 }
 
 // Writes out what a file holds.
-fn show(name: &[u8]) {
-    let fd = os::open_read(name);
-    let mut text = io::buffer();
-    let n = io::read_full(fd, &mut text);
-    io::write_all(STDOUT_FILENO, &text[..n]);
-    libc::close(fd);
+fn show<F: Files + Print>(rt: &F, name: &str) -> io::Result<()> {
+    io::copy(&mut fs::open(rt, name)?, &mut io::writer(rt))?;
+    Ok(())
 }
 
-fn main() {
-    // A new file gets the number that is free.
-    libc::close(STDERR_FILENO);
-    if os::create(b"said") != STDERR_FILENO {
-        io::write_all(STDOUT_FILENO, b"no new file for standard error\n");
-        return;
-    }
-    reply();
-    list(b"empty");
-    list(b"lone_byte");
-    list(b"two_bytes");
-    list(b"length_192");
-    list(b"length_194");
-    list(b"length_194_alone");
-    list(b"truncated");
-    list(b"truncated_by_one");
-    list(b"version_2");
-    list(b"answers");
-    list(b"behind");
-    list(b"lifted");
-    list(b"buffer");
-    list(b"buffer_and_byte");
-    list(b"thousand");
+fn main(rt: HostRuntime) -> io::Result<()> {
+    let mut said = fs::create(&rt, "said")?;
+    let mut streams = Streams {
+        input: rt.stdin(),
+        output: rt.stdout(),
+        errors: &mut said,
+    };
+    reply(&rt, &mut streams);
+    list(&rt, &mut said, "empty")?;
+    list(&rt, &mut said, "lone_byte")?;
+    list(&rt, &mut said, "two_bytes")?;
+    list(&rt, &mut said, "length_192")?;
+    list(&rt, &mut said, "length_194")?;
+    list(&rt, &mut said, "length_194_alone")?;
+    list(&rt, &mut said, "truncated")?;
+    list(&rt, &mut said, "truncated_by_one")?;
+    list(&rt, &mut said, "version_2")?;
+    list(&rt, &mut said, "answers")?;
+    list(&rt, &mut said, "behind")?;
+    list(&rt, &mut said, "lifted")?;
+    list(&rt, &mut said, "buffer")?;
+    list(&rt, &mut said, "buffer_and_byte")?;
+    list(&rt, &mut said, "thousand")?;
     // a folder, from which a read fails
-    list(b".");
-    show(b"said");
+    list(&rt, &mut said, ".")?;
+    show(&rt, "said")
 }

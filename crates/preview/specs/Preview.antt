@@ -2,8 +2,7 @@
 -- out the answer and the squared edges that would be stored, plus zeros if the replacement is
 -- refused. The preview equals replacing the target on a copy and solving with that copy, refusals
 -- included. Checks: those of the replacement come first, then those of the solve."
-use Rattle.std.specs.Prelude.{ℕ, not, eqb}
-use Rattle.ieee754.specs.Traced.{if◌then◌else◌}
+use Rattle.std.specs.Prelude.{ℕ, not, eqb, if◌then◌else◌}
 use Rattle.lambdatwist.specs.Solve.{refused}
 use Rattle.plates.specs.Plate.{zero_edges}
 use Rattle.plates.specs.Replace.{replace}

@@ -14,7 +14,7 @@ use plates::solve_plate::solve_plate;
 
 // The answer with the target moved, and the squared edges that would be stored, also where the
 // solve refuses; plus zeros where the replacement is refused.
-#[derive(Drop)]
+#[derive(Clone, Copy)]
 pub struct Shown {
     pub answer: Answer,
     pub edges: SquaredEdges,

@@ -7,7 +7,7 @@ use crate::frame::frame_at;
 use frames::frame::Frame;
 
 // What stands at a position of the input.
-#[derive(Drop)]
+#[derive(Clone, Copy)]
 pub enum Record {
     // No byte: the input ends there.
     End,

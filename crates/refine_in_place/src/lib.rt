@@ -2,6 +2,8 @@
 // refine_depths of pose/p3p/common.rs (document 01, "What must change shape"). A thin layer over
 // the form by value, refinement::refine_depths, which does the work. The prover covers no reference
 // to a struct, so the proofs of both functions walk through their statements by hand.
+#![tactic(auto)]
+
 ghost use Rattle.std.specs.Prelude.{◌≡◌, ℕ};
 ghost use Rattle.refinement.specs.RefineDepths.{refine_depths};
 

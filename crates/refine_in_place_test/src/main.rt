@@ -1,20 +1,22 @@
 // Refines a lent triple in document 01's two cases, squared edges 2, cosines 0 and one update
 // allowed, and writes of each the count of updates and the depths' bit patterns: from (2, 2, 2) one
 // update, to (1.25, 1.25, 1.25), and from (1, 1, 1) none.
+#![tactic(auto)]
+
 use frames::cosines::Cosines;
 use frames::squared_edges::SquaredEdges;
 use ieee754::bits::to_bits;
-use libc::STDOUT_FILENO;
 use linalg::vector3::Vector3;
 use refine_in_place::refine_depths_here;
+use std::io;
 
-fn print_pattern(x: f64) {
-    io::write_all(STDOUT_FILENO, b" ");
-    io::print_hex(STDOUT_FILENO, to_bits(x), 16);
+fn print_pattern(rt: &impl Print, x: f64) -> io::Result<()> {
+    let pattern = to_bits(x);
+    print!(rt; " {pattern:016x}")
 }
 
 // "updates U depths X Y Z"
-fn refine(depth: f64) {
+fn refine(rt: &impl Print, depth: f64) -> io::Result<()> {
     let depths = Vector3 {
         x: depth,
         y: depth,
@@ -32,16 +34,15 @@ fn refine(depth: f64) {
     };
     let refined = refine_depths_here(depths, squared_edges, bearing_cosines, 1);
     let after = refined.depths;
-    io::write_all(STDOUT_FILENO, b"updates ");
-    io::print_decimal(STDOUT_FILENO, refined.updates as u64);
-    io::write_all(STDOUT_FILENO, b" depths");
-    print_pattern(after.x);
-    print_pattern(after.y);
-    print_pattern(after.z);
-    io::write_all(STDOUT_FILENO, b"\n");
+    let updates = refined.updates;
+    print!(rt; "updates {updates} depths")?;
+    print_pattern(rt, after.x)?;
+    print_pattern(rt, after.y)?;
+    print_pattern(rt, after.z)?;
+    println!(rt)
 }
 
-fn main() {
-    refine(2.0);
-    refine(1.0);
+fn main(rt: HostRuntime) -> io::Result<()> {
+    refine(&rt, 2.0)?;
+    refine(&rt, 1.0)
 }

@@ -1,11 +1,11 @@
 -- refine_depths of pose/p3p/common.rs; document 01, module 4. The test of the residual comes before
 -- each update, and none follows the last. The updates are counted.
-use Rattle.std.specs.Prelude.{ℕ, zero, suc, ◌+◌, not, ◌||◌, Float}
+use Rattle.std.specs.Prelude.{ℕ, zero, suc, ◌+◌, not, ◌||◌, Float, if◌then◌else◌}
 use Rattle.std.specs.Float.Ieee.{lt, eq}
 use Rattle.std.specs.Float.Ieee.Scale.{finite}
 use Rattle.ieee754.specs.Literal.{plus_zero, half, two, ten⁻¹⁰}
 use Rattle.ieee754.specs.Maximum.{max}
-use Rattle.ieee754.specs.Traced.{Traced, pure, ◌>>=◌, if◌then◌else◌, ◌⊗◌, ◌⊕◌, ◌⊖◌, ◌⊘◌, !◌, ⊝◌}
+use Rattle.ieee754.specs.Traced.{Traced, pure, ◌>>=◌, ◌⊗◌, ◌⊕◌, ◌⊖◌, ◌⊘◌, !◌, ⊝◌}
 use Rattle.linalg.specs.Vectors.{vector, abs_sum, all_finite}
 use Rattle.refinement.specs.Types.{Vector3, SquaredEdges, Cosines, Refined, Step, Next, Stop}
 

@@ -11,14 +11,14 @@ use ieee754::max::max;
 use linalg::vector3::Vector3;
 
 // The depths in the end, and how often they were updated.
-#[derive(Drop)]
+#[derive(Clone, Copy)]
 pub struct Refined {
     pub depths: Vector3,
     pub updates: u32,
 }
 
 // One turn: the depths updated, or the end.
-#[derive(Drop)]
+#[derive(Clone, Copy)]
 pub enum Step {
     Next(Vector3),
     Stop,

@@ -11,6 +11,8 @@
 // refusal; of plate_scale's six two, a scaled plate and a refusal, and one has an exponent beyond
 // 32 bits; of plate_solve's two one, the other wrong in the last word of slot 1; of plate_preview's
 // seven three, an answer, a refused solve and a refused replacement.
+#![tactic(auto)]
+
 ghost use Rattle.std.specs.Prelude.{◌≡◌, ◌*◌, ◌≤◌};
 ghost use Rattle.replay.specs.SubjectRecords.{subject_holds, subject_words};
 
@@ -24,8 +26,11 @@ use replay_plates::handlings;
 use replay_plates::handlings::Handling;
 use replay_stages::stages;
 use replay_stages::stages::Stage;
+use std::io::{Read, Write};
+use std::rt::Files;
+use std::{fs, io};
 
-#[derive(Drop)]
+#[derive(Clone, Copy)]
 pub enum Subject {
     Single(Operation),
     Root(Finder),
@@ -39,7 +44,7 @@ pub enum Subject {
 
 // What a step through a file found: a record that agrees, one that differs or is cut short, or
 // none.
-#[derive(Drop)]
+#[derive(Clone, Copy)]
 pub enum Found {
     Same,
     Different,
@@ -78,36 +83,56 @@ fn holds(subject: Subject, s: &[u8; 768]) -> bool
     }
 }
 
+// Reads until `buf` is full or the file ends, and answers how many bytes were read.
+fn read_full<F: Read>(file: &mut F, buf: &mut [u8]) -> io::Result<usize> {
+    let mut done = 0;
+    while done < buf.len() {
+        let n = file.read(&mut buf[done..])?;
+        if n == 0 {
+            break;
+        }
+        done += n;
+    }
+    Ok(done)
+}
+
 // Reads the next record and tries it.
-fn step(fd: i32, subject: Subject) -> Found {
+fn step<F: Read>(file: &mut F, subject: Subject) -> io::Result<Found> {
     let mut record = [0u8; 768];
     let n = length(subject);
-    let got = io::read_full(fd, &mut record[..n]);
+    let got = read_full(file, &mut record[..n])?;
     if got == 0 {
-        return Found::End;
+        return Ok(Found::End);
     }
     if got != n {
-        return Found::Different;
+        return Ok(Found::Different);
     }
     if holds(subject, &record) {
-        Found::Same
+        Ok(Found::Same)
     } else {
-        Found::Different
+        Ok(Found::Different)
     }
 }
 
 // Steps through a file. A proved loop has to end, and nothing says that a file does, so the count
 // of records bounds it.
-fn compare(subject: Subject, path: &[u8]) {
-    let fd = os::open_read(path);
-    if fd < 0 {
-        os::fail(path);
-        return;
-    }
+fn compare<R: Files + Print, E: Write>(
+    rt: &R,
+    errors: &mut E,
+    subject: Subject,
+    path: &str,
+) -> io::Result<()> {
+    let mut file = match fs::open(rt, path) {
+        Ok(file) => file,
+        Err(error) => {
+            failures::say(errors, path, error);
+            return Ok(());
+        }
+    };
     let mut compared: u64 = 0;
     let mut differ: u64 = 0;
     while compared < u64::MAX {
-        let found = step(fd, subject);
+        let found = step(&mut file, subject)?;
         match found {
             Found::Same => {}
             Found::Different => {
@@ -117,64 +142,64 @@ fn compare(subject: Subject, path: &[u8]) {
         }
         compared += 1;
     }
-    libc::close(fd);
-    replay_words::report::report(path, compared, differ);
+    replay_words::report::report(&mut io::writer(rt), path.as_bytes(), compared, differ)
 }
 
-fn main() {
-    compare(Subject::Single(Operation::Sqrt), b"control/sqrt.bin");
-    compare(Subject::Whole(Stage::Frame), b"control/frame.bin");
-    compare(Subject::SolvedAbout, b"control/about.bin");
-    compare(Subject::ChosenAbout, b"control/choice_about.bin");
-    compare(Subject::Plated(Handling::Scale), b"control/plate_scale.bin");
-    compare(Subject::Plated(Handling::Solve), b"control/plate_solve.bin");
-    compare(
-        Subject::Plated(Handling::Preview),
-        b"control/plate_preview.bin",
-    );
-    compare(Subject::Single(Operation::Abs), b"exact/abs.bin");
-    compare(Subject::Single(Operation::Copysign), b"exact/copysign.bin");
-    compare(Subject::Single(Operation::Max), b"exact/max.bin");
-    compare(Subject::Single(Operation::Clamp), b"exact/clamp.bin");
-    compare(Subject::Single(Operation::IsFinite), b"exact/is_finite.bin");
-    compare(
-        Subject::Single(Operation::TotalOrder),
-        b"exact/total_order.bin",
-    );
-    compare(Subject::Single(Operation::TotalCmp), b"exact/total_cmp.bin");
-    compare(Subject::Single(Operation::Sqrt), b"exact/sqrt.bin");
-    compare(Subject::Single(Operation::Cbrt), b"exact/cbrt.bin");
-    compare(Subject::Single(Operation::Fma), b"exact/fma.bin");
-    compare(Subject::Root(Finder::Quadratic), b"rust/quadratic.bin");
-    compare(Subject::Root(Finder::Cubic), b"rust/cubic.bin");
-    compare(Subject::Root(Finder::FastCbrt), b"rust/fast_cbrt.bin");
-    compare(Subject::Shared(Piece::Refine), b"rust/refine.bin");
-    compare(Subject::Shared(Piece::Ray), b"rust/ray_fits.bin");
-    compare(Subject::Shared(Piece::Near), b"rust/near.bin");
-    compare(Subject::Shared(Piece::Project), b"rust/project.bin");
-    compare(Subject::Shared(Piece::WorldBasis), b"rust/basis.bin");
-    compare(Subject::Shared(Piece::Edges), b"rust/edges.bin");
-    compare(Subject::Shared(Piece::Push), b"rust/push.bin");
-    compare(Subject::Whole(Stage::Eig), b"rust/eig.bin");
-    compare(Subject::Whole(Stage::RowCrosses), b"rust/row_crosses.bin");
-    compare(Subject::Whole(Stage::Condition), b"rust/condition.bin");
-    compare(Subject::Whole(Stage::Frame), b"rust/frame.bin");
-    compare(Subject::Chosen, b"rust/choice.bin");
-    compare(Subject::SolvedAbout, b"rust/about.bin");
-    compare(Subject::ChosenAbout, b"rust/choice_about.bin");
-    compare(Subject::Plated(Handling::Make), b"rust/plate_make.bin");
-    compare(
-        Subject::Plated(Handling::Replace),
-        b"rust/plate_replace.bin",
-    );
-    compare(
-        Subject::Plated(Handling::Exchange),
-        b"rust/plate_exchange.bin",
-    );
-    compare(Subject::Plated(Handling::Scale), b"rust/plate_scale.bin");
-    compare(Subject::Plated(Handling::Solve), b"rust/plate_solve.bin");
-    compare(
-        Subject::Plated(Handling::Preview),
-        b"rust/plate_preview.bin",
-    );
+fn main(rt: HostRuntime) -> io::Result<()> {
+    let mut errors = rt.stderr();
+    let files = [
+        (Subject::Single(Operation::Sqrt), "control/sqrt.bin"),
+        (Subject::Whole(Stage::Frame), "control/frame.bin"),
+        (Subject::SolvedAbout, "control/about.bin"),
+        (Subject::ChosenAbout, "control/choice_about.bin"),
+        (Subject::Plated(Handling::Scale), "control/plate_scale.bin"),
+        (Subject::Plated(Handling::Solve), "control/plate_solve.bin"),
+        (
+            Subject::Plated(Handling::Preview),
+            "control/plate_preview.bin",
+        ),
+        (Subject::Single(Operation::Abs), "exact/abs.bin"),
+        (Subject::Single(Operation::Copysign), "exact/copysign.bin"),
+        (Subject::Single(Operation::Max), "exact/max.bin"),
+        (Subject::Single(Operation::Clamp), "exact/clamp.bin"),
+        (Subject::Single(Operation::IsFinite), "exact/is_finite.bin"),
+        (
+            Subject::Single(Operation::TotalOrder),
+            "exact/total_order.bin",
+        ),
+        (Subject::Single(Operation::TotalCmp), "exact/total_cmp.bin"),
+        (Subject::Single(Operation::Sqrt), "exact/sqrt.bin"),
+        (Subject::Single(Operation::Cbrt), "exact/cbrt.bin"),
+        (Subject::Single(Operation::Fma), "exact/fma.bin"),
+        (Subject::Root(Finder::Quadratic), "rust/quadratic.bin"),
+        (Subject::Root(Finder::Cubic), "rust/cubic.bin"),
+        (Subject::Root(Finder::FastCbrt), "rust/fast_cbrt.bin"),
+        (Subject::Shared(Piece::Refine), "rust/refine.bin"),
+        (Subject::Shared(Piece::Ray), "rust/ray_fits.bin"),
+        (Subject::Shared(Piece::Near), "rust/near.bin"),
+        (Subject::Shared(Piece::Project), "rust/project.bin"),
+        (Subject::Shared(Piece::WorldBasis), "rust/basis.bin"),
+        (Subject::Shared(Piece::Edges), "rust/edges.bin"),
+        (Subject::Shared(Piece::Push), "rust/push.bin"),
+        (Subject::Whole(Stage::Eig), "rust/eig.bin"),
+        (Subject::Whole(Stage::RowCrosses), "rust/row_crosses.bin"),
+        (Subject::Whole(Stage::Condition), "rust/condition.bin"),
+        (Subject::Whole(Stage::Frame), "rust/frame.bin"),
+        (Subject::Chosen, "rust/choice.bin"),
+        (Subject::SolvedAbout, "rust/about.bin"),
+        (Subject::ChosenAbout, "rust/choice_about.bin"),
+        (Subject::Plated(Handling::Make), "rust/plate_make.bin"),
+        (Subject::Plated(Handling::Replace), "rust/plate_replace.bin"),
+        (
+            Subject::Plated(Handling::Exchange),
+            "rust/plate_exchange.bin",
+        ),
+        (Subject::Plated(Handling::Scale), "rust/plate_scale.bin"),
+        (Subject::Plated(Handling::Solve), "rust/plate_solve.bin"),
+        (Subject::Plated(Handling::Preview), "rust/plate_preview.bin"),
+    ];
+    for (subject, path) in files {
+        compare(&rt, &mut errors, subject, path)?;
+    }
+    Ok(())
 }

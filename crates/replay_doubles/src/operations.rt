@@ -8,7 +8,7 @@ use ieee754::total_cmp::Order;
 use replay_records::agreement::{double_agrees, flag, number_agrees};
 use replay_records::contents::double_at;
 
-#[derive(Drop)]
+#[derive(Clone, Copy)]
 pub enum Operation {
     Abs,
     Copysign,

@@ -12,7 +12,7 @@ use polynomial::quadratic::quadratic_real_monic;
 use replay_records::agreement::{double_agrees, number_agrees};
 use replay_records::contents::double_at;
 
-#[derive(Drop)]
+#[derive(Clone, Copy)]
 pub enum Finder {
     Quadratic,
     Cubic,

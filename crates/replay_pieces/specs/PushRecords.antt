@@ -3,10 +3,9 @@
 -- record has the answer of the definition, run on a list whose slots are marked: slot i, from 0,
 -- holds i + 1 as the updates and as the bit pattern of each entry of its pose, and is not lifted;
 -- what is pushed is.
-use Rattle.std.specs.Prelude.{ℕ, Bool, true, false, not, ◌&&◌, List, [], ◌∷◌, eqb, ltb, get_or}
+use Rattle.std.specs.Prelude.{ℕ, Bool, true, false, not, ◌&&◌, List, [], ◌∷◌, eqb, ltb, get_or, if◌then◌else◌}
 use Rattle.std.specs.Float.{binary64}
 use Rattle.std.specs.Float.Ieee.{of_bits, to_bits}
-use Rattle.ieee754.specs.Traced.{if◌then◌else◌}
 use Rattle.linalg.specs.Vectors.{vector}
 use Rattle.linalg.specs.Matrices.{from_columns, column0, column1, column2}
 use Rattle.frames.specs.Poses.{zero_pose}

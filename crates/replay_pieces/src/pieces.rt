@@ -20,7 +20,7 @@ use replay_records::agreement::{flag, matrix_agrees, number_agrees, vector_agree
 use replay_records::contents::{double_at, matrix_at, narrow, squares_at, vector_at};
 use replay_words::word;
 
-#[derive(Drop)]
+#[derive(Clone, Copy)]
 pub enum Piece {
     Refine,
     Ray,

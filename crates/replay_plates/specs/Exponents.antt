@@ -1,6 +1,5 @@
 -- The exponent of a power of two in a word: a number of 32 bits, in two's complement of 64.
-use Rattle.std.specs.Prelude.{ℕ, ◌-◌, Bool, ◌||◌, ltb, ℤ, pos, negsuc}
-use Rattle.ieee754.specs.Traced.{if◌then◌else◌}
+use Rattle.std.specs.Prelude.{ℕ, ◌-◌, Bool, ◌||◌, ltb, ℤ, pos, negsuc, if◌then◌else◌}
 
 -- whether a word is such a number: below 2^31, or at least 2^64 - 2^31
 unfoldable pub is_exponent : ℕ → Bool

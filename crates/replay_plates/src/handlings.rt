@@ -18,7 +18,7 @@ use replay_records::contents::{bearings_at, narrow, vector_at, world_at};
 use replay_stages::answers::answer_agrees;
 use replay_words::word;
 
-#[derive(Drop)]
+#[derive(Clone, Copy)]
 pub enum Handling {
     Make,
     Replace,

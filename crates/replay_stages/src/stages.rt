@@ -8,7 +8,7 @@ use orderings::condition::leading_cubic_condition;
 use replay_records::agreement::double_agrees;
 use replay_records::contents::{bearings_at, world_at};
 
-#[derive(Drop)]
+#[derive(Clone, Copy)]
 pub enum Stage {
     Frame,
     Eig,

@@ -1,5 +1,7 @@
 // Words of 64 bits, most significant byte first, each a number or the bit pattern of a double: what
 // the files of stored answers are made of.
+#![tactic(auto)]
+
 ghost use Rattle.std.specs.Prelude.{◌≡◌, ◌+◌, ◌<◌, ◌≤◌, eqb, get_or};
 ghost use Rattle.std.specs.Float.{binary64};
 ghost use Rattle.std.specs.Float.Ieee.{to_bits};

@@ -1,5 +1,6 @@
 -- Demand 1 of the mission, as specs/OneAnswer.antt states it: the answer to eighteen doubles is one
 -- to four finite poses or number 1, 2 or 3. Assumes nothing.
+use Rattle.std.specs.Prelude.{if◌then◌else◌}
 use mathlib.Core.Path.{◌≡◌, refl, subst⁻¹}
 use mathlib.Core.Bool.{Bool, not, ◌&&◌, ◌||◌}
 use Prim.Native.Nat.{ℕ}
@@ -9,7 +10,7 @@ use mir.Facts.{T_not-not}
 use lib.Ieee.{Float, binary64, mul, le}
 use lib.Ieee.Fits.{and_i, eq→eqb}
 use Rattle.ieee754.specs.Literal.{sixty_four, epsilon}
-use Rattle.ieee754.specs.Traced.{Traced, pure, ◌>>=◌, if◌then◌else◌, ◌⊘◌, !◌}
+use Rattle.ieee754.specs.Traced.{Traced, pure, ◌>>=◌, ◌⊘◌, !◌}
 use Rattle.ieee754.proofs.Tests.{or_left, or_right, neither, not-both-left, not-both-right}
 use Rattle.ieee754.proofs.Tests.{either_way}
 use Rattle.polynomial.specs.declared.Roots.TheVariants as roots

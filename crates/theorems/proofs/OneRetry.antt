@@ -1,11 +1,12 @@
 -- One retry is enough: with more allowed the answer is the same (`one-retry`), since a retry starts
 -- from the input as it was given and so comes upon the same best ordering. Assumes nothing.
+use Rattle.std.specs.Prelude.{if◌then◌else◌}
 use Prim.Native.Nat.{ℕ, zero, suc}
 use mathlib.Core.Path.{◌≡◌, refl, sym, ◌∙◌}
 use mathlib.Core.Bool.{Bool, true, false}
 use lib.Ieee.{binary64, mul, le}
 use Rattle.ieee754.specs.Literal.{sixty_four, epsilon}
-use Rattle.ieee754.specs.Traced.{Traced, pure, if◌then◌else◌}
+use Rattle.ieee754.specs.Traced.{Traced, pure}
 use Rattle.orderings.specs.Measure.{measure, measured_cubic}
 use Rattle.orderings.specs.Cubic.{is_unusable}
 use Rattle.orderings.specs.Permutation.{best_permutation}

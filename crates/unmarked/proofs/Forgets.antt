@@ -4,6 +4,7 @@
 -- marks, which is the same in both, and `>>=` after one with marks. Assumes nothing.
 use Rattle.std.proofs.Common.{◌≡◌, Bool, true, false, ◌&&◌, refl, ap, ap₂, true≢false}
 use mathlib.Core.Bool.{false≢true}
+use Rattle.std.specs.Prelude as prelude
 use Rattle.ieee754.specs.Traced as traced
 use Rattle.ieee754.specs.Traced.{Traced}
 
@@ -16,7 +17,7 @@ pub choose : {A B : Type 0} (R : A → B → Type 0) {b b' : Bool} {x y : A} {x'
     → b ≡ b'
     → R x x'
     → R y y'
-    → R (traced.if◌then◌else◌ b x y) (traced.if◌then◌else◌ b' x' y')
+    → R (prelude.if◌then◌else◌ b x y) (prelude.if◌then◌else◌ b' x' y')
 choose R {b = true} {b' = true} e h g = h
 choose R {b = true} {b' = false} e h g = absurd (true≢false e)
 choose R {b = false} {b' = true} e h g = absurd (false≢true e)
@@ -31,7 +32,7 @@ module _ {A B : Type 0} {R : A → B → Type 0} where
   pub if◌then◌else◌ : (b : Bool) {m l : Traced A} {m' l' : Traced B}
       → Forgets R m m'
       → Forgets R l l'
-      → Forgets R (traced.if◌then◌else◌ b m l) (traced.if◌then◌else◌ b m' l')
+      → Forgets R (prelude.if◌then◌else◌ b m l) (prelude.if◌then◌else◌ b m' l')
   if◌then◌else◌ b = choose (Forgets R) (refl {a = b})
 
   pub ◌>>=◌ : {C D : Type 0} {S : C → D → Type 0} {m : Traced A} {m' : Traced B}

@@ -1,11 +1,11 @@
 -- The two charts of `solve_ordered` (lambdatwist.rs): from the null vector of one sign to at most
 -- two depth candidates, one for each root of the chart's quadratic. Where the quadratic refuses,
 -- only that sign's turn ends. Without marks.
-use Rattle.std.specs.Prelude.{◌||◌, Float}
+use Rattle.std.specs.Prelude.{◌||◌, Float, if◌then◌else◌}
 use Rattle.std.specs.Float.Ieee.{lt, le}
 use Rattle.ieee754.specs.Literal.{plus_zero, one, two}
 use Rattle.ieee754.specs.Magnitude.{abs}
-use Rattle.ieee754.specs.Traced.{Traced, pure, ◌>>=◌, if◌then◌else◌, ◌⊗◌, ◌⊕◌, ◌⊖◌, ◌⊘◌, !◌, ⊝◌, √◌}
+use Rattle.ieee754.specs.Traced.{Traced, pure, ◌>>=◌, ◌⊗◌, ◌⊕◌, ◌⊖◌, ◌⊘◌, !◌, ⊝◌, √◌}
 use Rattle.linalg.specs.Vectors.{vector}
 use Rattle.depths.specs.Charts.{no_divisor}
 use Rattle.unmarked.specs.Quadratic.{with_pair, quadratic_real_monic}

@@ -1,9 +1,8 @@
 -- The depth candidates of `solve_ordered` (lambdatwist.rs): four slots and a count. Without
 -- marks.
-use Rattle.std.specs.Prelude.{◌+◌, ◌&&◌, [], ◌∷◌, nat_lt, slice_set, Float}
+use Rattle.std.specs.Prelude.{◌+◌, ◌&&◌, [], ◌∷◌, nat_lt, slice_set, Float, if◌then◌else◌}
 use Rattle.std.specs.Float.Ieee.{lt}
 use Rattle.ieee754.specs.Literal.{plus_zero}
-use Rattle.ieee754.specs.Traced.{if◌then◌else◌}
 use Rattle.linalg.specs.Vectors.{zeros}
 use Rattle.unmarked.specs.Types.{Vector3, Candidates}
 

@@ -1,11 +1,11 @@
 -- The two eigenvalues that are not known: the second part of `eig_with_known_zero`
 -- (lambdatwist.rs). They are the roots of a quadratic, the greater in magnitude first; a
 -- quadratic's refusal ends the solve. Without a mark.
-use Rattle.std.specs.Prelude.{◌||◌, Float}
+use Rattle.std.specs.Prelude.{◌||◌, Float, if◌then◌else◌}
 use Rattle.std.specs.Float.Ieee.{lt, eq}
 use Rattle.ieee754.specs.Literal.{plus_zero}
 use Rattle.ieee754.specs.Magnitude.{abs}
-use Rattle.ieee754.specs.Traced.{Traced, pure, ◌>>=◌, if◌then◌else◌, ⊝◌}
+use Rattle.ieee754.specs.Traced.{Traced, pure, ◌>>=◌, ⊝◌}
 use Rattle.linalg.specs.Matrices.{trace}
 use Rattle.eigen.specs.EigenPair.{pair_coefficient}
 use Rattle.unmarked.specs.Quadratic.{with_pair, quadratic_real_monic}

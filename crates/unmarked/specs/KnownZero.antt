@@ -1,8 +1,8 @@
 -- `eig_with_known_zero` of lambdatwist.rs: the eigenvectors, by columns, and the eigenvalues of a
 -- symmetric matrix of which zero is an eigenvalue. Each step that stops ends it. Without a mark.
-use Rattle.std.specs.Prelude.{not, Float}
+use Rattle.std.specs.Prelude.{not, Float, if◌then◌else◌}
 use Rattle.ieee754.specs.Literal.{plus_zero}
-use Rattle.ieee754.specs.Traced.{Traced, pure, ◌>>=◌, if◌then◌else◌, ◌⊗◌, !◌}
+use Rattle.ieee754.specs.Traced.{Traced, pure, ◌>>=◌, ◌⊗◌, !◌}
 use Rattle.linalg.specs.Vectors.{vector}
 use Rattle.linalg.specs.Matrices.{from_columns, mat_finite}
 use Rattle.eigen.specs.RowCrosses.{with_vector}

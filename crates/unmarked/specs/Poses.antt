@@ -1,8 +1,8 @@
 -- From depth candidates to poses: the end of `solve_ordered` (lambdatwist.rs). Each candidate is
 -- refined, and where its depths are positive a pose is made of it and goes to the gate. Without
 -- marks.
-use Rattle.std.specs.Prelude.{not, List, [], ◌∷◌, take}
-use Rattle.ieee754.specs.Traced.{Traced, pure, ◌>>=◌, if◌then◌else◌}
+use Rattle.std.specs.Prelude.{not, List, [], ◌∷◌, take, if◌then◌else◌}
+use Rattle.ieee754.specs.Traced.{Traced, pure, ◌>>=◌}
 use Rattle.linalg.specs.Vectors.{vec_sub, vec_mul}
 use Rattle.linalg.specs.Matrices.{mat_vec}
 use Rattle.refinement.specs.RefineDepths.{refine_depths}

@@ -2,8 +2,8 @@
 -- count, and the updates that each pose's depths took. Slots beyond the count hold plus zeros and
 -- 0. A pose is appended where the gate lets it by (push_pose_with_cheirality, as
 -- push_edge_basis_pose_from_positive_depths calls it). Without marks.
-use Rattle.std.specs.Prelude.{ℕ, ◌+◌, [], ◌∷◌, nat_lt, slice_set}
-use Rattle.ieee754.specs.Traced.{Traced, pure, ◌>>=◌, if◌then◌else◌}
+use Rattle.std.specs.Prelude.{ℕ, ◌+◌, [], ◌∷◌, nat_lt, slice_set, if◌then◌else◌}
+use Rattle.ieee754.specs.Traced.{Traced, pure, ◌>>=◌}
 use Rattle.frames.specs.Poses.{zero_pose}
 use Rattle.p3p_common.specs.Gate.{gate}
 use Rattle.unmarked.specs.Types.{Vector3, Matrix3, Pose, P3pInput, Gated, Passed, Projected}

@@ -2,10 +2,10 @@
 -- `solve_validated` with `solve_solver_minimal` as `solve`, of lambdatwist.rs, with the refusals of
 -- document 01. An ordering is solved with an allowance of retries; where it is unusable and one is
 -- left, the best conditioned of the other orderings is solved with one less. Without marks.
-use Rattle.std.specs.Prelude.{ℕ, zero, suc, not, ◌==◌, Float}
+use Rattle.std.specs.Prelude.{ℕ, zero, suc, not, ◌==◌, Float, if◌then◌else◌}
 use Rattle.std.specs.Float.Ieee.{le}
 use Rattle.ieee754.specs.Literal.{sixty_four, epsilon}
-use Rattle.ieee754.specs.Traced.{Traced, pure, ◌>>=◌, if◌then◌else◌, ◌⊗◌, ◌⊘◌, !◌}
+use Rattle.ieee754.specs.Traced.{Traced, pure, ◌>>=◌, ◌⊗◌, ◌⊘◌, !◌}
 use Rattle.polynomial.specs.Answer.{with_root}
 use Rattle.polynomial.specs.PolishedRoot.{polished_cubic_root}
 use Rattle.p3p_common.specs.Input.{input_finite}

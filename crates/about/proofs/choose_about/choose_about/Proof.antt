@@ -6,8 +6,8 @@ use Rattle.about.proofs.choose_about.choose_about.Tie as tie
 
 returns : tie.Need-returns
 unfolding choose_about
-returns c = rw (← c.before.sub.ensures) c.choose.ensures
+returns c = rw (← c.before.sub-moved.ensures) c.choose.ensures
 
-pub choose-about-spec : {M : Type 1} → statement M
-choose-about-spec =
+pub choose_about_spec : {M : Type 1} → statement M
+choose_about_spec =
     tie.close (tie.spec (λ c _. search rules) (λ c _. search rules) returns)

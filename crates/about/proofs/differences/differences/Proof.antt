@@ -9,10 +9,10 @@ unfolding differences
 returns c =
     rw (
       c.before.before.sub.ensures,
-      c.before.sub2.ensures,
-      c.sub3.ensures,
+      c.before.sub-2.ensures,
+      c.sub-3.ensures,
     )
 
-pub differences-spec : {M : Type 1} → statement M
-differences-spec =
+pub differences_spec : {M : Type 1} → statement M
+differences_spec =
     tie.close (tie.spec (λ c _. search rules) (λ c _. search rules) (λ c _. search rules) returns)

@@ -6,7 +6,7 @@ use Rattle.about.proofs.solve_about.solve_about.Tie as tie
 
 returns : tie.Need-returns
 unfolding solve_about
-returns c = rw (← c.before.answer-about.ensures) c.with-origin.ensures
+returns c = rw (← c.before.answer_about.ensures) c.with_origin.ensures
 
-pub solve-about-spec : {M : Type 1} → statement M
-solve-about-spec = tie.close (tie.spec (λ c _. search rules) (λ c _. search rules) returns)
+pub solve_about_spec : {M : Type 1} → statement M
+solve_about_spec = tie.close (tie.spec (λ c _. search rules) (λ c _. search rules) returns)

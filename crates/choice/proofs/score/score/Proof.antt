@@ -8,32 +8,32 @@ use Rattle.choice.specs.Score.{score}
 use Rattle.choice.proofs.score.score.Statement.{statement}
 use Rattle.choice.proofs.score.score.Tie as tie
 
-returns : tie.Need-returns
+returns : tie.Need-returns-then-depth
 unfolding score
 returns c =
     let ahead = c.before.before in
     let measured = ahead.before in
-    let above : lt plus_zero measured.dot.result ≡ true = ahead.if1.true in
+    let above : lt plus_zero measured.dot-depth.result ≡ true = ahead.if-depth.true in
     rw (
-      ← measured.before.camera-point.ensures,
-      ← measured.dot.ensures,
+      ← measured.before.camera_point-camera.ensures,
+      ← measured.dot-depth.ensures,
       above,
       ← c.before.cross.ensures,
-      ← c.norm-squared.ensures,
+      ← c.norm_squared-off_ray.ensures,
     )
 
-returns-2 : tie.Need-returns-2
+returns-2 : tie.Need-returns
 unfolding score
 returns-2 c =
     let measured = c.before in
-    let not-above : lt plus_zero measured.dot.result ≡ false = c.if1.false in
+    let not-above : lt plus_zero measured.dot-depth.result ≡ false = c.if-depth.false in
     rw (
-      ← measured.before.camera-point.ensures,
-      ← measured.dot.ensures,
+      ← measured.before.camera_point-camera.ensures,
+      ← measured.dot-depth.ensures,
       not-above,
     )
 
-pub score-spec : {M : Type 1} → statement M
-score-spec =
+pub score_spec : {M : Type 1} → statement M
+score_spec =
     tie.close (tie.spec (λ c _. search rules) (λ c _. search rules) (λ c _. search rules)
     (λ c _. search rules) returns returns-2)

@@ -8,5 +8,5 @@ returns : tie.Need-returns
 unfolding all_zero
 returns c = refl
 
-pub all-zero-spec : {M : Type 1} → statement M
-all-zero-spec = tie.close (tie.spec returns)
+pub all_zero_spec : {M : Type 1} → statement M
+all_zero_spec = tie.close (tie.spec returns)

@@ -4,36 +4,36 @@ use Rattle.cubic_parts.specs.CubicScale.{cubic_variable_scale}
 use Rattle.cubic_parts.proofs.cubic_scale.cubic_variable_scale.Statement.{statement}
 use Rattle.cubic_parts.proofs.cubic_scale.cubic_variable_scale.Tie as tie
 
-returns : tie.Need-returns
+returns : tie.Need-returns-then-all_zero
 unfolding cubic_variable_scale
-returns c = rw (← c.before.all-zero.ensures, c.if1.true)
+returns c = rw (← c.before.all_zero.ensures, c.if-all_zero.true)
 
-returns-2 : tie.Need-returns-2
+returns-2 : tie.Need-returns-then-large-tiny
 unfolding cubic_variable_scale
 returns-2 c =
     let large = c.before.before.before in
     rw (
-      ← large.before.before.all-zero.ensures,
-      large.before.if1.false,
+      ← large.before.before.all_zero.ensures,
+      large.before.if-all_zero.false,
       ← large.large.ensures,
       ← c.before.before.tiny.ensures,
-      c.before.if2.true,
-      ← c.root-magnitude.ensures,
+      c.before.if-large-tiny.true,
+      ← c.root_magnitude.ensures,
     )
 
-returns-3 : tie.Need-returns-3
+returns-3 : tie.Need-returns
 unfolding cubic_variable_scale
 returns-3 c =
     let tested = c.before.before.before in
     rw (
-      ← tested.before.all-zero.ensures,
-      tested.if1.false,
+      ← tested.before.all_zero.ensures,
+      tested.if-all_zero.false,
       ← c.before.before.large.ensures,
       ← c.before.tiny.ensures,
-      c.if2.false,
+      c.if-large-tiny.false,
     )
 
-pub cubic-variable-scale-spec : {M : Type 1} → statement M
-cubic-variable-scale-spec =
+pub cubic_variable_scale_spec : {M : Type 1} → statement M
+cubic_variable_scale_spec =
     tie.close (tie.spec (λ c _. search rules) returns (λ c _. search rules) (λ c _. search rules)
     (λ c _. search rules) returns-2 returns-3)

@@ -11,15 +11,15 @@ returns c =
     let abs = max.before.before.before in
     rw (
       ← abs.abs.ensures,
-      ← max.before.before.abs2.ensures,
+      ← max.before.before.abs-2.ensures,
       ← max.before.sqrt.ensures,
       ← max.max.ensures,
-      ← c.before.before.abs3.ensures,
+      ← c.before.before.abs-3.ensures,
       ← c.before.cbrt.ensures,
-      ← c.max2.ensures,
+      ← c.max-2.ensures,
     )
 
-pub root-magnitude-spec : {M : Type 1} → statement M
-root-magnitude-spec =
+pub root_magnitude_spec : {M : Type 1} → statement M
+root_magnitude_spec =
     tie.close (tie.spec (λ c _. search rules) (λ c _. search rules) (λ c _. search rules)
     (λ c _. search rules) (λ c _. search rules) (λ c _. search rules) (λ c _. search rules) returns)

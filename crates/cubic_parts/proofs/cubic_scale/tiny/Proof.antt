@@ -8,6 +8,6 @@ returns : tie.Need-returns
 unfolding tiny
 returns c = cc
 
-pub tiny-spec : {M : Type 1} → statement M
-tiny-spec =
+pub tiny_spec : {M : Type 1} → statement M
+tiny_spec =
     tie.close (tie.spec (λ c _. search rules) (λ c _. search rules) (λ c _. search rules) returns)

@@ -8,5 +8,5 @@ returns : tie.Need-returns
 unfolding cubic_value
 returns c = refl
 
-pub cubic-value-spec : {M : Type 1} → statement M
-cubic-value-spec = tie.close (tie.spec returns)
+pub cubic_value_spec : {M : Type 1} → statement M
+cubic_value_spec = tie.close (tie.spec returns)

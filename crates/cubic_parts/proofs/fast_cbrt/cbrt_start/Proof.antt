@@ -11,16 +11,16 @@ use Rattle.cubic_parts.specs.FastCbrt.{cbrt_start}
 use Rattle.cubic_parts.proofs.fast_cbrt.cbrt_start.Statement.{statement}
 use Rattle.cubic_parts.proofs.fast_cbrt.cbrt_start.Tie as tie
 
-add-result : tie.Need-overflow-add-result
+add-result : tie.Need-overflow_add-result
 add-result c =
     let bits = to_bits binary64 c.before.args.magnitude in
     let bound : bits < 0x1_0000_0000_0000_0000 =
-    to_bits-lt binary64 _ (passes _ c.before.well-formed.0.1) in
+    to_bits-lt binary64 _ (passes _ c.before.well_formed.0.1) in
     record { fits = omega (arith, c.third.ensures) }
 
-float-from-bits-result : tie.Need-float-from-bits-result
+float-from-bits-result : tie.Need-float_from_bits-result
 float-from-bits-result c =
-    let fits = passes _ c.before.well-formed.0.1 in
+    let fits = passes _ c.before.well_formed.0.1 in
     let bits = to_bits binary64 c.before.args.magnitude in
     let bound : bits < 0x1_0000_0000_0000_0000 = to_bits-lt binary64 _ fits in
     let number : bits % 0x8000_0000_0000_0000 ≤ 0x7ff0_0000_0000_0000 =
@@ -32,7 +32,7 @@ returns : tie.Need-returns
 unfolding cbrt_start
 returns c = rw c.third.ensures
 
-pub cbrt-start-spec : {M : Type 1} → statement M
-cbrt-start-spec =
+pub cbrt_start_spec : {M : Type 1} → statement M
+cbrt_start_spec =
     tie.close (tie.spec (λ c. search rules) (λ c _. search rules) add-result float-from-bits-result
     returns)

@@ -4,13 +4,13 @@ use Rattle.cubic_parts.specs.FastCbrt.{cbrt_step}
 use Rattle.cubic_parts.proofs.fast_cbrt.cbrt_step.Statement.{statement}
 use Rattle.cubic_parts.proofs.fast_cbrt.cbrt_step.Tie as tie
 
-returns : tie.Need-returns
+returns : tie.Need-returns-then-is_finite-cube
 unfolding cbrt_step
-returns c = rw (← c.before.is_finite.ensures, c.if1.true)
+returns c = rw (← c.before.is_finite.ensures, c.if-is_finite-cube.true)
 
-returns-2 : tie.Need-returns-2
+returns-2 : tie.Need-returns
 unfolding cbrt_step
-returns-2 c = rw (← c.before.is_finite.ensures, c.if1.false)
+returns-2 c = rw (← c.before.is_finite.ensures, c.if-is_finite-cube.false)
 
-pub cbrt-step-spec : {M : Type 1} → statement M
-cbrt-step-spec = tie.close (tie.spec (λ c _. search rules) returns returns-2)
+pub cbrt_step_spec : {M : Type 1} → statement M
+cbrt_step_spec = tie.close (tie.spec (λ c _. search rules) returns returns-2)

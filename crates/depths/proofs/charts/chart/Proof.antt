@@ -4,29 +4,29 @@ use Rattle.depths.specs.Charts.{chart}
 use Rattle.depths.proofs.charts.chart.Statement.{statement}
 use Rattle.depths.proofs.charts.chart.Tie as tie
 
-returns : tie.Need-returns
+returns : tie.Need-returns-then-abs
 unfolding chart
 returns c found =
     let tested = c.before in
     rw (
       ← tested.before.before.abs.ensures,
-      ← tested.before.abs2.ensures,
-      tested.if1.true,
+      ← tested.before.abs-2.ensures,
+      tested.if-abs.true,
     )
-    (c.first-chart.ensures found)
+    (c.first_chart.ensures found)
 
-returns-2 : tie.Need-returns-2
+returns-2 : tie.Need-returns
 unfolding chart
 returns-2 c found =
     let tested = c.before in
     rw (
       ← tested.before.before.abs.ensures,
-      ← tested.before.abs2.ensures,
-      tested.if1.false,
+      ← tested.before.abs-2.ensures,
+      tested.if-abs.false,
     )
-    (c.second-chart.ensures found)
+    (c.second_chart.ensures found)
 
-pub chart-spec : {M : Type 1} → statement M
-chart-spec =
+pub chart_spec : {M : Type 1} → statement M
+chart_spec =
     tie.close (tie.spec (λ c _. search rules) (λ c _. search rules) (λ c _. search rules) returns
     (λ c _. search rules) returns-2)

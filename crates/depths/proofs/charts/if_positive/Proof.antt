@@ -4,13 +4,13 @@ use Rattle.depths.specs.Pushed.{pushed}
 use Rattle.depths.proofs.charts.if_positive.Statement.{statement}
 use Rattle.depths.proofs.charts.if_positive.Tie as tie
 
-returns : tie.Need-returns
+returns : tie.Need-returns-then-depth
 unfolding push_if_positive pushed
-returns c found lifted = rw c.if1.true
+returns c found lifted = rw c.if-depth.true
 
-returns-2 : tie.Need-returns-2
+returns-2 : tie.Need-returns
 unfolding push_if_positive pushed
-returns-2 c found lifted = rw c.if1.false
+returns-2 c found lifted = rw c.if-depth.false
 
-pub if-positive-spec : {M : Type 1} → statement M
-if-positive-spec = tie.close (tie.spec returns returns-2)
+pub if_positive_spec : {M : Type 1} → statement M
+if_positive_spec = tie.close (tie.spec returns returns-2)

@@ -8,6 +8,6 @@ returns : tie.Need-returns
 unfolding no_divisor
 returns c = cc
 
-pub no-divisor-spec : {M : Type 1} → statement M
-no-divisor-spec =
+pub no_divisor_spec : {M : Type 1} → statement M
+no_divisor_spec =
     tie.close (tie.spec (λ c _. search rules) returns)

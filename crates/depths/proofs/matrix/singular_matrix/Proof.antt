@@ -8,5 +8,5 @@ returns : tie.Need-returns
 unfolding singular_matrix
 returns c = refl
 
-pub singular-matrix-spec : {M : Type 1} → statement M
-singular-matrix-spec = tie.close (tie.spec returns)
+pub singular_matrix_spec : {M : Type 1} → statement M
+singular_matrix_spec = tie.close (tie.spec returns)

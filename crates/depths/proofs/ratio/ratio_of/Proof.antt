@@ -16,23 +16,23 @@ not-real-value : (x : Float)
 unfolding is_not_real
 not-real-value x = or-value (not (finite x)) _
 
-returns : tie.Need-returns
+returns : tie.Need-returns-then-is_finite-ratio_squared
 unfolding ratio_of
-returns c = rw (not-real-value _, ← c.before.is_finite.ensures, c.if1.true)
+returns c = rw (not-real-value _, ← c.before.is_finite.ensures, c.if-is_finite-ratio_squared.true)
 
-returns-2 : tie.Need-returns-2
+returns-2 : tie.Need-returns
 unfolding ratio_of
 returns-2 c =
     let is_finite = c.before.before.before in
     rw (
       not-real-value _,
       ← is_finite.is_finite.ensures,
-      c.before.before.if1.false,
+      c.before.before.if-is_finite-ratio_squared.false,
       ← c.before.max.ensures,
       ← c.sqrt.ensures,
     )
 
-pub ratio-of-spec : {M : Type 1} → statement M
-ratio-of-spec =
+pub ratio_of_spec : {M : Type 1} → statement M
+ratio_of_spec =
     tie.close (tie.spec (λ c _. search rules) returns (λ c _. search rules) (λ c _. search rules)
     returns-2)

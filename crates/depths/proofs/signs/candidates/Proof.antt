@@ -11,13 +11,13 @@ returns c eigenvectors first second =
     let turns = none.before in
     rw (
       ← none.none.ensures,
-      ← turns.before.sign-turn.ensures eigenvectors _ first second,
-      ← c.before.push-both.ensures,
-      ← turns.sign-turn2.ensures eigenvectors _ first second,
-      ← c.push-both2.ensures,
+      ← turns.before.sign_turn-plus.ensures eigenvectors _ first second,
+      ← c.before.push_both.ensures,
+      ← turns.sign_turn-minus.ensures eigenvectors _ first second,
+      ← c.push_both-2.ensures,
     )
 
-pub candidates-spec : {M : Type 1} → statement M
-candidates-spec =
+pub candidates_spec : {M : Type 1} → statement M
+candidates_spec =
     tie.close (tie.spec (λ c _. search rules) (λ c _. search rules) (λ c _. search rules)
     (λ c _. search rules) (λ c _. search rules) returns)

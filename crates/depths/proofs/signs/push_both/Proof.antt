@@ -6,9 +6,9 @@ use Rattle.depths.proofs.signs.push_both.Tie as tie
 returns : tie.Need-returns
 returns c =
     rw (
-      c.push2.ensures,
+      c.push-2.ensures,
       c.before.push.ensures,
     )
 
-pub push-both-spec : {M : Type 1} → statement M
-push-both-spec = tie.close (tie.spec (λ c _. search rules) (λ c _. search rules) returns)
+pub push_both_spec : {M : Type 1} → statement M
+push_both_spec = tie.close (tie.spec (λ c _. search rules) (λ c _. search rules) returns)

@@ -11,10 +11,10 @@ returns c eigenvectors found first second =
       first,
       second,
       ← c.before.before.mul.ensures,
-      ← c.before.sub.ensures,
+      ← c.before.sub-null_vector.ensures,
     )
     (c.chart.ensures found)
 
-pub sign-turn-spec : {M : Type 1} → statement M
-sign-turn-spec =
+pub sign_turn_spec : {M : Type 1} → statement M
+sign_turn_spec =
     tie.close (tie.spec (λ c _. search rules) (λ c _. search rules) (λ c _. search rules) returns)

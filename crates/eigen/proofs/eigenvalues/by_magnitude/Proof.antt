@@ -4,29 +4,29 @@ use Rattle.eigen.specs.EigenPair.{by_magnitude}
 use Rattle.eigen.proofs.eigenvalues.by_magnitude.Statement.{statement}
 use Rattle.eigen.proofs.eigenvalues.by_magnitude.Tie as tie
 
-returns : tie.Need-returns
+returns : tie.Need-returns-then-abs
 unfolding by_magnitude
 returns c =
     let abs = c.before.before.before in
     rw (
       ← abs.abs.ensures,
-      ← c.before.before.abs2.ensures,
-      c.before.if1.true,
-      ← c.nonzero-pair.ensures,
+      ← c.before.before.abs-2.ensures,
+      c.before.if-abs.true,
+      ← c.nonzero_pair.ensures,
     )
 
-returns-2 : tie.Need-returns-2
+returns-2 : tie.Need-returns
 unfolding by_magnitude
 returns-2 c =
     let abs = c.before.before.before in
     rw (
       ← abs.abs.ensures,
-      ← c.before.before.abs2.ensures,
-      c.before.if1.false,
-      ← c.nonzero-pair2.ensures,
+      ← c.before.before.abs-2.ensures,
+      c.before.if-abs.false,
+      ← c.nonzero_pair-2.ensures,
     )
 
-pub by-magnitude-spec : {M : Type 1} → statement M
-by-magnitude-spec =
+pub by_magnitude_spec : {M : Type 1} → statement M
+by_magnitude_spec =
     tie.close (tie.spec (λ c _. search rules) (λ c _. search rules) (λ c _. search rules) returns
     (λ c _. search rules) returns-2)

@@ -3,13 +3,13 @@ use Rattle.eigen.specs.EigenPair.{nonzero_pair}
 use Rattle.eigen.proofs.eigenvalues.nonzero_pair.Statement.{statement}
 use Rattle.eigen.proofs.eigenvalues.nonzero_pair.Tie as tie
 
-returns : tie.Need-returns
+returns : tie.Need-returns-then-first_value-second_value
 unfolding nonzero_pair
-returns c = rw c.if1.true
+returns c = rw c.if-first_value-second_value.true
 
-returns-2 : tie.Need-returns-2
+returns-2 : tie.Need-returns
 unfolding nonzero_pair
-returns-2 c = rw c.if1.false
+returns-2 c = rw c.if-first_value-second_value.false
 
-pub nonzero-pair-spec : {M : Type 1} → statement M
-nonzero-pair-spec = tie.close (tie.spec returns returns-2)
+pub nonzero_pair_spec : {M : Type 1} → statement M
+nonzero_pair_spec = tie.close (tie.spec returns returns-2)

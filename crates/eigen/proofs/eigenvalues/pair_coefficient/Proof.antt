@@ -8,5 +8,5 @@ returns : tie.Need-returns
 unfolding pair_coefficient
 returns c = refl
 
-pub pair-coefficient-spec : {M : Type 1} → statement M
-pair-coefficient-spec = tie.close (tie.spec returns)
+pub pair_coefficient_spec : {M : Type 1} → statement M
+pair_coefficient_spec = tie.close (tie.spec returns)

@@ -8,5 +8,5 @@ returns : tie.Need-returns
 unfolding denominator_scale
 returns c = cc
 
-pub denominator-scale-spec : {M : Type 1} → statement M
-denominator-scale-spec = tie.close (tie.spec (λ c _. search rules) (λ c _. search rules) returns)
+pub denominator_scale_spec : {M : Type 1} → statement M
+denominator_scale_spec = tie.close (tie.spec (λ c _. search rules) (λ c _. search rules) returns)

@@ -8,5 +8,5 @@ returns : tie.Need-returns
 unfolding eigen_denominator
 returns c = refl
 
-pub eigen-denominator-spec : {M : Type 1} → statement M
-eigen-denominator-spec = tie.close (tie.spec returns)
+pub eigen_denominator_spec : {M : Type 1} → statement M
+eigen_denominator_spec = tie.close (tie.spec returns)

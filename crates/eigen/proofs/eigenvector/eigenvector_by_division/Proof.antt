@@ -4,24 +4,24 @@ use Rattle.eigen.specs.EigenvectorOf.{eigenvector_by_division, if_finite}
 use Rattle.eigen.proofs.eigenvector.eigenvector_by_division.Statement.{statement}
 use Rattle.eigen.proofs.eigenvector.eigenvector_by_division.Tie as tie
 
-returns : tie.Need-returns
+returns : tie.Need-returns-then-all_finite
 unfolding eigenvector_by_division if_finite
 returns c =
     rw (
-      ← c.before.before.sqrt.ensures,
-      ← c.before.all-finite.ensures,
-      c.if1.true,
+      ← c.before.before.sqrt-inverse_norm.ensures,
+      ← c.before.all_finite.ensures,
+      c.if-all_finite.true,
     )
 
-returns-2 : tie.Need-returns-2
+returns-2 : tie.Need-returns
 unfolding eigenvector_by_division if_finite
 returns-2 c =
     rw (
-      ← c.before.before.sqrt.ensures,
-      ← c.before.all-finite.ensures,
-      c.if1.false,
+      ← c.before.before.sqrt-inverse_norm.ensures,
+      ← c.before.all_finite.ensures,
+      c.if-all_finite.false,
     )
 
-pub eigenvector-by-division-spec : {M : Type 1} → statement M
-eigenvector-by-division-spec =
+pub eigenvector_by_division_spec : {M : Type 1} → statement M
+eigenvector_by_division_spec =
     tie.close (tie.spec (λ c _. search rules) (λ c _. search rules) returns returns-2)

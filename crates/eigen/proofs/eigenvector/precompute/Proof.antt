@@ -8,5 +8,5 @@ returns : tie.Need-returns
 unfolding precompute
 returns c = refl
 
-pub precompute-spec : {M : Type 1} → statement M
-precompute-spec = tie.close (tie.spec returns)
+pub precompute_spec : {M : Type 1} → statement M
+precompute_spec = tie.close (tie.spec returns)

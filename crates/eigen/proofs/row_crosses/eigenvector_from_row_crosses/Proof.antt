@@ -8,7 +8,7 @@ returns : tie.Need-returns
 unfolding eigenvector_from_row_crosses
 returns c = cc
 
-pub eigenvector-from-row-crosses-spec : {M : Type 1} → statement M
-eigenvector-from-row-crosses-spec =
+pub eigenvector_from_row_crosses_spec : {M : Type 1} → statement M
+eigenvector_from_row_crosses_spec =
     tie.close (tie.spec (λ c _. search rules) (λ c _. search rules) (λ c _. search rules)
     (λ c _. search rules) (λ c _. search rules) (λ c _. search rules) returns)

@@ -4,29 +4,29 @@ use Rattle.eigen.specs.RowCrosses.{unit_vector}
 use Rattle.eigen.proofs.row_crosses.unit_vector.Statement.{statement}
 use Rattle.eigen.proofs.row_crosses.unit_vector.Tie as tie
 
-returns : tie.Need-returns
+returns : tie.Need-returns-then-norm-is_finite
 unfolding unit_vector
 returns c =
     let norm = c.before.before.before in
     rw (
-      ← norm.norm.ensures,
-      ← c.before.before.div.ensures,
+      ← norm.norm-norm.ensures,
+      ← c.before.before.div-unit.ensures,
       ← c.before.is_finite.ensures,
-      c.if1.true,
+      c.if-norm-is_finite.true,
     )
 
-returns-2 : tie.Need-returns-2
+returns-2 : tie.Need-returns
 unfolding unit_vector
 returns-2 c =
     let norm = c.before.before.before in
     rw (
-      ← norm.norm.ensures,
-      ← c.before.before.div.ensures,
+      ← norm.norm-norm.ensures,
+      ← c.before.before.div-unit.ensures,
       ← c.before.is_finite.ensures,
-      c.if1.false,
+      c.if-norm-is_finite.false,
     )
 
-pub unit-vector-spec : {M : Type 1} → statement M
-unit-vector-spec =
+pub unit_vector_spec : {M : Type 1} → statement M
+unit_vector_spec =
     tie.close (tie.spec (λ c _. search rules) (λ c _. search rules) (λ c _. search rules) returns
     returns-2)

@@ -8,5 +8,5 @@ returns : tie.Need-returns
 unfolding zero_direction
 returns c = refl
 
-pub zero-direction-spec : {M : Type 1} → statement M
-zero-direction-spec = tie.close (tie.spec returns)
+pub zero_direction_spec : {M : Type 1} → statement M
+zero_direction_spec = tie.close (tie.spec returns)

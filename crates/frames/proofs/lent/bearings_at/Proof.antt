@@ -8,7 +8,7 @@ returns : tie.Need-returns
 unfolding bearings_at
 returns c = cc
 
-pub bearings-at-spec : {M : Type 1} → statement M
-bearings-at-spec =
+pub bearings_at_spec : {M : Type 1} → statement M
+bearings_at_spec =
     tie.close (tie.spec (λ c _. search rules) (λ c. search rules) (λ c _. search rules)
     (λ c. search rules) (λ c _. search rules) returns)

@@ -8,8 +8,8 @@ returns : tie.Need-returns
 unfolding pose_at
 returns c = cc
 
-pub pose-at-spec : {M : Type 1} → statement M
-pose-at-spec =
+pub pose_at_spec : {M : Type 1} → statement M
+pose_at_spec =
     tie.close (tie.spec (λ c _. search rules) (λ c. search rules) (λ c _. search rules)
     (λ c. search rules) (λ c _. search rules) (λ c. search rules) (λ c _. search rules)
     (λ c _. search rules) returns)

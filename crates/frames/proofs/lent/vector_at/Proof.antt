@@ -9,8 +9,8 @@ returns : tie.Need-returns
 unfolding vector_at
 returns c = refl
 
-pub vector-at-spec : {M : Type 1} → statement M
-vector-at-spec =
+pub vector_at_spec : {M : Type 1} → statement M
+vector_at_spec =
     tie.close (tie.spec (λ c. search rules) (λ c. search rules) (λ c. search rules)
     (λ c. search rules) (λ c. search rules) (λ c. search rules) (λ c. search rules)
     (λ c. search rules) returns)

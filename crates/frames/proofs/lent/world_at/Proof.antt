@@ -8,7 +8,7 @@ returns : tie.Need-returns
 unfolding world_at
 returns c = cc
 
-pub world-at-spec : {M : Type 1} → statement M
-world-at-spec =
+pub world_at_spec : {M : Type 1} → statement M
+world_at_spec =
     tie.close (tie.spec (λ c _. search rules) (λ c. search rules) (λ c _. search rules)
     (λ c. search rules) (λ c _. search rules) returns)

@@ -8,6 +8,6 @@ returns : tie.Need-returns
 unfolding world_finite
 returns c = cc
 
-pub world-finite-spec : {M : Type 1} → statement M
-world-finite-spec =
+pub world_finite_spec : {M : Type 1} → statement M
+world_finite_spec =
     tie.close (tie.spec (λ c _. search rules) (λ c _. search rules) (λ c _. search rules) returns)

@@ -74,16 +74,16 @@ left (fin false m e) h = refl
 left (fin true m e) h =
     absurd (false≢true (sym h ∙ not-above (m * up e * 1) (0 * down e) (zero-mul (down e))))
 
-returns : tie.Need-returns
+returns : tie.Need-returns-then-x
 returns c =
     let x = c.before.args.x in
     ap (λ (z : Float). sub binary64 z x) at_zero
-    ∙ taken x (passes _ c.before.well-formed.0.1)
-    (ap (le x) (sym at_zero) ∙ c.if1.true)
+    ∙ taken x (passes _ c.before.well_formed.0.1)
+    (ap (le x) (sym at_zero) ∙ c.if-x.true)
 
-returns-2 : tie.Need-returns-2
+returns-2 : tie.Need-returns-else-x
 returns-2 c =
-    let x = c.before.args.x in left x (ap (le x) (sym at_zero) ∙ c.if1.false)
+    let x = c.before.args.x in left x (ap (le x) (sym at_zero) ∙ c.if-x.false)
 
-pub abs-spec : {M : Type 1} → statement M
-abs-spec = tie.close (tie.spec returns returns-2)
+pub abs_spec : {M : Type 1} → statement M
+abs_spec = tie.close (tie.spec returns returns-2)

@@ -10,12 +10,12 @@ nan-bits : 0x7ff8_0000_0000_0000 ≡ to_bits binary64 nan
 unfolding to_bits
 nan-bits = refl
 
-returns : tie.Need-returns
-returns c = nan-bits ∙ sym (ap (to_bits binary64) (nan-of c.before.args.x c.if1.true))
+returns : tie.Need-returns-then-x
+returns c = nan-bits ∙ sym (ap (to_bits binary64) (nan-of c.before.args.x c.if-x.true))
 
-float-to-bits-result : tie.Need-float-to-bits-result
-float-to-bits-result c = not-nan c.before.args.x c.if1.false
+float-to-bits-result : tie.Need-float_to_bits-result
+float-to-bits-result c = not-nan c.before.args.x c.if-x.false
 
-pub to-bits-spec : {M : Type 1} → statement M
-to-bits-spec =
+pub to_bits_spec : {M : Type 1} → statement M
+to_bits_spec =
     tie.close (tie.spec returns float-to-bits-result (λ c. search rules))

@@ -17,13 +17,13 @@ itself nan h = refl
 itself (inf s) h = refl
 itself (fin s m e) h = absurd h
 
-cbrt-finite-requires : tie.Need-cbrt-finite-requires
-cbrt-finite-requires c κs = answered c.before.is_finite.ensures c.if1.true
+cbrt-finite-requires : tie.Need-cbrt_finite-requires
+cbrt-finite-requires c κs = answered c.before.is_finite.ensures c.if-is_finite.true
 
-returns-2 : tie.Need-returns-2
+returns-2 : tie.Need-returns-else-is_finite
 returns-2 c =
-    itself c.before.before.args.x (denied c.before.is_finite.ensures c.if1.false)
+    itself c.before.before.args.x (denied c.before.is_finite.ensures c.if-is_finite.false)
 
-pub cbrt-spec : {M : Type 1} → statement M
-cbrt-spec =
+pub cbrt_spec : {M : Type 1} → statement M
+cbrt_spec =
     tie.close (tie.spec (λ c _. search rules) cbrt-finite-requires (λ c. search rules) returns-2)

@@ -2,11 +2,11 @@
 use Rattle.ieee754.proofs.clamp.raised.Statement.{statement}
 use Rattle.ieee754.proofs.clamp.raised.Tie as tie
 
-returns : tie.Need-returns
-returns c = rw c.if1.true
+returns : tie.Need-returns-then-x-low
+returns c = rw c.if-x-low.true
 
-returns-2 : tie.Need-returns-2
-returns-2 c = rw c.if1.false
+returns-2 : tie.Need-returns-else-x-low
+returns-2 c = rw c.if-x-low.false
 
-pub raised-spec : {M : Type 1} → statement M
-raised-spec = tie.close (tie.spec returns returns-2)
+pub raised_spec : {M : Type 1} → statement M
+raised_spec = tie.close (tie.spec returns returns-2)

@@ -46,61 +46,61 @@ both-fit : (b y : ℕ) → y < 2 ^ 64 → Fits w64 (b % 2 ^ 63 + y / 2 ^ 63 * 2 
 both-fit b y h = record { fits = omega arith }
 
 -- ---- the function
-returns : tie.Need-returns
+returns : tie.Need-returns-then-x
 returns c =
     let s = c.before.args in
-    let e = nan-of s.x c.if1.true in
+    let e = nan-of s.x c.if-x.true in
     e ∙ sym (ap (λ (x : Float). copysign x s.y) e ∙ of_nan s.y)
 
-float-to-bits-magnitude : tie.Need-float-to-bits-magnitude
-float-to-bits-magnitude c = not-nan c.before.args.x c.if1.false
+float-to-bits-magnitude : tie.Need-float_to_bits-magnitude
+float-to-bits-magnitude c = not-nan c.before.args.x c.if-x.false
 
 -- x's pattern without the sign is no NaN's
-small : (c : tie.Else1)
+small : (c : tie.Else-x)
     → to_bits binary64 c.before.args.x % 2 ^ 63 ≤ 0x7ff0_0000_0000_0000
 small c =
     let x = c.before.args.x in
-    in-range binary64 x (passes _ c.before.well-formed.0.1) (not-nan x c.if1.false)
+    in-range binary64 x (passes _ c.before.well_formed.0.1) (not-nan x c.if-x.false)
 
-float-from-bits-result : tie.Need-float-from-bits-result
+float-from-bits-result : tie.Need-float_from_bits-result
 float-from-bits-result c = no_nan binary64 _ (small c.before)
 
-returns-2 : tie.Need-returns-2
+returns-2 : tie.Need-returns-then-y
 returns-2 c =
     let s = c.before.before in
     let b = to_bits binary64 s.args.x % 2 ^ 63 in
     ap (of_bits binary64) (sym (add-zero b) ∙ ap (λ (k : ℕ). b + k) (sym (zero-mul (2 ^ 63))))
-    ∙ copysign-bits binary64 s.args.x s.args.y 0 (passes _ s.well-formed.0.1)
+    ∙ copysign-bits binary64 s.args.x s.args.y 0 (passes _ s.well_formed.0.1)
     (lt-leb (2 ^ 63) (b + 0 * 2 ^ 63) (omega arith)
-    ∙ sym (ap negative (nan-of s.args.y c.if2.true)))
+    ∙ sym (ap negative (nan-of s.args.y c.if-y.true)))
 
-float-to-bits-result : tie.Need-float-to-bits-result
-float-to-bits-result c = not-nan c.before.before.args.y c.if2.false
+float-to-bits-result : tie.Need-float_to_bits-result
+float-to-bits-result c = not-nan c.before.before.args.y c.if-y.false
 
 y-lt : (c : tie.Start) → to_bits binary64 c.args.y < 2 ^ 64
-y-lt c = to_bits-lt binary64 c.args.y (passes _ c.well-formed.1.0.1)
+y-lt c = to_bits-lt binary64 c.args.y (passes _ c.well_formed.1.0.1)
 
-mul-result : tie.Need-overflow-mul-result
+mul-result : tie.Need-overflow_mul-result
 mul-result c = sign_fits _ (y-lt c.before.before)
 
-add-result : tie.Need-overflow-add-result
+add-result : tie.Need-overflow_add-result
 add-result c = both-fit (to_bits binary64 c.before.before.args.x) _ (y-lt c.before.before)
 
-float-from-bits-result-2 : tie.Need-float-from-bits-result-2
+float-from-bits-result-2 : tie.Need-float_from_bits-result-2
 float-from-bits-result-2 c =
     let x = c.before.before.args.x in
     not-nan-bits binary64 _ (without (to_bits binary64 x) _ (small c.before))
 
-returns-3 : tie.Need-returns-3
+returns-3 : tie.Need-returns
 returns-3 c =
     let s = c.before.before in
     let y = s.args.y in
-    let good = passes _ s.well-formed.1.0.1 in
-    copysign-bits binary64 s.args.x y _ (passes _ s.well-formed.0.1)
+    let good = passes _ s.well_formed.1.0.1 in
+    copysign-bits binary64 s.args.x y _ (passes _ s.well_formed.0.1)
     (sign-bit (to_bits binary64 s.args.x) (to_bits binary64 y) (y-lt s)
-    ∙ negative-bits binary64 y good (not-nan y c.if2.false))
+    ∙ negative-bits binary64 y good (not-nan y c.if-y.false))
 
-pub copysign-spec : {M : Type 1} → statement M
-copysign-spec =
+pub copysign_spec : {M : Type 1} → statement M
+copysign_spec =
     tie.close (tie.spec returns float-to-bits-magnitude float-from-bits-result returns-2
     float-to-bits-result mul-result add-result float-from-bits-result-2 returns-3)

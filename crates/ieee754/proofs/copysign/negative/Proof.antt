@@ -9,16 +9,16 @@ use Rattle.ieee754.proofs.Sign.{negative-bits}
 use Rattle.ieee754.proofs.copysign.negative.Statement.{statement}
 use Rattle.ieee754.proofs.copysign.negative.Tie as tie
 
-returns : tie.Need-returns
-returns c = sym (ap negative (nan-of c.before.args.y c.if1.true))
+returns : tie.Need-returns-then-y
+returns c = sym (ap negative (nan-of c.before.args.y c.if-y.true))
 
-float-to-bits-result : tie.Need-float-to-bits-result
-float-to-bits-result c = not-nan c.before.args.y c.if1.false
+float-to-bits-result : tie.Need-float_to_bits-result
+float-to-bits-result c = not-nan c.before.args.y c.if-y.false
 
-returns-2 : tie.Need-returns-2
+returns-2 : tie.Need-returns
 returns-2 c =
     let y = c.before.args.y in
-    negative-bits binary64 y (passes _ c.before.well-formed.0.1) (not-nan y c.if1.false)
+    negative-bits binary64 y (passes _ c.before.well_formed.0.1) (not-nan y c.if-y.false)
 
-pub negative-spec : {M : Type 1} → statement M
-negative-spec = tie.close (tie.spec returns float-to-bits-result returns-2)
+pub negative_spec : {M : Type 1} → statement M
+negative_spec = tie.close (tie.spec returns float-to-bits-result returns-2)

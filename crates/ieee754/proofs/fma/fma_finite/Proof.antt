@@ -95,7 +95,7 @@ module _ (m n x y p e : ℕ) (h : p ≡ moved m n) (a : p < 2 ^ 64 → e ≡ 0)
       (h ∙ ap (λ (u : ℕ). m * 512 * u) f ∙ sym (mul_assoc (m * 512) (n * 256) 2))
       ∙ mul-mod_left (m * 512 * (n * 256)) 2
 
-add-leading-requires : tie.Need-add-leading-requires
+add-leading-requires : tie.Need-add_leading-requires
 add-leading-requires c κs =
     let after-struct-known5 = c.before.before in
     let k = after-struct-known5.before in
@@ -103,15 +103,15 @@ add-leading-requires c κs =
     let g = after-struct-known3.before in
     let after-struct-known = g.before.before in
     let w = after-struct-known.before in
-    let a = w.before.unpack in
-    let b = w.unpack2 in
-    let p = value g.product.result in
-    let e = k.product-exp in
+    let a = w.before.unpack-a in
+    let b = w.unpack-b in
+    let p = value g.product-p.result in
+    let e = k.product_exp-exp in
     let m = a.result.sig in
     let n = b.result.sig in
     let x = a.result.exp in
     let y = b.result.exp in
-    let f = g.product.ensures in (
+    let f = g.product-p.ensures in (
       record {
         short =
             short m n x y p e.result f e.ensures.0 e.ensures.1
@@ -122,7 +122,7 @@ add-leading-requires c κs =
             a.ensures.digits.within b.ensures.digits.within;
         even = even m n x y p e.result f e.ensures.0 e.ensures.1;
       },
-      c.unpack3.ensures.digits,
+      c.unpack.ensures.digits,
     )
 
 returns : tie.Need-returns
@@ -134,25 +134,25 @@ returns c =
     let g = after-struct-known3.before in
     let after-struct-known = g.before.before in
     let w = after-struct-known.before in
-    let a = w.before.unpack in
-    let b = w.unpack2 in
-    let d = after-unpack3.unpack3 in
+    let a = w.before.unpack-a in
+    let b = w.unpack-b in
+    let d = after-unpack3.unpack in
     let s = w.before.before.args in
-    let e = k.product-exp in
-    let p = value g.product.result in
+    let e = k.product_exp-exp in
+    let p = value g.product-p.result in
     let x = a.result.sig * 2 ^ a.result.exp in
     let y = b.result.sig * 2 ^ b.result.exp in
     let z = d.result.sig * 2 ^ d.result.exp in
     let is =
     product_is a.result.sig b.result.sig a.result.exp b.result.exp p e.result
-    a.ensures.digits.full b.ensures.digits.full g.product.ensures e.ensures.0
+    a.ensures.digits.full b.ensures.digits.full g.product-p.ensures e.ensures.0
     e.ensures.1 in
-    fma-value c.add-leading.result s.x s.y s.z a.result.negative
+    fma-value c.add_leading.result s.x s.y s.z a.result.negative
     b.result.negative d.result.negative (p * 2 ^ e.result) x y z a.ensures.is
-    b.ensures.is d.ensures.is is c.add-leading.ensures
+    b.ensures.is d.ensures.is is c.add_leading.ensures
 
-pub fma-finite-spec : {M : Type 1} → statement M
-fma-finite-spec =
+pub fma_finite_spec : {M : Type 1} → statement M
+fma_finite_spec =
     tie.close (tie.spec (λ c _. search rules) (λ c _. search rules) (λ c. search rules)
     (λ c. search rules) (λ c _. search rules) (λ c. search rules) (λ c _. search rules)
     (λ c _. search rules) add-leading-requires returns)

@@ -54,22 +54,22 @@ addend-high n k h l b g e =
     let most : 53 + k < 53 + 64 = omega arith in
     high-below 53 64 h l (n * 2 ^ k) e (lt_trans (shl_lt 53 k b) (pow-lt most))
 
-passed : (c : tie.Then1)
+passed : (c : tie.Then-square-addend)
     → let after-unpack2 = c.before.before.before in
-    let x = after-unpack2.before.unpack.result.exp in
-    let z = after-unpack2.unpack2.result.exp in
+    let x = after-unpack2.before.unpack-a.result.exp in
+    let z = after-unpack2.unpack-c.result.exp in
     (2 * x < z + 1074) × (z + 1074 < 2 * x + 64)
-passed c = tested _ _ c.if1.true
+passed c = tested _ _ c.if-square-addend.true
 
-sum-aligned-requires : tie.Need-sum-aligned-requires
+sum-aligned-requires : tie.Need-sum_aligned-requires
 sum-aligned-requires c κs =
     let after-shift-left = c.before in
     let t = after-shift-left.before in
     let after-unpack2 = t.before.before.before in
-    let a = after-unpack2.before.unpack in
-    let d = after-unpack2.unpack2 in
+    let a = after-unpack2.before.unpack-a in
+    let d = after-unpack2.unpack-c in
     let p = c.product in
-    let q = after-shift-left.shift-left in
+    let q = after-shift-left.shift_left-moved in
     let gap : d.result.exp + 1074 - 2 * a.result.exp < 64 = omega (arith, (passed t).1) in
     let first =
     square-high a.result.sig p.result.hi p.result.lo a.ensures.digits.short
@@ -82,32 +82,32 @@ sum-aligned-requires c κs =
       omega (arith, a.ensures.digits.within),
     )
 
-returns : tie.Need-returns
+returns : tie.Need-returns-then-square-addend
 returns c =
     let after-product = c.before in
     let after-shift-left = after-product.before in
     let t = after-shift-left.before in
     let after-unpack2 = t.before.before.before in
     let s = after-unpack2.before.before.args in
-    let a = after-unpack2.before.unpack in
-    let d = after-unpack2.unpack2 in
+    let a = after-unpack2.before.unpack-a in
+    let d = after-unpack2.unpack-c in
     let n = a.result.negative in
     let e = 2 * a.result.exp in
     let x = a.result.sig * 2 ^ a.result.exp in
     let z = d.result.sig * 2 ^ d.result.exp in
     let q = value after-product.product.result * 2 ^ (e + 18) in
     let addend =
-    ap (λ (v : ℕ). v * 2 ^ (e + 18)) after-shift-left.shift-left.ensures
+    ap (λ (v : ℕ). v * 2 ^ (e + 18)) after-shift-left.shift_left-moved.ensures
     ∙ addend-is d.result.sig e d.result.exp (passed t).0 in
-    fma-value c.sum-aligned.result s.x s.x s.z n n d.result.negative q x x z
+    fma-value c.sum_aligned.result s.x s.x s.z n n d.result.negative q x x z
     a.ensures.is a.ensures.is d.ensures.is
     (ap (λ (v : ℕ). v * 2 ^ (e + 18)) after-product.product.ensures
     ∙ square-is a.result.sig a.result.exp)
-    (c.sum-aligned.ensures
+    (c.sum_aligned.ensures
     ∙ ap₂ (λ (b : Bool) (v : ℕ). summed b q d.result.negative v) (sym (like-itself n)) addend)
 
-pub fma-square-finite-spec : {M : Type 1} → statement M
-fma-square-finite-spec =
+pub fma_square_finite_spec : {M : Type 1} → statement M
+fma_square_finite_spec =
     tie.close (tie.spec (λ c _. search rules) (λ c _. search rules) (λ c. search rules)
     (λ c. search rules) (λ c. search rules) (λ c. omega (arith, (passed c).0))
     (λ c _. (omega (arith, (passed c).0), omega (arith, (passed c).1))) (λ c _. search rules)

@@ -25,16 +25,16 @@ outside nan h = refl
 outside (inf s) h = refl
 outside (fin s m e) h = sym h
 
-returns : tie.Need-returns
+returns : tie.Need-returns-then-x-infinity
 returns c =
     let x = c.before.args.x in
     subst (λ (i : Float). lt x i ≡ true → lt (neg i) x ≡ finite x) infinity (between x)
-    c.if1.true
+    c.if-x-infinity.true
 
-returns-2 : tie.Need-returns-2
+returns-2 : tie.Need-returns-else-x-infinity
 returns-2 c =
     let x = c.before.args.x in
-    subst (λ (i : Float). lt x i ≡ false → false ≡ finite x) infinity (outside x) c.if1.false
+    subst (λ (i : Float). lt x i ≡ false → false ≡ finite x) infinity (outside x) c.if-x-infinity.false
 
-pub is-finite-spec : {M : Type 1} → statement M
-is-finite-spec = tie.close (tie.spec returns returns-2)
+pub is_finite_spec : {M : Type 1} → statement M
+is_finite_spec = tie.close (tie.spec returns returns-2)

@@ -2,5 +2,5 @@
 use Rattle.ieee754.proofs.max.larger.Statement.{statement}
 use Rattle.ieee754.proofs.max.larger.Tie as tie
 
-pub larger-spec : {M : Type 1} → statement M
-larger-spec = tie.close (tie.spec (λ c. rw c.if1.true) (λ c. rw c.if1.false))
+pub larger_spec : {M : Type 1} → statement M
+larger_spec = tie.close (tie.spec (λ c. rw c.if-x-y.true) (λ c. rw c.if-x-y.false))

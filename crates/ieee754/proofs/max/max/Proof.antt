@@ -45,23 +45,23 @@ ordered x y h =
     ) (chosen (lt x y) (lt y x) x y (cond (negative x) y x) h)
 
 -- ---- the function
-returns : tie.Need-returns
-returns c = c.larger.ensures ∙ ordered _ _ c.before.if1.true
+returns : tie.Need-returns-then-x-y
+returns c = c.larger.ensures ∙ ordered _ _ c.before.if-x-y.true
 
-returns-2 : tie.Need-returns-2
+returns-2 : tie.Need-returns-then-x
 unfolding max
-returns-2 c = rw (sym (ne-self _) ∙ c.if2.true)
+returns-2 c = rw (sym (ne-self _) ∙ c.if-x.true)
 
-returns-3 : tie.Need-returns-3
+returns-3 : tie.Need-returns-then-y
 unfolding max
 returns-3 c =
     rw (
-      sym (ne-self _) ∙ c.before.if2.false,
-      sym (ne-self _) ∙ c.if3.true,
+      sym (ne-self _) ∙ c.before.if-x.false,
+      sym (ne-self _) ∙ c.if-y.true,
     )
 
 -- past the tests for a NaN, by the sign of x
-by_sign : (e : tie.Else3) (s : Bool)
+by_sign : (e : tie.Else-y) (s : Bool)
     → let a = e.before.before.before.args in
     negative a.x ≡ s → cond s a.y a.x ≡ max a.x a.y
 unfolding max
@@ -69,26 +69,26 @@ by_sign e s h =
     let else2 = e.before in
     let else1 = else2.before in
     let a = else1.before.args in
-    let n = both-fail (lt a.x a.y) (lt a.y a.x) else1.if1.false in
+    let n = both-fail (lt a.x a.y) (lt a.y a.x) else1.if-x-y.false in
     rw (
-      sym (ne-self _) ∙ else2.if2.false,
-      sym (ne-self _) ∙ e.if3.false,
+      sym (ne-self _) ∙ else2.if-x.false,
+      sym (ne-self _) ∙ e.if-y.false,
       n.0,
       n.1,
       h,
     )
 
-returns-4 : tie.Need-returns-4
+returns-4 : tie.Need-returns-then-negative
 returns-4 c =
     let after-negative = c.before in
-    by_sign after-negative.before true (sym after-negative.negative.ensures ∙ c.if4.true)
+    by_sign after-negative.before true (sym after-negative.negative.ensures ∙ c.if-negative.true)
 
-returns-5 : tie.Need-returns-5
+returns-5 : tie.Need-returns-else-negative
 returns-5 c =
     let after-negative = c.before in
-    by_sign after-negative.before false (sym after-negative.negative.ensures ∙ c.if4.false)
+    by_sign after-negative.before false (sym after-negative.negative.ensures ∙ c.if-negative.false)
 
-pub max-spec : {M : Type 1} → statement M
-max-spec =
+pub max_spec : {M : Type 1} → statement M
+max_spec =
     tie.close (tie.spec (λ c _. search rules) returns returns-2 returns-3 (λ c _. search rules)
     returns-4 returns-5)

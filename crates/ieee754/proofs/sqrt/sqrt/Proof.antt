@@ -30,22 +30,22 @@ itself (inf true) h l = absurd (true≢false l)
 itself (inf false) h l = refl
 itself (fin s m e) h l = absurd h
 
-sqrt-finite-requires : tie.Need-sqrt-finite-requires
-sqrt-finite-requires c κs = answered c.before.is_finite.ensures c.if1.true
+sqrt-finite-requires : tie.Need-sqrt_finite-requires
+sqrt-finite-requires c κs = answered c.before.is_finite.ensures c.if-is_finite.true
 
-returns-2 : tie.Need-returns-2
+returns-2 : tie.Need-returns-then-x
 returns-2 c =
     let f = c.before.before in
-    below-zero f.before.args.x (denied f.is_finite.ensures c.before.if1.false)
-    c.if2.true
+    below-zero f.before.args.x (denied f.is_finite.ensures c.before.if-is_finite.false)
+    c.if-x.true
 
-returns-3 : tie.Need-returns-3
+returns-3 : tie.Need-returns-else-x
 returns-3 c =
     let f = c.before.before in
-    itself f.before.args.x (denied f.is_finite.ensures c.before.if1.false)
-    c.if2.false
+    itself f.before.args.x (denied f.is_finite.ensures c.before.if-is_finite.false)
+    c.if-x.false
 
-pub sqrt-spec : {M : Type 1} → statement M
-sqrt-spec =
+pub sqrt_spec : {M : Type 1} → statement M
+sqrt_spec =
     tie.close (tie.spec (λ c _. search rules) sqrt-finite-requires (λ c. search rules) returns-2
     returns-3)

@@ -60,7 +60,7 @@ module _ (x : Float) (b : ℕ) (is : to_bits binary64 x ≡ b) (h : T (fits bina
       (sym (raised m e (some b low)))
       (times x false (m * 2 ^ (e - 1)) (2 ^ 1074) (2 ^ 52) read.0))
 
-float-to-bits-bits : tie.Need-float-to-bits-bits
+float-to-bits-bits : tie.Need-float_to_bits-bits
 float-to-bits-bits c = finite-not-nan c.args.x c.requires
 
 scaled-requires : tie.Need-scaled-requires
@@ -70,20 +70,20 @@ scaled-requires c κs =
     let b = to_bits binary64 x in (
       (field-range b).0,
       (field-range b).1,
-      below b c.if2.false (read x b refl (passes _ s.well-formed.0.1) s.requires
-          c.before.if1.false c.if2.false).1,
+      below b c.if-bits-ge-SIGN.false (read x b refl (passes _ s.well_formed.0.1) s.requires
+          c.before.if-bits-lt-LEADING.false c.if-bits-ge-SIGN.false).1,
     )
 
-returns-3 : tie.Need-returns-3
+returns-3 : tie.Need-returns
 returns-3 c =
     let f = c.before in
     let s = f.before.before in
     c.scaled.ensures
-    ∙ sym (root s.args.x (to_bits binary64 s.args.x) refl (passes _ s.well-formed.0.1) s.requires
-    f.before.if1.false f.if2.false)
+    ∙ sym (root s.args.x (to_bits binary64 s.args.x) refl (passes _ s.well_formed.0.1) s.requires
+    f.before.if-bits-lt-LEADING.false f.if-bits-ge-SIGN.false)
 
-pub sqrt-finite-spec : {M : Type 1} → statement M
-sqrt-finite-spec =
+pub sqrt_finite_spec : {M : Type 1} → statement M
+sqrt_finite_spec =
     tie.close (tie.spec float-to-bits-bits (λ c _. search rules) (λ c. search rules)
     (λ c _. search rules) (λ c. search rules) (λ c. search rules) (λ c. search rules)
     scaled-requires returns-3)

@@ -95,7 +95,7 @@ ordered true x y e = leb-true y x (sym e)
 ordered false x y e = le_of_lt (leb-false y x (sym e))
 
 -- ---- the function
-shift-right-requires : tie.Need-shift-right-requires
+shift-right-requires : tie.Need-shift_right-a-requires
 shift-right-requires c κs = (
   lit< tt,
   lit< tt,
@@ -103,16 +103,16 @@ shift-right-requires c κs = (
       (lt_of_lt_of_le c.requires.0.short (lit≤ tt)),
 )
 
-sub-shift : tie.Need-overflow-sub-shift
+sub-shift : tie.Need-overflow_sub-exp
 sub-shift c =
     let f = c.before.before in
     let after-struct-known = f.before.before in
     let start = after-struct-known.before.before in
     let s = start.args in
-    let x = s.p-exp + 62 in
+    let x = s.p_exp + 62 in
     let y = s.c.exp + 1083 in
-    le_trans (le_of_eq c.choose3.ensures)
-    (le_trans (ordered (leb y x) x y refl) (le_of_eq (sym f.choose.ensures)))
+    le_trans (le_of_eq c.choose-2.ensures)
+    (le_trans (ordered (leb y x) x y refl) (le_of_eq (sym f.choose-exp.ensures)))
 
 -- the words have 62 digits at most
 product-short : (p a : ℕ) → p < 2 ^ 124 → a ≡ p / 2 ^ 62 → a < 2 ^ 62
@@ -121,7 +121,7 @@ product-short p a l e = lt_of_le_of_lt (le_of_eq e) (shr_lt 62 62 l)
 addend-short : (m : ℕ) → m < 2 ^ 53 → m * 512 < 2 ^ 62
 addend-short m l = omega arith
 
-signed-sum-requires : tie.Need-signed-sum-requires
+signed-sum-requires : tie.Need-signed_sum-sum-requires
 signed-sum-requires c κs =
     let h = c.before.before in
     let g = h.before.before in
@@ -129,30 +129,30 @@ signed-sum-requires c κs =
     let after-struct-known = f.before.before in
     let after-shift-right = after-struct-known.before in
     let s = after-shift-right.before in
-    let a = after-shift-right.shift-right in
+    let a = after-shift-right.shift_right-a in
     let m = s.args.c.sig in
-    let first = leb (s.args.c.exp + 1083) (s.args.p-exp + 62) in
+    let first = leb (s.args.c.exp + 1083) (s.args.p_exp + 62) in
     let A = product-short (value s.args.p) a.result s.requires.0.short a.ensures in
     let B = addend-short m s.requires.1.short in
-    let d = f.choose.result - h.before.choose3.result in (
-      lt_of_le_of_lt (le_of_eq c.choose4.ensures)
+    let d = f.choose-exp.result - h.before.choose-2.result in (
+      lt_of_le_of_lt (le_of_eq c.choose-3.ensures)
           (cond-lt first a.result (m * 512) (2 ^ 62) A B),
-      lt_of_le_of_lt (le_trans (le_of_eq h.shift.ensures)
-          (le_trans (shr_le g.choose2.result d) (le_of_eq g.choose2.ensures)))
+      lt_of_le_of_lt (le_trans (le_of_eq h.shift-rest.ensures)
+          (le_trans (shr_le g.choose.result d) (le_of_eq g.choose.ensures)))
           (cond-lt first (m * 512) a.result (2 ^ 62) B A),
     )
 
-settle-requires : tie.Need-settle-requires
+settle-requires : tie.Need-settle-settled-requires
 settle-requires c κs =
     let after-struct-known3 = c.before.before in
     let after-choose3 = after-struct-known3.before.before in
     let f = after-choose3.before.before in
     let after-struct-known = f.before.before in
     let s = after-struct-known.before.before in
-    let x = s.args.p-exp + 62 in
+    let x = s.args.p_exp + 62 in
     let y = s.args.c.exp + 1083 in
-    lt_of_le_of_lt (le_of_eq f.choose.ensures) (cond-lt (leb y x) x y 4900
-    (up s.args.p-exp s.requires.0.within) (down s.args.c.exp s.requires.1.within))
+    lt_of_le_of_lt (le_of_eq f.choose-exp.ensures) (cond-lt (leb y x) x y 4900
+    (up s.args.p_exp s.requires.0.within) (down s.args.c.exp s.requires.1.within))
   where
     up : (e : ℕ) → e ≤ 4090 → e + 62 < 4900
     up e h = omega arith
@@ -163,11 +163,11 @@ settle-requires c κs =
 pack-requires : tie.Need-pack-requires
 pack-requires c κs =
     let n = c.before in
-    let w = n.before.before.settle in
-    let h = w.ensures (pos_of_ne-zero n.if1.false) in
+    let w = n.before.before.settle-settled in
+    let h = w.ensures (pos_of_ne-zero n.if-settled-eq0.false) in
     (le_of_lt h.short, λ g. h.full, h.within)
 
-returns-2 : tie.Need-returns-2
+returns-2 : tie.Need-returns-else-settled-eq0
 returns-2 c =
     let i = c.before in
     let n = i.before in
@@ -180,41 +180,41 @@ returns-2 c =
     let after-struct-known = f.before.before in
     let after-shift-right = after-struct-known.before in
     let s = after-shift-right.before in
-    let w = after-settle.settle in
+    let w = after-settle.settle-settled in
     let A = s.args.negative in
     let C = s.args.c.negative in
     let p = value s.args.p in
     let m = s.args.c.sig in
     let a = p / 2 ^ 62 in
     let b = m * 512 in
-    let x = s.args.p-exp + 62 in
+    let x = s.args.p_exp + 62 in
     let y = s.args.c.exp + 1083 in
     let first = leb y x in
-    let is : after-shift-right.shift-right.result ≡ a = after-shift-right.shift-right.ensures in
-    let settled = w.ensures (pos_of_ne-zero n.if1.false) in
-    let lead : k.choose4.result ≡ cond first a b =
-    k.choose4.ensures ∙ ap (λ (z : ℕ). cond first z b) is in
-    let rest : g.choose2.result ≡ cond first b a =
-    g.choose2.ensures ∙ ap (λ (z : ℕ). cond first b z) is in
-    let low : h.shift.result ≡ cond first b a / 2 ^ (cond first x y - cond first y x) =
-    h.shift.ensures
+    let is : after-shift-right.shift_right-a.result ≡ a = after-shift-right.shift_right-a.ensures in
+    let settled = w.ensures (pos_of_ne-zero n.if-settled-eq0.false) in
+    let lead : k.choose-3.result ≡ cond first a b =
+    k.choose-3.ensures ∙ ap (λ (z : ℕ). cond first z b) is in
+    let rest : g.choose.result ≡ cond first b a =
+    g.choose.ensures ∙ ap (λ (z : ℕ). cond first b z) is in
+    let low : h.shift-rest.result ≡ cond first b a / 2 ^ (cond first x y - cond first y x) =
+    h.shift-rest.ensures
     ∙ ap₂ (λ (o d : ℕ). o / 2 ^ d) rest
-    (ap₂ (λ (e d : ℕ). e - d) f.choose.ensures h.before.choose3.ensures) in
-    either c.pack.result A C (p * 2 ^ s.args.p-exp) (m * 2 ^ s.args.c.exp * 2 ^ 1092) a x b
-    y u.signed-sum.result w.result (product-leads p s.args.p-exp)
+    (ap₂ (λ (e d : ℕ). e - d) f.choose-exp.ensures h.before.choose-2.ensures) in
+    either c.pack.result A C (p * 2 ^ s.args.p_exp) (m * 2 ^ s.args.c.exp * 2 ^ 1092) a x b
+    y u.signed_sum-sum.result w.result (product-leads p s.args.p_exp)
     (addend-leads m s.args.c.exp) first refl
-    (subst (λ (e : ℕ). Settles u.signed-sum.result e w.result) f.choose.ensures settled)
+    (subst (λ (e : ℕ). Settles u.signed_sum-sum.result e w.result) f.choose-exp.ensures settled)
     (subst (λ (d : ℕ).
-    u.signed-sum.result + cond (beq A C) 0 d ≡ cond first a b + cond (beq A C) d 0)
+    u.signed_sum-sum.result + cond (beq A C) 0 d ≡ cond first a b + cond (beq A C) d 0)
     low
-    (u.signed-sum.ensures settled.word
-    ∙ ap (λ (l : ℕ). l + cond (beq A C) h.shift.result 0) lead))
+    (u.signed_sum-sum.ensures settled.word
+    ∙ ap (λ (l : ℕ). l + cond (beq A C) h.shift-rest.result 0) lead))
     (c.pack.ensures
     ∙ ap (λ (z : Bool). units binary64 z w.result.sig w.result.exp)
-    i.choose-sign.ensures)
+    i.choose_sign.ensures)
 
-pub add-leading-spec : {M : Type 1} → statement M
-add-leading-spec =
+pub add_leading_spec : {M : Type 1} → statement M
+add_leading_spec =
     tie.close (tie.spec shift-right-requires (λ c. search rules) (λ c. search rules)
     (λ c. search rules) (λ c _. search rules) (λ c _. search rules) (λ c _. search rules) sub-shift
     (λ c _. search rules) (λ c _. search rules) signed-sum-requires settle-requires

@@ -11,13 +11,13 @@ within : (w m l : ℕ)
     → (q * 1024 < w + 512) × (w + m < q * 1024 + 512)
 within w m l e h = (omega arith, omega arith)
 
-returns : tie.Need-returns
+returns : tie.Need-returns-then-w-q
 returns c =
-    let h = both c.if1.true in
+    let h = both c.if-w-q.true in
     let r = within c.before.args.w c.before.args.m _ (eqb-true _ _ h.0) (lit< tt) in
     λ g. (ltb-true _ _ h.1, r.0, r.1)
 
-pub nearest-to-all-spec : {M : Type 1} → statement M
-nearest-to-all-spec =
+pub nearest_to_all_spec : {M : Type 1} → statement M
+nearest_to_all_spec =
     tie.close (tie.spec (λ c. search rules) (λ c. search rules) (λ c. search rules) returns
     (λ c. search rules))

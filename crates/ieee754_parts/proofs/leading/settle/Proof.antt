@@ -76,36 +76,36 @@ module _ (sum exp q : ℕ) (least : 2 ^ 60 < sum) (short : sum < 2 ^ 63) (high :
       }
 
 -- ---- the function
-tests : (c : tie.Then1)
+tests : (c : tie.Then-sum-exp)
     → (2 ^ 60 < c.before.args.sum)
     × (c.before.args.sum < 2 ^ 63)
     × (1083 < c.before.args.exp)
 tests c =
-    let h = both c.if1.true in
+    let h = both c.if-sum-exp.true in
     let g = both h.0 in
     (ltb-true _ _ g.0, ltb-true _ _ g.1, ltb-true _ _ h.1)
 
-count : (c : tie.Then1)
+count : (c : tie.Then-sum-exp)
     → (1 ≤ count_leading_zeros 64 (c.before.args.sum - 1))
     × (count_leading_zeros 64 (c.before.args.sum - 1) ≤ 3)
 count c = let t = tests c in zeros (c.before.args.sum - 1) (omega arith) (omega arith)
 
-sub_low : tie.Need-overflow-sub-low
+sub_low : tie.Need-overflow_sub-low
 sub_low c = let t = tests c in omega arith
 
-cast-n : tie.Need-overflow-cast-n
+cast-n : tie.Need-overflow_cast-n
 cast-n c = omega (arith, count c)
 
-sub-n : tie.Need-overflow-sub-n
+sub-n : tie.Need-overflow_sub-n
 sub-n c = (count c).0
 
-shl-nearest-to-all : tie.Need-overflow-shl-nearest-to-all
+shl-nearest-to-all : tie.Need-overflow_shl-low
 shl-nearest-to-all c = omega (arith, count c)
 
-shl-nearest-to-all-2 : tie.Need-overflow-shl-nearest-to-all-2
+shl-nearest-to-all-2 : tie.Need-overflow_shl-n
 shl-nearest-to-all-2 c = omega (arith, count c)
 
-nearest-to-all-requires : tie.Need-nearest-to-all-requires
+nearest-to-all-requires : tie.Need-nearest_to_all-requires
 nearest-to-all-requires c κs =
     let t = tests c in
     let low = c.before.args.sum - 1 in
@@ -115,17 +115,17 @@ nearest-to-all-requires c κs =
       subst (λ (x : ℕ). x < 2 ^ 9) (sym (margin-same low a b)) (margin low a b),
     )
 
-sub-t15 : tie.Need-overflow-sub-t15
+sub-t15 : tie.Need-overflow_sub-result
 sub-t15 c = omega (arith, count c.before, tests c.before)
 
-sub-t16 : tie.Need-overflow-sub-t16
+sub-t16 : tie.Need-overflow_sub-result-then-sum-exp
 sub-t16 c = omega (arith, count c.before, tests c.before)
 
-returns : tie.Need-returns
+returns : tie.Need-returns-then-sum-exp
 returns c =
     let t = tests c.before in
     let s = c.before.before in
-    let r = c.nearest-to-all in
+    let r = c.nearest_to_all in
     let low = s.args.sum - 1 in
     let a : 2 ^ 60 ≤ low = omega arith in
     let b : low < 2 ^ 63 = omega arith in
@@ -137,10 +137,10 @@ returns c =
     (subst (λ (y : ℕ). e (low * 2 ^ up low % 2 ^ 64) y r.result)
     (margin-same low a b) (r.ensures g)))
 
-returns-2 : tie.Need-returns-2
+returns-2 : tie.Need-returns-else-sum-exp
 returns-2 c = λ g. absurd (omega (arith, g))
 
-pub settle-spec : {M : Type 1} → statement M
-settle-spec =
+pub settle_spec : {M : Type 1} → statement M
+settle_spec =
     tie.close (tie.spec sub_low cast-n sub-n shl-nearest-to-all shl-nearest-to-all-2
     nearest-to-all-requires sub-t15 sub-t16 returns returns-2)

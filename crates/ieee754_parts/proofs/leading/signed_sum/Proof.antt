@@ -16,17 +16,17 @@ unlike : (same : Bool) (a b r : ℕ)
 unlike same a b r h l e g =
     let short : r + b < 2 ^ 64 = omega arith in rw h (omega (arith, e, mod-eq_of_lt short))
 
-returns : tie.Need-returns
-returns c = let s = c.before.args in λ g. like s.same s.a s.b c.if1.true
+returns : tie.Need-returns-then-same
+returns c = let s = c.before.args in λ g. like s.same s.a s.b c.if-same.true
 
-returns-2 : tie.Need-returns-2
+returns-2 : tie.Need-returns-else-same
 returns-2 c =
     let f = c.before in
     let s = f.before in
-    let r = c.wrapping-sub-u64 in
-    unlike s.args.same s.args.a s.args.b r.result f.if1.false s.requires.1
+    let r = c.wrapping_sub_u64 in
+    unlike s.args.same s.args.a s.args.b r.result f.if-same.false s.requires.1
     r.ensures
 
-pub signed-sum-spec : {M : Type 1} → statement M
-signed-sum-spec =
+pub signed_sum_spec : {M : Type 1} → statement M
+signed_sum_spec =
     tie.close (tie.spec (λ c. search rules) (λ c _. search rules) returns returns-2)

@@ -33,46 +33,46 @@ lowest : (n e : ℕ) → n < 2 ^ 52 → (0 < e → 2 ^ 52 ≤ n) → e ≡ 0
 lowest n e l f = ⊎_elim lt-one (λ (g : 1 ≤ e). absurd (not-le_of_lt l (f g))) (lt-or-ge e 1)
 
 -- ---- the function
-count : (c : tie.Else1)
+count : (c : tie.Else-sig-ge-LEADING)
     → (count_leading_zeros 64 c.before.args.sig ≤ 63) × (12 ≤ count_leading_zeros 64 c.before.args.sig)
-count c = zeros c.before.args.sig c.before.requires.1 c.if1.false
+count c = zeros c.before.args.sig c.before.requires.1 c.if-sig-ge-LEADING.false
 
-sub-t7 : tie.Need-overflow-sub-t7
+sub-t7 : tie.Need-overflow_sub-result
 sub-t7 c = omega (arith, count c)
 
-cast-t8 : tie.Need-overflow-cast-t8
+cast-t8 : tie.Need-overflow_cast-result
 cast-t8 c = omega (arith, count c)
 
-shl-t9 : tie.Need-overflow-shl-t9
+shl-t9 : tie.Need-overflow_shl-result
 shl-t9 c = omega (arith, count c)
 
-cast-t10 : tie.Need-overflow-cast-t10
+cast-t10 : tie.Need-overflow_cast-result-else-sig-ge-LEADING
 cast-t10 c = omega (arith, count c)
 
-sub-t11 : tie.Need-overflow-sub-t11
+sub-t11 : tie.Need-overflow_sub-result-else-sig-ge-LEADING
 sub-t11 c = omega (arith, count c)
 
-returns : tie.Need-returns
+returns : tie.Need-returns-then-sig-ge-LEADING
 returns c =
     let s = c.before in
     let m = s.args.sig in
     let e = s.args.exp in
     record {
-      low = c.if1.true;
+      low = c.if-sig-ge-LEADING.true;
       high = s.requires.0.short;
       within = search rules;
       same = sym (shl-shl m e 52 (e + 52) refl);
     }
 
-returns-2 : tie.Need-returns-2
+returns-2 : tie.Need-returns-else-sig-ge-LEADING
 returns-2 c =
     let s = c.before in
     let n = s.args.sig in
     let z = count_leading_zeros 64 n in
-    let w = same n s.requires.1 c.if1.false in
-    let m = moved n s.requires.1 c.if1.false in
+    let w = same n s.requires.1 c.if-sig-ge-LEADING.false in
+    let m = moved n s.requires.1 c.if-sig-ge-LEADING.false in
     let k = count c in
-    let e : s.args.exp ≡ 0 = lowest n s.args.exp c.if1.false s.requires.0.full in
+    let e : s.args.exp ≡ 0 = lowest n s.args.exp c.if-sig-ge-LEADING.false s.requires.0.full in
     record {
       low = subst (λ (x : ℕ). 2 ^ 52 ≤ x) (sym w) m.0;
       high = subst (λ (x : ℕ). x < 2 ^ 53) (sym w) m.1;
@@ -82,7 +82,7 @@ returns-2 c =
           ∙ raised n s.args.exp (z - 11) (63 - z) (omega arith);
     }
 
-pub normalise-spec : {M : Type 1} → statement M
-normalise-spec =
+pub normalise_spec : {M : Type 1} → statement M
+normalise_spec =
     tie.close (tie.spec (λ c. search rules) sub-t7 cast-t8 shl-t9 cast-t10 sub-t11 returns
     returns-2)

@@ -71,51 +71,51 @@ moved h l k e z g =
 nothing : (h l e : ℕ) → h ≡ 0 → l ≡ 0 → 0 * 2 ^ 0 ≡ (h * 2 ^ 64 + l) * 2 ^ e
 nothing h l e y z = sym (zero-mul (2 ^ e)) ∙ ap (λ (x : ℕ). x * 2 ^ e) (omega arith)
 
-cast-n : tie.Need-overflow-cast-n
+cast-n : tie.Need-overflow_cast-n
 cast-n c =
     let after-struct-known = c.before.before in
     let start = after-struct-known.before in
     zeros-fits start.args.v.hi
 
-sub-n : tie.Need-overflow-sub-n
+sub-n : tie.Need-overflow_sub-n
 sub-n c =
     let after-struct-known = c.before.before in
     let start = after-struct-known.before in
     leading_le 64 start.args.v.hi
 
-cast-n-2 : tie.Need-overflow-cast-n-2
+cast-n-2 : tie.Need-overflow_cast-n-then-v-ne0-2
 cast-n-2 c =
     let after-struct-known3 = c.before.before in
     let after-struct-known = after-struct-known3.before.before in
     let start = after-struct-known.before in
     zeros-fits start.args.v.lo
 
-shl-t13 : tie.Need-overflow-shl-t13
+shl-t13 : tie.Need-overflow_shl-result
 shl-t13 c =
     let then2 = c.before.before in
     let else1 = then2.before.before in
     let s = else1.before.before in
-    zeros-lt 64 64 s.args.v.lo (pos_of_ne-zero then2.if2.true)
-    c.struct-known5.given.1.0.fits (lit≤ tt)
+    zeros-lt 64 64 s.args.v.lo (pos_of_ne-zero then2.if-v-ne0-2.true)
+    c.struct_known-then-v-ne0-2-2-1.given.1.0.fits (lit≤ tt)
 
-sub-t14 : tie.Need-overflow-sub-t14
+sub-t14 : tie.Need-overflow_sub-result
 sub-t14 c =
     let then2 = c.before.before in
     let else1 = then2.before.before in
     let s = else1.before.before in
     le_trans (leading_le 64 s.args.v.lo) s.requires.0
 
-returns : tie.Need-returns
+returns : tie.Need-returns-then-v-ne0
 returns c =
     let then1 = c.before.before in
     let s = then1.before.before in
     let v = s.args.v in
     let k = 64 - zeros v.hi in
-    let t = c.jam_wide.result in
-    let r = c.before.struct-known2.given in
-    let b = two-words v.hi v.lo then1.if1.true r.0.fits r.1.0.fits in
+    let t = c.jam_wide-top.result in
+    let r = c.before.struct_known-then-v-ne0-1.given in
+    let b = two-words v.hi v.lo then1.if-v-ne0.true r.0.fits r.1.0.fits in
     let e : t.lo ≡ jam k (v.hi * 2 ^ 64 + v.lo) =
-    low-is t.hi t.lo (jam k (v.hi * 2 ^ 64 + v.lo)) c.jam_wide.ensures b.1 in
+    low-is t.hi t.lo (jam k (v.hi * 2 ^ 64 + v.lo)) c.jam_wide-top.ensures b.1 in
     record {
       alike = λ g. cut-alike g t.lo (v.hi * 2 ^ 64 + v.lo) k s.args.exp e b.0;
       top = λ _. subst (λ (x : ℕ). 2 ^ 63 ≤ x) (sym e) b.0;
@@ -125,20 +125,20 @@ returns c =
     within : (e z : ℕ) → e + (64 - z) ≤ e + 64
     within e z = omega arith
 
-returns-2 : tie.Need-returns-2
+returns-2 : tie.Need-returns-then-v-ne0-2
 returns-2 c =
     let then2 = c.before.before in
     let else1 = then2.before.before in
     let s = else1.before.before in
     let v = s.args.v in
-    let b = one_word v.lo then2.if2.true c.struct-known5.given.1.0.fits in
+    let b = one_word v.lo then2.if-v-ne0-2.true c.struct_known-then-v-ne0-2-2-1.given.1.0.fits in
     let w : v.lo * 2 ^ zeros v.lo % 2 ^ 64 ≡ v.lo * 2 ^ zeros v.lo = mod-eq_of_lt b.1 in
     let g = le_trans (leading_le 64 v.lo) s.requires.0 in
     record {
       alike = λ t.
           ap (rounded t)
           (ap (λ (x : ℕ). x * 2 ^ (s.args.exp - zeros v.lo)) w
-          ∙ moved v.hi v.lo (zeros v.lo) s.args.exp else1.if1.false g);
+          ∙ moved v.hi v.lo (zeros v.lo) s.args.exp else1.if-v-ne0.false g);
       top = λ _. subst (λ (x : ℕ). 2 ^ 63 ≤ x) (sym w) b.0;
       within = within s.args.exp (zeros v.lo);
     }
@@ -146,19 +146,19 @@ returns-2 c =
     within : (e z : ℕ) → e - z ≤ e + 64
     within e z = omega arith
 
-returns-3 : tie.Need-returns-3
+returns-3 : tie.Need-returns-else-v-ne0-2
 returns-3 c =
     let else1 = c.before.before in
     let s = else1.before.before in
     let v = s.args.v in
     record {
       alike = λ t.
-          ap (rounded t) (nothing v.hi v.lo s.args.exp else1.if1.false c.if2.false);
+          ap (rounded t) (nothing v.hi v.lo s.args.exp else1.if-v-ne0.false c.if-v-ne0-2.false);
       top = λ h. search rules;
       within = search rules;
     }
 
-pub normalise-wide-spec : {M : Type 1} → statement M
-normalise-wide-spec =
+pub normalise_wide_spec : {M : Type 1} → statement M
+normalise_wide_spec =
     tie.close (tie.spec cast-n sub-n (λ c _. search rules) (λ c. search rules) cast-n-2 shl-t13
     sub-t14 returns returns-2 returns-3)

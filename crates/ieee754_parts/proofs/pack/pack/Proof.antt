@@ -27,11 +27,11 @@ returns : tie.Need-returns
 returns c =
     let s = c.before.before in
     let k = c.before.capped in
-    c.with-sign.ensures
+    c.with_sign.ensures
     ∙ packed s.args.negative s.args.sig s.args.exp k.result s.requires.0 s.requires.1
     k.ensures
 
-pub pack-spec : {M : Type 1} → statement M
-pack-spec =
+pub pack_spec : {M : Type 1} → statement M
+pack_spec =
     tie.close (tie.spec (λ c. search rules) (λ c. search rules) (λ c _. search rules)
     (λ c _. search rules) returns)

@@ -22,20 +22,20 @@ no_nan : (s : Bool) (g b : ℕ)
 no_nan s g b e h =
     subst (λ (x : ℕ). T (not (nan_bits binary64 (x + b)))) (sym e) (no-nan-signed binary64 s b h)
 
-add-result : tie.Need-overflow-add-result
+add-result : tie.Need-overflow_add-result
 add-result c =
     let s = c.before in
-    signed-fits s.args.negative c.sign-bit.result s.args.bits c.sign-bit.ensures
+    signed-fits s.args.negative c.sign_bit.result s.args.bits c.sign_bit.ensures
     s.requires
 
-float-from-bits-result : tie.Need-float-from-bits-result
+float-from-bits-result : tie.Need-float_from_bits-result
 float-from-bits-result c =
     let s = c.before in
-    no_nan s.args.negative c.sign-bit.result s.args.bits c.sign-bit.ensures s.requires
+    no_nan s.args.negative c.sign_bit.result s.args.bits c.sign_bit.ensures s.requires
 
 returns : tie.Need-returns
-returns c = ap (λ (g : ℕ). of_bits binary64 (g + c.before.args.bits)) c.sign-bit.ensures
+returns c = ap (λ (g : ℕ). of_bits binary64 (g + c.before.args.bits)) c.sign_bit.ensures
 
-pub with-sign-spec : {M : Type 1} → statement M
-with-sign-spec =
+pub with_sign_spec : {M : Type 1} → statement M
+with_sign_spec =
     tie.close (tie.spec (λ c _. search rules) add-result float-from-bits-result returns)

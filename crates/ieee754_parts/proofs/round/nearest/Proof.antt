@@ -28,6 +28,6 @@ returns c =
     let w = c.args.w in
     by-rest (w / 2 ^ 11) (w % 2 ^ 11) _ (λ h. omega arith) (λ h. omega arith) (λ h. omega arith)
 
-pub nearest-spec : {M : Type 1} → statement M
-nearest-spec =
+pub nearest_spec : {M : Type 1} → statement M
+nearest_spec =
     tie.close (tie.spec (λ c. search rules) (λ c. search rules) (λ c. search rules) returns)

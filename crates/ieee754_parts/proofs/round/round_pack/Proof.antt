@@ -57,17 +57,17 @@ pack-requires c κs =
 raised : (e : ℕ) → 0 < e - 1081 → 1081 < e
 raised e h = omega arith
 
-pack-requires-2 : tie.Need-pack-requires-2
+pack-requires-2 : tie.Need-pack-requires-else-exp-lt1081
 pack-requires-2 c κs =
     let s = c.before.before in
     let w = s.args.w in (
-      short w c.nearest2.result s.ranges.w.fits c.nearest2.ensures,
+      short w c.nearest-else-exp-lt1081.result s.ranges.w.fits c.nearest-else-exp-lt1081.ensures,
       λ h.
-          full w c.nearest2.result (s.requires.1 (raised s.args.exp h)) c.nearest2.ensures,
+          full w c.nearest-else-exp-lt1081.result (s.requires.1 (raised s.args.exp h)) c.nearest-else-exp-lt1081.ensures,
       search rules,
     )
 
-returns : tie.Need-returns
+returns : tie.Need-returns-then-exp-lt1081
 returns c =
     let n = c.before in
     let then1 = n.before.before in
@@ -77,20 +77,20 @@ returns c =
     c.pack.ensures
     ∙ packed s.args.negative j.result 0 n.nearest.result l
     (λ h. absurd (omega (arith, h))) n.nearest.ensures
-    ∙ cut-alike s.args.negative s.args.w s.args.exp j.result then1.if1.true
+    ∙ cut-alike s.args.negative s.args.w s.args.exp j.result then1.if-exp-lt1081.true
     j.ensures
 
-returns-2 : tie.Need-returns-2
+returns-2 : tie.Need-returns-else-exp-lt1081
 returns-2 c =
     let n = c.before in
     let s = n.before.before in
-    c.pack2.ensures
-    ∙ packed s.args.negative s.args.w (s.args.exp - 1081) n.nearest2.result
-    s.ranges.w.fits (λ h. s.requires.1 (raised s.args.exp h)) n.nearest2.ensures
+    c.pack-else-exp-lt1081.ensures
+    ∙ packed s.args.negative s.args.w (s.args.exp - 1081) n.nearest-else-exp-lt1081.result
+    s.ranges.w.fits (λ h. s.requires.1 (raised s.args.exp h)) n.nearest-else-exp-lt1081.ensures
     ∙ ap (λ (x : ℕ). rounded s.args.negative (s.args.w * 2 ^ x))
-    (sub-add_cancel n.before.if1.false)
+    (sub-add_cancel n.before.if-exp-lt1081.false)
 
-pub round-pack-spec : {M : Type 1} → statement M
-round-pack-spec =
+pub round_pack_spec : {M : Type 1} → statement M
+round_pack_spec =
     tie.close (tie.spec (λ c. search rules) (λ c _. search rules) (λ c _. search rules)
     pack-requires (λ c _. search rules) pack-requires-2 returns returns-2)

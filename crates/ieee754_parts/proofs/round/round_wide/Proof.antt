@@ -5,9 +5,9 @@ use Rattle.ieee754_parts.proofs.round.round_wide.Tie as tie
 
 returns : tie.Need-returns
 returns c =
-    let n = c.before.normalise-wide in
-    c.round-pack.ensures ∙ n.ensures.alike c.before.before.args.negative
+    let n = c.before.normalise_wide-w in
+    c.round_pack.ensures ∙ n.ensures.alike c.before.before.args.negative
 
-pub round-wide-spec : {M : Type 1} → statement M
-round-wide-spec =
+pub round_wide_spec : {M : Type 1} → statement M
+round_wide_spec =
     tie.close (tie.spec (λ c _. search rules) (λ c _. search rules) returns)

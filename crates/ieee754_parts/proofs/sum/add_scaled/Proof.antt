@@ -133,12 +133,12 @@ room₁ h m a b = omega arith
 room₂ : (h g : ℕ) → h < 2 ^ 60 → g < 2 ^ 62 → h + g + 1 < 2 ^ 64
 room₂ h g a b = omega arith
 
-sum-aligned-requires : tie.Need-sum-aligned-requires
+sum-aligned-requires : tie.Need-sum_aligned-requires
 sum-aligned-requires c κs =
     let after-struct-known2 = c.before.before in
     let s = after-struct-known2.before.before in
     let j = c.jam_wide in
-    let k = s.args.c.exp + 1019 - s.args.p-exp in (
+    let k = s.args.c.exp + 1019 - s.args.p_exp in (
       room₁ j.result.hi s.args.c.sig
           (high-below 60 64 j.result.hi j.result.lo (jam k (value s.args.p))
           j.ensures (jam-no-longer k 123 (value s.args.p) s.requires.0.short))
@@ -153,21 +153,21 @@ sum-aligned-requires c κs =
     up : (x : ℕ) → x ≤ 2045 → x + 1019 < 4900
     up x h = omega arith
 
-sum-aligned-requires-2 : tie.Need-sum-aligned-requires-2
+sum-aligned-requires-2 : tie.Need-sum_aligned-requires-else-p_exp-q_exp
 sum-aligned-requires-2 c κs =
     let else1 = c.before in
     let after-struct-known = else1.before.before in
     let s = after-struct-known.before in
     let p = s.args.p in
     let m = s.args.c.sig in
-    let j = c.jam-wide2 in
-    let k = s.args.p-exp - (s.args.c.exp + 1019) in (
+    let j = c.jam_wide-else-p_exp-q_exp in
+    let k = s.args.p_exp - (s.args.c.exp + 1019) in (
       room₂ p.hi j.result.hi
           (high-below 60 64 p.hi p.lo (value p) refl s.requires.0.short)
           (high-below 62 64 j.result.hi j.result.lo (jam k (addend m)) j.ensures
           (jam-no-longer k 125 (addend m) (addend-lt m s.requires.1.short))),
-      low s.args.c.exp s.args.p-exp else1.if1.false,
-      up s.args.p-exp s.requires.0.within,
+      low s.args.c.exp s.args.p_exp else1.if-p_exp-q_exp.false,
+      up s.args.p_exp s.requires.0.within,
     )
   where
     low : (x e : ℕ) → x + 1019 ≤ e → 64 ≤ e
@@ -176,36 +176,36 @@ sum-aligned-requires-2 c κs =
     up : (e : ℕ) → e ≤ 4090 → e < 4900
     up e h = omega arith
 
-returns : tie.Need-returns
+returns : tie.Need-returns-then-p_exp-q_exp
 returns c =
     let f = c.before.before in
     let after-struct-known = f.before.before in
     let s = after-struct-known.before in
     let a = s.args in
     let j = c.before.jam_wide in
-    let r = c.sum-aligned in
-    cut_product r.result a.negative a.c.negative (value a.p) a.p-exp a.c.sig
-    a.c.exp (value j.result) s.requires.0.short s.requires.1.full f.if1.true
+    let r = c.sum_aligned in
+    cut_product r.result a.negative a.c.negative (value a.p) a.p_exp a.c.sig
+    a.c.exp (value j.result) s.requires.0.short s.requires.1.full f.if-p_exp-q_exp.true
     j.ensures r.ensures
 
 some : (x e : ℕ) → x + 1019 ≤ e → 0 < e
 some x e h = omega arith
 
-returns-2 : tie.Need-returns-2
+returns-2 : tie.Need-returns-else-p_exp-q_exp
 returns-2 c =
     let f = c.before.before in
     let after-struct-known = f.before.before in
     let s = after-struct-known.before in
     let a = s.args in
-    let j = c.before.jam-wide2 in
-    let r = c.sum-aligned2 in
-    let full = s.requires.0.full (some a.c.exp a.p-exp f.if1.false) in
-    cut-addend r.result a.negative a.c.negative (value a.p) a.p-exp a.c.sig
-    a.c.exp (value j.result) s.requires.1.short full s.requires.0.even f.if1.false
+    let j = c.before.jam_wide-else-p_exp-q_exp in
+    let r = c.sum_aligned-else-p_exp-q_exp in
+    let full = s.requires.0.full (some a.c.exp a.p_exp f.if-p_exp-q_exp.false) in
+    cut-addend r.result a.negative a.c.negative (value a.p) a.p_exp a.c.sig
+    a.c.exp (value j.result) s.requires.1.short full s.requires.0.even f.if-p_exp-q_exp.false
     j.ensures r.ensures
 
-pub add-scaled-spec : {M : Type 1} → statement M
-add-scaled-spec =
+pub add_scaled_spec : {M : Type 1} → statement M
+add_scaled_spec =
     tie.close (tie.spec (λ c. search rules) (λ c. search rules) (λ c. search rules)
     (λ c _. search rules) sum-aligned-requires (λ c _. search rules) sum-aligned-requires-2 returns
     returns-2)

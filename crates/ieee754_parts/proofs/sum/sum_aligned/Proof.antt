@@ -37,47 +37,47 @@ module _ (s : Bool) (a : ℕ) (t : Bool) (b e : ℕ) where
       → rounded (s && g) (v * 2 ^ e) ≡ summed s (a * 2 ^ e) t (b * 2 ^ e)
   not-below v g h l m x = let y : v ≡ a - b = omega arith in rw (y, scaled, h, l, m)
 
-sub-wide-requires : tie.Need-sub-wide-requires
+sub-wide-requires : tie.Need-sub_wide-requires
 sub-wide-requires c κs =
-    le_of_lt (ltb-true _ _ (sym c.before.less-wide.ensures ∙ c.if2.true))
+    le_of_lt (ltb-true _ _ (sym c.before.less_wide.ensures ∙ c.if-less_wide.true))
 
-sub-wide-requires-2 : tie.Need-sub-wide-requires-2
+sub-wide-requires-2 : tie.Need-sub_wide-requires-else-less_wide
 sub-wide-requires-2 c κs =
-    ltb-false _ _ (sym c.before.before.less-wide.ensures ∙ c.before.if2.false)
+    ltb-false _ _ (sym c.before.before.less_wide.ensures ∙ c.before.if-less_wide.false)
 
-returns : tie.Need-returns
+returns : tie.Need-returns-then-a_negative-b_negative
 returns c =
     let f = c.before.before in
     let s = f.before.args in
     let v = c.before.add_wide in
-    c.round-wide.ensures
-    ∙ like s.a-negative (value s.a) s.b-negative (value s.b) s.exp
-    (value v.result) f.if1.true v.ensures
+    c.round_wide.ensures
+    ∙ like s.a_negative (value s.a) s.b_negative (value s.b) s.exp
+    (value v.result) f.if-a_negative-b_negative.true v.ensures
 
-returns-2 : tie.Need-returns-2
+returns-2 : tie.Need-returns-then-less_wide
 returns-2 c =
     let then2 = c.before.before in
     let f = then2.before in
     let s = f.before.before.args in
     let v = c.before.sub_wide in
-    c.round-wide2.ensures
-    ∙ below s.a-negative (value s.a) s.b-negative (value s.b) s.exp
-    (value v.result) f.before.if1.false (sym f.less-wide.ensures ∙ then2.if2.true)
+    c.round_wide-then-less_wide.ensures
+    ∙ below s.a_negative (value s.a) s.b_negative (value s.b) s.exp
+    (value v.result) f.before.if-a_negative-b_negative.false (sym f.less_wide.ensures ∙ then2.if-less_wide.true)
     v.ensures
 
-returns-3 : tie.Need-returns-3
+returns-3 : tie.Need-returns-else-less_wide
 returns-3 c =
     let g = c.before.before in
     let f = g.before.before in
     let s = f.before.before.args in
-    let v = c.before.sub-wide2 in
-    c.round-wide3.ensures
-    ∙ not-below s.a-negative (value s.a) s.b-negative (value s.b) s.exp
-    (value v.result) g.less-wide2.result f.before.if1.false
-    (sym f.less-wide.ensures ∙ g.before.if2.false) g.less-wide2.ensures v.ensures
+    let v = c.before.sub_wide-else-less_wide in
+    c.round_wide-else-less_wide.ensures
+    ∙ not-below s.a_negative (value s.a) s.b_negative (value s.b) s.exp
+    (value v.result) g.less_wide-else-less_wide.result f.before.if-a_negative-b_negative.false
+    (sym f.less_wide.ensures ∙ g.before.if-less_wide.false) g.less_wide-else-less_wide.ensures v.ensures
 
-pub sum-aligned-spec : {M : Type 1} → statement M
-sum-aligned-spec =
+pub sum_aligned_spec : {M : Type 1} → statement M
+sum_aligned_spec =
     tie.close (tie.spec (λ c _. search rules) (λ c _. search rules) (λ c _. search rules)
     sub-wide-requires (λ c _. search rules) (λ c _. search rules) sub-wide-requires-2
     (λ c _. search rules) returns returns-2 returns-3)

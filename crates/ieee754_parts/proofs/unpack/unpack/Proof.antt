@@ -9,16 +9,16 @@ use Rattle.ieee754_parts.proofs.Reading.{finite-not-nan}
 use Rattle.ieee754_parts.proofs.unpack.unpack.Statement.{statement}
 use Rattle.ieee754_parts.proofs.unpack.unpack.Tie as tie
 
-float-to-bits-bits : tie.Need-float-to-bits-bits
+float-to-bits-bits : tie.Need-float_to_bits-bits
 float-to-bits-bits c = finite-not-nan c.args.x c.requires
 
-returns : tie.Need-returns
+returns : tie.Need-returns-then-field-eq0
 returns c =
     let x = c.before.args.x in
     record {
       is =
-          read-lowest binary64 x (passes _ c.before.well-formed.0.1) _
-          (field (to_bits binary64 x) 11 52) c.if1.true;
+          read-lowest binary64 x (passes _ c.before.well_formed.0.1) _
+          (field (to_bits binary64 x) 11 52) c.if-field-eq0.true;
       digits = record {
         short = short (to_bits binary64 x);
         full = λ h. search rules;
@@ -29,13 +29,13 @@ returns c =
     short : (b : ℕ) → b % 2 ^ 52 < 2 ^ 53
     short b = omega arith
 
-returns-2 : tie.Need-returns-2
+returns-2 : tie.Need-returns-else-field-eq0
 returns-2 c =
     let x = c.before.args.x in
     let b = to_bits binary64 x in
     let v =
-    read-higher binary64 x (passes _ c.before.well-formed.0.1) _ (field b 11 52) c.before.requires
-    c.if1.false in
+    read-higher binary64 x (passes _ c.before.well_formed.0.1) _ (field b 11 52) c.before.requires
+    c.if-field-eq0.false in
     record {
       is = v.0;
       digits = record {
@@ -48,7 +48,7 @@ returns-2 c =
     within : (b : ℕ) → (b / 2 ^ 52 % 2 ^ 11 ≡ 2047 → ⊥) → b / 2 ^ 52 % 2 ^ 11 - 1 ≤ 2045
     within b h = omega arith
 
-pub unpack-spec : {M : Type 1} → statement M
-unpack-spec =
+pub unpack_spec : {M : Type 1} → statement M
+unpack_spec =
     tie.close (tie.spec float-to-bits-bits (λ c. search rules) (λ c. search rules) returns
     returns-2)

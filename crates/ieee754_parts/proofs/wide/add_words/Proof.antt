@@ -4,24 +4,24 @@ use Rattle.ieee754_parts.proofs.Carry.{carried, not_carried}
 use Rattle.ieee754_parts.proofs.wide.add_words.Statement.{statement}
 use Rattle.ieee754_parts.proofs.wide.add_words.Tie as tie
 
-returns : tie.Need-returns
+returns : tie.Need-returns-then-lo-b
 returns c =
     let s = c.before.before in
-    let r = c.before.wrapping-add-u64 in (
+    let r = c.before.wrapping_add_u64-lo in (
       search rules,
       carried 64 s.args.a s.args.b s.ranges.a.fits s.ranges.b.fits r.result
           r.ensures (omega arith),
     )
 
-returns-2 : tie.Need-returns-2
+returns-2 : tie.Need-returns-else-lo-b
 returns-2 c =
     let s = c.before.before in
-    let r = c.before.wrapping-add-u64 in (
+    let r = c.before.wrapping_add_u64-lo in (
       search rules,
       not_carried 64 s.args.a s.args.b s.ranges.a.fits s.ranges.b.fits r.result
           r.ensures (omega arith),
     )
 
-pub add-words-spec : {M : Type 1} → statement M
-add-words-spec =
+pub add_words_spec : {M : Type 1} → statement M
+add_words_spec =
     tie.close (tie.spec (λ c _. search rules) returns returns-2)

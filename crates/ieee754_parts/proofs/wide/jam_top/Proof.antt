@@ -17,18 +17,18 @@ some-lost w h l b n =
     let e : (h * 2 ^ w + l) / 2 ^ w * 2 ^ w ≡ h * 2 ^ w = ap (λ (x : ℕ). x * 2 ^ w) (high h w b) in
     ap (λ (x : ℕ). bit_or x 1) (sym (high h w b)) ∙ jam-lost w (h * 2 ^ w + l) (λ f. n (omega arith))
 
-returns : tie.Need-returns
+returns : tie.Need-returns-then-v-eq0
 returns c =
     let v = c.before.before.args.v in
-    none-lost 64 v.hi v.lo c.before.struct_known.given.1.0.fits c.if1.true
+    none-lost 64 v.hi v.lo c.before.struct_known-1.given.1.0.fits c.if-v-eq0.true
 
-returns-2 : tie.Need-returns-2
+returns-2 : tie.Need-returns-else-v-eq0
 returns-2 c =
     let after-struct-known = c.before.before in
     let start = after-struct-known.before in
     let v = start.args.v in
-    some-lost 64 v.hi v.lo after-struct-known.struct_known.given.1.0.fits
-    c.before.if1.false
+    some-lost 64 v.hi v.lo after-struct-known.struct_known-1.given.1.0.fits
+    c.before.if-v-eq0.false
 
-pub jam-top-spec : {M : Type 1} → statement M
-jam-top-spec = tie.close (tie.spec returns returns-2)
+pub jam_top_spec : {M : Type 1} → statement M
+jam_top_spec = tie.close (tie.spec returns returns-2)

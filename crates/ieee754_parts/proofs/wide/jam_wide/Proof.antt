@@ -33,36 +33,36 @@ top k n t r b d e =
       ap (λ (x : ℕ). jam x n) (add-sub_of_le b),
     )
 
-add-t11 : tie.Need-overflow-add-t11
+add-t11 : tie.Need-overflow_add-result
 add-t11 c =
     let after-struct-known = c.before.before in
     let t = after-struct-known.before in
     let s = t.before.before in
-    low_fits s.args.k s.args.v.hi s.args.v.lo c.jam.result t.if2.true
-    c.jam.ensures after-struct-known.struct_known.given.1.0.fits
+    low_fits s.args.k s.args.v.hi s.args.v.lo c.jam.result t.if-k-lt64.true
+    c.jam.ensures after-struct-known.struct_known-1.given.1.0.fits
 
-returns : tie.Need-returns
+returns : tie.Need-returns-then-k-eq0
 returns c =
     let v = c.before.args.v in
-    whole c.before.args.k (v.hi * 2 ^ 64 + v.lo) c.if1.true
+    whole c.before.args.k (v.hi * 2 ^ 64 + v.lo) c.if-k-eq0.true
 
-returns-2 : tie.Need-returns-2
+returns-2 : tie.Need-returns-then-k-lt64
 returns-2 c =
     let after-struct-known = c.before.before in
     let t = after-struct-known.before in
     let s = t.before.before in
-    words s.args.k s.args.v.hi s.args.v.lo c.jam.result t.if2.true
+    words s.args.k s.args.v.hi s.args.v.lo c.jam.result t.if-k-lt64.true
     c.jam.ensures
 
-returns-3 : tie.Need-returns-3
+returns-3 : tie.Need-returns-else-k-lt64
 returns-3 c =
     let t = c.before.before in
     let s = t.before.before in
-    top s.args.k (s.args.v.hi * 2 ^ 64 + s.args.v.lo) c.before.jam-top.result
-    c.jam2.result t.if2.false c.before.jam-top.ensures c.jam2.ensures
+    top s.args.k (s.args.v.hi * 2 ^ 64 + s.args.v.lo) c.before.jam_top.result
+    c.jam-else-k-lt64.result t.if-k-lt64.false c.before.jam_top.ensures c.jam-else-k-lt64.ensures
 
-pub jam-wide-spec : {M : Type 1} → statement M
-jam-wide-spec =
+pub jam_wide_spec : {M : Type 1} → statement M
+jam_wide_spec =
     tie.close (tie.spec (λ c. search rules) (λ c. search rules) (λ c. search rules)
     (λ c _. search rules) add-t11 (λ c _. search rules) (λ c _. search rules) returns returns-2
     returns-3)

@@ -116,28 +116,28 @@ module _ (c : tie.Start) where
   low-high-c : c.args.a % 2 ^ 32 * (c.args.b / 2 ^ 32) < 2 ^ 62
   low-high-c = low-high c.args.a c.args.b c.requires.1
 
-mul_low : tie.Need-overflow-mul-low
+mul_low : tie.Need-overflow_mul-low
 mul_low c = Fits-bits (32 + 32) tt (low-low-c c)
 
-mul-cross : tie.Need-overflow-mul-cross
+mul-cross : tie.Need-overflow_mul-cross
 mul-cross c = Fits-bits (30 + 32) tt (high-low-c c)
 
-mul-other : tie.Need-overflow-mul-other
+mul-other : tie.Need-overflow_mul-other
 mul-other c = Fits-bits (32 + 30) tt (low-high-c c)
 
-add-first : tie.Need-overflow-add-first
+add-first : tie.Need-overflow_add-first
 add-first c =
     sum_fits _ _ (omega (arith, low-low-c c)) (omega (arith, high-low-c c, low-high-c c))
 
-add-second : tie.Need-overflow-add-second
+add-second : tie.Need-overflow_add-second
 add-second c = sum_fits _ _ (omega arith) (omega (arith, high-low-c c, low-high-c c))
 
-add-wrapping-add-u64 : tie.Need-overflow-add-wrapping-add-u64
+add-wrapping-add-u64 : tie.Need-overflow_add-cross
 add-wrapping-add-u64 c =
     sum_fits _ _ (omega (arith, high-low-c c, low-high-c c))
     (omega (arith, high-low-c c, low-high-c c))
 
-mul-t13 : tie.Need-overflow-mul-t13
+mul-t13 : tie.Need-overflow_mul-result
 mul-t13 c =
     let s = c.before in
     Fits-bits (30 + 30) tt (high-high s.args.a s.args.b s.requires.0 s.requires.1)
@@ -152,12 +152,12 @@ high-word-lt : (a b : ℕ)
 high-word-lt a b h g =
     upper_lt _ _ (high-high a b h g) (first-lt _ _ (low-low a b) (high-low a b h))
 
-add-t15 : tie.Need-overflow-add-t15
+add-t15 : tie.Need-overflow_add-result
 add-t15 c =
     let s = c.before in
     Fits-bits 61 tt (high-word-lt s.args.a s.args.b s.requires.0 s.requires.1)
 
-add-t17 : tie.Need-overflow-add-t17
+add-t17 : tie.Need-overflow_add-result-2
 add-t17 c =
     let s = c.before in
     let a = s.args.a in
@@ -171,13 +171,13 @@ returns c =
     let s = c.before in
     let a = s.args.a in
     let b = s.args.b in
-    let r = c.wrapping-add-u64 in
+    let r = c.wrapping_add_u64-lo in
     let l = a % 2 ^ 32 * (b % 2 ^ 32) in
     carries (a / 2 ^ 32 * (b / 2 ^ 32)) l (a / 2 ^ 32 * (b % 2 ^ 32)) (a % 2 ^ 32 * (b / 2 ^ 32))
     r.result (low-low a b) r.ensures
     ∙ product-of-words 32 a b 0 (l + middle 32 a b * 2 ^ 32 % 2 ^ 64) (omega arith)
 
-pub product-spec : {M : Type 1} → statement M
-product-spec =
+pub product_spec : {M : Type 1} → statement M
+product_spec =
     tie.close (tie.spec mul_low mul-cross mul-other add-first add-second add-wrapping-add-u64
     (λ c _. search rules) mul-t13 add-t15 add-t17 returns)

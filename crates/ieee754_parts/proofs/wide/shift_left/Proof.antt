@@ -22,6 +22,6 @@ returns c =
     subst (λ (x : ℕ). w / 2 ^ (64 - k) * 2 ^ x + w * 2 ^ k % 2 ^ x ≡ w * 2 ^ k)
     whole (raised (64 - k) k w)
 
-pub shift-left-spec : {M : Type 1} → statement M
-shift-left-spec =
+pub shift_left_spec : {M : Type 1} → statement M
+shift_left_spec =
     tie.close (tie.spec (λ c. search rules) (λ c. search rules) (λ c. search rules) returns)

@@ -6,21 +6,21 @@ use Rattle.ieee754_parts.proofs.wide.sub_wide.Statement.{statement}
 use Rattle.ieee754_parts.proofs.wide.sub_wide.Tie as tie
 
 -- where there is a borrow
-more : (c : tie.Then1)
+more : (c : tie.Then-a-b)
     → let known = c.before.before in let s = known.before.before.args in s.b.hi < s.a.hi
 more c =
     let after-struct-known = c.before.before in
     let s = after-struct-known.before.before in
-    high_lt 64 s.args.a.hi s.args.a.lo s.args.b.hi s.args.b.lo c.if1.true
+    high_lt 64 s.args.a.hi s.args.a.lo s.args.b.hi s.args.b.lo c.if-a-b.true
     s.requires
 
 one_more : (a b : ℕ) → b < a → 1 ≤ a - b
 one_more a b h = omega arith
 
-sub-t6 : tie.Need-overflow-sub-t6
+sub-t6 : tie.Need-overflow_sub-result
 sub-t6 c = le_of_lt (more c.before.before)
 
-sub-t7 : tie.Need-overflow-sub-t7
+sub-t7 : tie.Need-overflow_sub-result-then-a-b
 sub-t7 c =
     let then1 = c.before.before in
     let after-struct-known = then1.before.before in
@@ -28,39 +28,39 @@ sub-t7 c =
     one_more s.args.a.hi s.args.b.hi (more then1)
 
 -- where there is none
-no_less : (c : tie.Else1)
+no_less : (c : tie.Else-a-b)
     → let known = c.before.before in let s = known.before.before.args in s.b.hi ≤ s.a.hi
 no_less c =
     let after-struct-known = c.before.before in
     let s = after-struct-known.before.before in
     high_le 64 s.args.a.hi s.args.a.lo s.args.b.hi s.args.b.lo
-    after-struct-known.struct_known.given.1.0.fits s.requires
+    after-struct-known.struct_known-1.given.1.0.fits s.requires
 
-sub-t8 : tie.Need-overflow-sub-t8
+sub-t8 : tie.Need-overflow_sub-result-else-a-b
 sub-t8 c = no_less c.before.before
 
-returns : tie.Need-returns
+returns : tie.Need-returns-then-a-b
 returns c =
     let t = c.before.before in
     let after-struct-known2 = t.before in
     let after-wrapping-sub-u64 = after-struct-known2.before.before in
     let s = after-wrapping-sub-u64.before in
-    let r = after-wrapping-sub-u64.wrapping-sub-u64 in
+    let r = after-wrapping-sub-u64.wrapping_sub_u64-lo in
     difference-borrowed 64 s.args.a.lo s.args.b.lo r.result
-    after-struct-known2.struct-known2.given.1.0.fits r.type-inv r.ensures s.args.a.hi
-    s.args.b.hi t.if1.true (more t)
+    after-struct-known2.struct_known-2-1.given.1.0.fits r.type_inv r.ensures s.args.a.hi
+    s.args.b.hi t.if-a-b.true (more t)
 
-returns-2 : tie.Need-returns-2
+returns-2 : tie.Need-returns-else-a-b
 returns-2 c =
     let t = c.before.before in
     let after-struct-known2 = t.before in
     let after-wrapping-sub-u64 = after-struct-known2.before.before in
     let s = after-wrapping-sub-u64.before in
-    let r = after-wrapping-sub-u64.wrapping-sub-u64 in
+    let r = after-wrapping-sub-u64.wrapping_sub_u64-lo in
     difference 64 s.args.a.lo s.args.b.lo r.result
-    after-struct-known2.struct-known2.given.1.0.fits r.type-inv r.ensures s.args.a.hi
-    s.args.b.hi t.if1.false (no_less t)
+    after-struct-known2.struct_known-2-1.given.1.0.fits r.type_inv r.ensures s.args.a.hi
+    s.args.b.hi t.if-a-b.false (no_less t)
 
-pub sub-wide-spec : {M : Type 1} → statement M
-sub-wide-spec =
+pub sub_wide_spec : {M : Type 1} → statement M
+sub_wide_spec =
     tie.close (tie.spec (λ c _. search rules) sub-t6 sub-t7 sub-t8 returns returns-2)

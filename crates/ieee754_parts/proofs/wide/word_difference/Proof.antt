@@ -13,7 +13,7 @@ module _ (a₁ a b₁ b r : ℕ) (hb : b < 2 ^ 64) (hr : r < 2 ^ 64) (e : (r + b
   without : b ≤ a → a₁ ≡ b₁ → r + (b₁ * 2 ^ 64 + b) ≡ a₁ * 2 ^ 64 + a
   without l h = omega (arith, not-borrowed 64 a b r hb hr e l)
 
-returns : tie.Need-returns
+returns : tie.Need-returns-then-a-b-2
 returns c =
     let after-struct-known3 = c.before.before in
     let t = after-struct-known3.before in
@@ -21,15 +21,15 @@ returns c =
     let after-wrapping-sub-u64 = after-struct-known2.before.before in
     let s = after-wrapping-sub-u64.before in
     λ _.
-    let r = after-wrapping-sub-u64.wrapping-sub-u64 in
+    let r = after-wrapping-sub-u64.wrapping_sub_u64-lo in
     with-borrow s.args.a.hi s.args.a.lo s.args.b.hi s.args.b.lo r.result
-    after-struct-known2.struct-known2.given.1.0.fits r.type-inv r.ensures t.if1.true
-    c.if2.true
+    after-struct-known2.struct_known-2-1.given.1.0.fits r.type_inv r.ensures t.if-a-b.true
+    c.if-a-b-2.true
 
-returns-2 : tie.Need-returns-2
+returns-2 : tie.Need-returns-then-a-b
 returns-2 c = λ h. absurd (true≢false h)
 
-returns-3 : tie.Need-returns-3
+returns-3 : tie.Need-returns-then-a-b-3
 returns-3 c =
     let after-struct-known5 = c.before.before in
     let t = after-struct-known5.before in
@@ -37,15 +37,15 @@ returns-3 c =
     let after-wrapping-sub-u64 = after-struct-known2.before.before in
     let s = after-wrapping-sub-u64.before in
     λ _.
-    let r = after-wrapping-sub-u64.wrapping-sub-u64 in
+    let r = after-wrapping-sub-u64.wrapping_sub_u64-lo in
     without s.args.a.hi s.args.a.lo s.args.b.hi s.args.b.lo r.result
-    after-struct-known2.struct-known2.given.1.0.fits r.type-inv r.ensures t.if1.false
-    c.if3.true
+    after-struct-known2.struct_known-2-1.given.1.0.fits r.type_inv r.ensures t.if-a-b.false
+    c.if-a-b-3.true
 
-returns-4 : tie.Need-returns-4
+returns-4 : tie.Need-returns-else-a-b-3
 returns-4 c = λ h. absurd (true≢false h)
 
-pub word-difference-spec : {M : Type 1} → statement M
-word-difference-spec =
+pub word_difference_spec : {M : Type 1} → statement M
+word_difference_spec =
     tie.close (tie.spec (λ c _. search rules) (λ c. search rules) returns returns-2 returns-3
     returns-4)

@@ -8,11 +8,11 @@ use Rattle.ieee754_roots.proofs.Cubes.{nearest-cube, least, greatest}
 use Rattle.ieee754_roots.proofs.cbrt.by_halving.Statement.{statement}
 use Rattle.ieee754_roots.proofs.cbrt.by_halving.Tie as tie
 
-abbrev invariant-loop : tie.invariant-loop
+abbrev invariant-loop : tie.invariant-loop-high
 invariant-loop n low₀ high₀ low high =
     (low < high) × (high ≤ 2 ^ 53) × (cube_top (2 * low + 1) < n) × (n ≤ cube_top (2 * high + 1))
 
-abbrev decreases-loop : tie.decreases-loop
+abbrev decreases-loop : tie.decreases-loop-high
 decreases-loop n low₀ high₀ low high = high - low
 
 found : (n low high : ℕ)
@@ -23,43 +23,43 @@ found n low high h l =
     let e : 2 * low + 1 ≡ 2 * high - 1 = omega arith in
     nearest-cube n high (subst (λ (x : ℕ). cube_top x < n) e h.2) h.3
 
-loop-holds : tie.Need-loop-init invariant-loop decreases-loop
+loop-holds : tie.Need-loop-high-init invariant-loop decreases-loop
 loop-holds c = omega (arith, least, greatest)
 
-sub-loop : tie.Need-overflow-sub-loop invariant-loop decreases-loop
+sub-loop : tie.Need-overflow_sub-high invariant-loop decreases-loop
 sub-loop c = omega arith
 
-add-middle : tie.Need-overflow-add-middle invariant-loop decreases-loop
+add-middle : tie.Need-overflow_add-middle invariant-loop decreases-loop
 add-middle c = omega arith
 
-mul-cube-top : tie.Need-overflow-mul-cube-top invariant-loop decreases-loop
+mul-cube-top : tie.Need-overflow_mul-middle invariant-loop decreases-loop
 mul-cube-top c = omega arith
 
-add-cube-top : tie.Need-overflow-add-cube-top invariant-loop decreases-loop
+add-cube-top : tie.Need-overflow_add-middle-in-loop-high invariant-loop decreases-loop
 add-cube-top c = omega arith
 
-cube-top-requires : tie.Need-cube-top-requires invariant-loop decreases-loop
+cube-top-requires : tie.Need-cube_top-requires invariant-loop decreases-loop
 cube-top-requires c κs = omega arith
 
-loop-less : tie.Need-loop-smaller invariant-loop decreases-loop
+loop-less : tie.Need-loop-high-smaller-then-cube_top-n invariant-loop decreases-loop
 loop-less c = omega arith
 
-loop-again : tie.Need-loop-preserved invariant-loop decreases-loop
+loop-again : tie.Need-loop-high-preserved-then-cube_top-n invariant-loop decreases-loop
 loop-again c = omega arith
 
-loop-less-2 : tie.Need-loop-smaller-2 invariant-loop decreases-loop
+loop-less-2 : tie.Need-loop-high-smaller invariant-loop decreases-loop
 loop-less-2 c = omega arith
 
-loop-again-2 : tie.Need-loop-preserved-2 invariant-loop decreases-loop
+loop-again-2 : tie.Need-loop-high-preserved invariant-loop decreases-loop
 loop-again-2 c = omega arith
 
 returns : tie.Need-returns invariant-loop decreases-loop
 returns c =
-    found c.before.before.args.n c.before.loop.low c.before.loop.high
-    c.before.loop.invariant c.loop-test.false
+    found c.before.before.args.n c.before.loop-high.low c.before.loop-high.high
+    c.before.loop-high.invariant c.loop-high-test.false
 
-pub by-halving-spec : {M : Type 1} → statement M
-by-halving-spec =
+pub by_halving_spec : {M : Type 1} → statement M
+by_halving_spec =
     tie.close
     (tie.spec
     invariant-loop

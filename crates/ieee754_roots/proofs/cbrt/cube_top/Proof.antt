@@ -63,63 +63,63 @@ sum_lt h l u t x y a b d e f =
     high-below 53 64 h l (u + (0 * 2 ^ 64 + t)) e (omega arith)
 
 -- the digits from 2 ^ 54 on of the square, and of the low part times h
-square-upper : (c : tie.After-shift-right) → c.shift-right.result < 2 ^ 54
+square-upper : (c : tie.After-shift_right) → c.shift_right.result < 2 ^ 54
 square-upper c =
     let after-struct-known = c.before.before in
     let after-product = after-struct-known.before in
     let s = after-product.before in
-    let p = after-product.product in
-    upper_lt s.args.h s.args.h _ c.shift-right.result s.requires s.requires p.ensures
-    c.shift-right.ensures
+    let p = after-product.product-square in
+    upper_lt s.args.h s.args.h _ c.shift_right.result s.requires s.requires p.ensures
+    c.shift_right.ensures
 
 low_part : (n : ℕ) → n % 2 ^ 54 < 2 ^ 54
 low_part n = omega arith
 
-low-upper : (c : tie.After-shift-right2) → c.shift-right2.result < 2 ^ 54
+low-upper : (c : tie.After-shift_right-2) → c.shift_right-2.result < 2 ^ 54
 low-upper c =
     let after-shift-right = c.before.before in
     let d = after-shift-right.before in
     let after-product = d.before.before in
     let s = after-product.before in
-    upper_lt _ s.args.h _ c.shift-right2.result
-    (low_part after-product.product.result.lo) s.requires d.product2.ensures
-    c.shift-right2.ensures
+    upper_lt _ s.args.h _ c.shift_right-2.result
+    (low_part after-product.product-square.result.lo) s.requires d.product-low.ensures
+    c.shift_right-2.ensures
 
-shift-right-requires : tie.Need-shift-right-requires
+shift-right-requires : tie.Need-shift_right-requires
 shift-right-requires c κs =
     let after-product = c.before.before in
     let s = after-product.before in
-    let p = after-product.product in
+    let p = after-product.product-square in
     let b =
     high_lt s.args.h s.args.h p.result.hi p.result.lo s.requires s.requires
     p.ensures in
     (lit< tt, lit< tt, lt_of_lt_of_le b (lit≤ tt))
 
-product-requires-3 : tie.Need-product-requires-3
+product-requires-3 : tie.Need-product-high-requires
 product-requires-3 c κs = omega (arith, square-upper c)
 
-shift-right-requires-2 : tie.Need-shift-right-requires-2
+shift-right-requires-2 : tie.Need-shift_right-requires-2
 shift-right-requires-2 c κs =
     let d = c.before.before in
     let after-product = d.before.before in
     let s = after-product.before in
     let b =
-    high_lt _ s.args.h d.product2.result.hi d.product2.result.lo
-    (low_part after-product.product.result.lo) s.requires d.product2.ensures in
+    high_lt _ s.args.h d.product-low.result.hi d.product-low.result.lo
+    (low_part after-product.product-square.result.lo) s.requires d.product-low.ensures in
     (lit< tt, lit< tt, lt_of_lt_of_le b (lit≤ tt))
 
-add-wide-requires : tie.Need-add-wide-requires
+add-wide-requires : tie.Need-add_wide-requires
 add-wide-requires c κs =
     let d = c.before in
     let after-shift-right = d.before in
     let after-struct-known = after-shift-right.before.before in
     let s = after-struct-known.before.before in
     let b =
-    high_lt after-shift-right.shift-right.result s.args.h d.product3.result.hi
-    d.product3.result.lo (square-upper after-shift-right) s.requires d.product3.ensures in
+    high_lt after-shift-right.shift_right.result s.args.h d.product-high.result.hi
+    d.product-high.result.lo (square-upper after-shift-right) s.requires d.product-high.ensures in
     omega arith
 
-shift-right-requires-3 : tie.Need-shift-right-requires-3
+shift-right-requires-3 : tie.Need-shift_right-requires-3
 shift-right-requires-3 c κs =
     let d = c.before.before in
     let after-shift-right = d.before in
@@ -127,9 +127,9 @@ shift-right-requires-3 c κs =
     let s = after-struct-known.before.before in (
       lit< tt,
       lit< tt,
-      sum_lt c.add_wide.result.hi c.add_wide.result.lo _ c.before.shift-right2.result
-          after-shift-right.shift-right.result s.args.h (square-upper after-shift-right)
-          s.requires (low-upper c.before) c.add_wide.ensures d.product3.ensures,
+      sum_lt c.add_wide.result.hi c.add_wide.result.lo _ c.before.shift_right-2.result
+          after-shift-right.shift_right.result s.args.h (square-upper after-shift-right)
+          s.requires (low-upper c.before) c.add_wide.ensures d.product-high.ensures,
     )
 
 returns : tie.Need-returns
@@ -139,16 +139,16 @@ returns c =
     let g = d.before.before in
     let after-product = g.before.before in
     let s = after-product.before in
-    let p = after-product.product in
-    cube s.args.h p.result.hi p.result.lo d.before.shift-right.result _
-    w.before.shift-right2.result c.shift-right3.result p.ensures
-    d.before.shift-right.ensures g.product2.ensures w.before.shift-right2.ensures
-    (c.shift-right3.ensures
+    let p = after-product.product-square in
+    cube s.args.h p.result.hi p.result.lo d.before.shift_right.result _
+    w.before.shift_right-2.result c.shift_right-3.result p.ensures
+    d.before.shift_right.ensures g.product-low.ensures w.before.shift_right-2.ensures
+    (c.shift_right-3.ensures
     ∙ ap (λ (x : ℕ). x / 2 ^ 53)
     (w.add_wide.ensures ∙
-    ap (λ (x : ℕ). x + (0 * 2 ^ 64 + w.before.shift-right2.result)) d.product3.ensures))
+    ap (λ (x : ℕ). x + (0 * 2 ^ 64 + w.before.shift_right-2.result)) d.product-high.ensures))
 
-pub cube-top-spec : {M : Type 1} → statement M
-cube-top-spec =
+pub cube_top_spec : {M : Type 1} → statement M
+cube_top_spec =
     tie.close (tie.spec (λ c _. search rules) (λ c _. search rules) shift-right-requires
     product-requires-3 shift-right-requires-2 add-wide-requires shift-right-requires-3 returns)

@@ -10,18 +10,18 @@ use Rattle.ieee754_roots.proofs.sqrt.guess.Tie as tie
 upper_digits : (b : ℕ) → b < 0x7ff0000000000000 → b / 2 ^ 27 * 2 ^ 27 ≤ 0x7ff0000000000000
 upper_digits b h = omega arith
 
-float-from-bits-x : tie.Need-float-from-bits-x
+float-from-bits-x : tie.Need-float_from_bits-x
 float-from-bits-x c =
     no_nan binary64 ((1022 + c.args.odd) * 2 ^ 52 + c.args.m) (omega arith)
 
-float-to-bits-pattern : tie.Need-float-to-bits-pattern
-float-to-bits-pattern c = below-not-nan _ _ c.if1.true
+float-to-bits-pattern : tie.Need-float_to_bits-pattern
+float-to-bits-pattern c = below-not-nan _ _ c.if-a.true
 
-float-from-bits-top : tie.Need-float-from-bits-top
-float-from-bits-top c = no_nan binary64 _ (upper_digits _ c.if2.true)
+float-from-bits-top : tie.Need-float_from_bits-top
+float-from-bits-top c = no_nan binary64 _ (upper_digits _ c.if-pattern-lt-INFINITY.true)
 
-pub guess-spec : {M : Type 1} → statement M
-guess-spec =
+pub guess_spec : {M : Type 1} → statement M
+guess_spec =
     tie.close (tie.spec (λ c. search rules) (λ c. search rules) (λ c. search rules)
     float-from-bits-x (λ c _. search rules) float-to-bits-pattern (λ c. search rules)
     float-from-bits-top (λ c. search rules) (λ c. search rules) (λ c. search rules))

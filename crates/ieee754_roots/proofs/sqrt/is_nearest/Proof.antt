@@ -46,12 +46,12 @@ high_lt q h l b e =
     let a : h < 2 ^ 43 = high-below 43 64 h l (q * (q - 1)) e (product_lt 54 53 most d) in
     omega arith
 
-word-difference-requires : tie.Need-word-difference-requires
+word-difference-requires : tie.Need-word_difference-r-requires
 word-difference-requires c κs =
     let p = c.product in
     high_lt c.before.args.q p.result.hi p.result.lo c.before.requires.2 p.ensures
 
-mul-result : tie.Need-overflow-mul-result
+mul-result : tie.Need-overflow_mul-result
 mul-result c =
     let after-product = c.before.before in
     let s = after-product.before in Fits-bits 60 tt (omega (arith, s.requires.2))
@@ -61,14 +61,14 @@ returns c =
     let after-word-difference = c.before in
     let after-product = after-word-difference.before in
     let s = after-product.before in
-    let r = after-word-difference.word-difference in
+    let r = after-word-difference.word_difference-r in
     λ e.
     let t = tested r.result.lost r.result.lo s.args.q e in
     let exact = r.ensures t.0 in
     by-rest (s.args.n * 2 ^ 52) s.args.q r.result.lo (omega arith)
     (omega (arith, after-product.product.ensures)) t.1 t.2
 
-pub is-nearest-spec : {M : Type 1} → statement M
-is-nearest-spec =
+pub is_nearest_spec : {M : Type 1} → statement M
+is_nearest_spec =
     tie.close (tie.spec (λ c. search rules) (λ c. search rules) (λ c _. search rules)
     word-difference-requires mul-result returns)

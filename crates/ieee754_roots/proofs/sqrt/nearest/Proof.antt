@@ -17,8 +17,8 @@ digits-range b = (omega arith, omega arith)
 next-range : (b : ℕ) → (2 ^ 52 ≤ b % 2 ^ 52 + 2 ^ 52 + 1) × (b % 2 ^ 52 + 2 ^ 52 + 1 ≤ 2 ^ 53)
 next-range b = (omega arith, omega arith)
 
-float-to-bits-digits : tie.Need-float-to-bits-digits
-float-to-bits-digits c = below-not-nan _ _ c.if1.true
+float-to-bits-digits : tie.Need-float_to_bits-digits
+float-to-bits-digits c = below-not-nan _ _ c.if-root.true
 
 -- the moved significand
 moved-lt : (s : tie.Start) → s.args.m * 2 ^ s.args.odd % 2 ^ 64 < 2 ^ 54
@@ -32,40 +32,40 @@ near : (s : tie.Start) {q : ℕ}
 near s h =
     moved-nearest 2 s.args.m s.args.odd s.requires.0 s.requires.1 s.requires.2 (lit≤ tt) h
 
-is-nearest-requires : tie.Need-is-nearest-requires
+is-nearest-requires : tie.Need-is_nearest-requires
 is-nearest-requires c κs =
     let s = c.before.before in (moved-lt s, (digits-range _).0, (digits-range _).1)
 
-returns : tie.Need-returns
+returns : tie.Need-returns-then-is_nearest
 returns c =
     let after-is-nearest = c.before in
     let after-guess = after-is-nearest.before.before in
-    near after-guess.before (after-is-nearest.is-nearest.ensures c.if2.true)
+    near after-guess.before (after-is-nearest.is_nearest.ensures c.if-is_nearest.true)
 
-is-nearest-requires-2 : tie.Need-is-nearest-requires-2
+is-nearest-requires-2 : tie.Need-is_nearest-requires-then-root
 is-nearest-requires-2 c κs =
     let after-is-nearest = c.before in
     let after-guess = after-is-nearest.before.before in
     (moved-lt after-guess.before, (next-range _).0, (next-range _).1)
 
-returns-2 : tie.Need-returns-2
+returns-2 : tie.Need-returns-then-is_nearest-2
 returns-2 c =
     let after-is-nearest2 = c.before in
     let after-is-nearest = after-is-nearest2.before.before in
     let after-guess = after-is-nearest.before.before in
-    near after-guess.before (after-is-nearest2.is-nearest2.ensures c.if3.true)
+    near after-guess.before (after-is-nearest2.is_nearest-then-root.ensures c.if-is_nearest-2.true)
 
-by-digits-requires : tie.Need-by-digits-requires
+by-digits-requires : tie.Need-by_digits-requires
 by-digits-requires c κs =
     let s = c.before.before in
     moved-range 2 s.args.m s.args.odd s.requires.0 s.requires.1 s.requires.2 (lit≤ tt)
 
-returns-3 : tie.Need-returns-3
+returns-3 : tie.Need-returns
 returns-3 c =
     let after-guess = c.before.before in near after-guess.before c.by_digits.ensures
 
-pub nearest-spec : {M : Type 1} → statement M
-nearest-spec =
+pub nearest_spec : {M : Type 1} → statement M
+nearest_spec =
     tie.close (tie.spec (λ c. search rules) (λ c _. search rules) float-to-bits-digits
     (λ c. search rules) is-nearest-requires returns (λ c. search rules) is-nearest-requires-2
     returns-2 by-digits-requires returns-3)

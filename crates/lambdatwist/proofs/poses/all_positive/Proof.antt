@@ -8,6 +8,6 @@ returns : tie.Need-returns
 unfolding all_positive
 returns c = cc
 
-pub all-positive-spec : {M : Type 1} → statement M
-all-positive-spec =
+pub all_positive_spec : {M : Type 1} → statement M
+all_positive_spec =
     tie.close (tie.spec (λ c _. search rules) returns)

@@ -9,8 +9,8 @@ returns : tie.Need-returns
 unfolding push_depths push_pose
 returns c output lifted = cc
 
-pub gated-depths-spec : {M : Type 1} → statement M
-gated-depths-spec =
+pub gated_depths_spec : {M : Type 1} → statement M
+gated_depths_spec =
     tie.close (tie.spec (λ c _. search rules) (λ c _. search rules) (λ c _. search rules)
     (λ c _. search rules) (λ c _. search rules) (λ c _. search rules) (λ c _. search rules)
     (λ c _. search rules) (λ c _. search rules) returns)

@@ -14,7 +14,7 @@ use Rattle.lambdatwist.proofs.PoseTurns.{turns_go, turns-end}
 use Rattle.lambdatwist.proofs.poses.poses.Statement.{statement}
 use Rattle.lambdatwist.proofs.poses.poses.Tie as tie
 
-abbrev invariant-loop : tie.invariant-loop
+abbrev invariant-loop : tie.invariant-loop-at
 invariant-loop input measured inverse slots₀ updates₀ lifted₀ n candidates count₀ at₀ slots updates lifted
     count at =
     (at ≤ n)
@@ -23,52 +23,52 @@ invariant-loop input measured inverse slots₀ updates₀ lifted₀ n candidates
     (held count slots updates lifted)).value
     ≡ (pose_turns input measured inverse (take n candidates) empty).value)
 
-abbrev decreases-loop : tie.decreases-loop
+abbrev decreases-loop : tie.decreases-loop-at
 decreases-loop input measured inverse slots₀ updates₀ lifted₀ n candidates count₀ at₀ slots updates lifted
     count at =
     n - at
 
-loop-holds : tie.Need-loop-init invariant-loop decreases-loop
+loop-holds : tie.Need-loop-at-init invariant-loop decreases-loop
 loop-holds c =
     let s = c.before in
     (omega arith, omega arith, rw (none-held s.requires.1))
 
-array-copy-out-candidate : tie.Need-array-copy-out-candidate invariant-loop decreases-loop
+array-copy-out-candidate : tie.Need-bounds-candidates-at invariant-loop decreases-loop
 array-copy-out-candidate c =
-    let s = c.before.before.before in omega (arith, c.loop-test.true, s.requires.0)
+    let s = c.before.before.before in omega (arith, c.loop-at-test.true, s.requires.0)
 
-store-requires : tie.Need-store-requires invariant-loop decreases-loop
+store-requires : tie.Need-store-count-requires invariant-loop decreases-loop
 store-requires c κs =
     let lent = c.before.before in
     let after-candidate = lent.before.before in
     let test = after-candidate.before in
     let head = test.before in
     let s = head.before.before in
-    omega (arith, test.loop-test.true, head.loop.invariant.1, s.requires.0)
+    omega (arith, test.loop-at-test.true, head.loop-at.invariant.1, s.requires.0)
 
-loop-less : tie.Need-loop-smaller invariant-loop decreases-loop
+loop-less : tie.Need-loop-at-smaller invariant-loop decreases-loop
 loop-less c =
     let lent = c.before.before.before in
     let after-candidate = lent.before.before in
-    omega (arith, after-candidate.before.loop-test.true)
+    omega (arith, after-candidate.before.loop-at-test.true)
 
-loop-again : tie.Need-loop-preserved invariant-loop decreases-loop
+loop-again : tie.Need-loop-at-preserved invariant-loop decreases-loop
 loop-again c =
     let lent = c.before.before.before in
     let after-pose-turn = lent.before in
     let after-candidate = after-pose-turn.before in
     let test = after-candidate.before in
     let head = test.before in
-    let loop = head.loop in
+    let loop = head.loop-at in
     let s = head.before.before in
     let found = s.args.found in
-    let four = four-slots found s.well-formed.1.1.1.0 in
-    let below = test.loop-test.true in (
+    let four = four-slots found s.well_formed.1.1.1.0 in
+    let below = test.loop-at-test.true in (
       omega arith,
-      omega (arith, c.store.ensures.0),
+      omega (arith, c.store-count.ensures.0),
       rw (
-        c.store.ensures.1,
-        after-pose-turn.pose-turn.ensures _ _,
+        c.store-count.ensures.1,
+        after-pose-turn.pose_turn-turn.ensures _ _,
       )
           (turns_go _ _ _ found.count found.slots loop.at _ _ below
           (omega (arith, four, s.requires.0))
@@ -79,14 +79,14 @@ returns : tie.Need-returns invariant-loop decreases-loop
 unfolding poses
 returns c =
     let head = c.before in
-    let loop = head.loop in
+    let loop = head.loop-at in
     let s = head.before.before in
     let found = s.args.found in
-    turns-end _ _ _ found.count found.slots loop.at _ (omega (arith, c.loop-test.false))
+    turns-end _ _ _ found.count found.slots loop.at _ (omega (arith, c.loop-at-test.false))
     ∙ loop.invariant.2
 
-pub poses-spec : {M : Type 1} → statement M
-poses-spec =
+pub poses_spec : {M : Type 1} → statement M
+poses_spec =
     tie.close (tie.spec invariant-loop decreases-loop loop-holds (λ c. search rules)
     array-copy-out-candidate (λ c _. search rules) store-requires (λ c. search rules) loop-less
     loop-again returns)

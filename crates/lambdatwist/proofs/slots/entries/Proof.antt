@@ -8,5 +8,5 @@ returns : tie.Need-returns
 unfolding entries
 returns c = refl
 
-pub entries-spec : {M : Type 1} → statement M
-entries-spec = tie.close (tie.spec returns)
+pub entries_spec : {M : Type 1} → statement M
+entries_spec = tie.close (tie.spec returns)

@@ -9,6 +9,6 @@ returns : tie.Need-returns
 unfolding answered
 returns c = refl
 
-pub answered-spec : {M : Type 1} → statement M
-answered-spec =
+pub answered_spec : {M : Type 1} → statement M
+answered_spec =
     tie.close (tie.spec (λ c. search rules) returns)

@@ -5,14 +5,14 @@ use Rattle.lambdatwist.specs.Solve.{if_kept}
 use Rattle.lambdatwist.proofs.solve.if_kept.Statement.{statement}
 use Rattle.lambdatwist.proofs.solve.if_kept.Tie as tie
 
-returns : tie.Need-returns
+returns : tie.Need-returns-then-solutions-eq0
 unfolding if_kept
-returns c = rw (eq-eqb _ _ c.before.if1.true, ← c.refused.ensures)
+returns c = rw (eq-eqb _ _ c.before.if-solutions-eq0.true, ← c.refused.ensures)
 
-returns-2 : tie.Need-returns-2
+returns-2 : tie.Need-returns
 unfolding if_kept
-returns-2 c = rw (ne_eqb _ _ c.before.if1.false, ← c.answered.ensures)
+returns-2 c = rw (ne_eqb _ _ c.before.if-solutions-eq0.false, ← c.answered.ensures)
 
-pub if-kept-spec : {M : Type 1} → statement M
-if-kept-spec =
+pub if_kept_spec : {M : Type 1} → statement M
+if_kept_spec =
     tie.close (tie.spec (λ c _. search rules) returns (λ c _. search rules) returns-2)

@@ -12,6 +12,6 @@ returns : tie.Need-returns
 unfolding refused
 returns c = cc
 
-pub refused-spec : {M : Type 1} → statement M
-refused-spec =
+pub refused_spec : {M : Type 1} → statement M
+refused_spec =
     tie.close (tie.spec (λ c _. search rules) answered-requires returns)

@@ -8,7 +8,7 @@ returns : tie.Need-returns
 unfolding poses_in
 returns c = cc
 
-pub poses-in-spec : {M : Type 1} → statement M
-poses-in-spec =
+pub poses_in_spec : {M : Type 1} → statement M
+poses_in_spec =
     tie.close (tie.spec (λ c _. search rules) (λ c _. search rules) (λ c _. search rules)
     (λ c _. search rules) returns)

@@ -8,5 +8,5 @@ returns : tie.Need-returns
 unfolding plate_entries
 returns c = refl
 
-pub plate-entries-spec : {M : Type 1} → statement M
-plate-entries-spec = tie.close (tie.spec returns)
+pub plate_entries_spec : {M : Type 1} → statement M
+plate_entries_spec = tie.close (tie.spec returns)

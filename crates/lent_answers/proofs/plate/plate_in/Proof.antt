@@ -13,15 +13,15 @@ returns c =
     let third-edge = first.before.before in
     let first_edge = third-edge.before.before in
     rw (
-      c.from-columns.ensures,
-      third.vector-at3.ensures,
-      second.vector-at2.ensures,
-      first.vector-at.ensures,
-      first_edge.before.world-at.ensures,
+      c.from_columns-inverse.ensures,
+      third.vector_at-column2.ensures,
+      second.vector_at-column1.ensures,
+      first.vector_at-column0.ensures,
+      first_edge.before.world_at-world.ensures,
     )
 
-pub plate-in-spec : {M : Type 1} → statement M
-plate-in-spec =
+pub plate_in_spec : {M : Type 1} → statement M
+plate_in_spec =
     tie.close (tie.spec (λ c _. search rules) (λ c. search rules) (λ c. search rules)
     (λ c. search rules) (λ c _. search rules) (λ c _. search rules) (λ c _. search rules)
     (λ c _. search rules) returns)

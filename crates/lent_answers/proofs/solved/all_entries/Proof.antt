@@ -8,5 +8,5 @@ returns : tie.Need-returns
 unfolding entries
 returns c = refl
 
-pub all-entries-spec : {M : Type 1} → statement M
-all-entries-spec = tie.close (tie.spec returns)
+pub all_entries_spec : {M : Type 1} → statement M
+all_entries_spec = tie.close (tie.spec returns)

@@ -8,5 +8,5 @@ returns : tie.Need-returns
 unfolding bearing_factors
 returns c = refl
 
-pub bearing-factors-spec : {M : Type 1} → statement M
-bearing-factors-spec = tie.close (tie.spec returns)
+pub bearing_factors_spec : {M : Type 1} → statement M
+bearing_factors_spec = tie.close (tie.spec returns)

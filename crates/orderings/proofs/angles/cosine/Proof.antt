@@ -8,6 +8,6 @@ returns : tie.Need-returns
 unfolding cosine
 returns c = cc
 
-pub cosine-spec : {M : Type 1} → statement M
-cosine-spec =
+pub cosine_spec : {M : Type 1} → statement M
+cosine_spec =
     tie.close (tie.spec (λ c _. search rules) (λ c _. search rules) returns)

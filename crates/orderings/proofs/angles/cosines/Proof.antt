@@ -8,6 +8,6 @@ returns : tie.Need-returns
 unfolding cosines
 returns c = cc
 
-pub cosines-spec : {M : Type 1} → statement M
-cosines-spec =
+pub cosines_spec : {M : Type 1} → statement M
+cosines_spec =
     tie.close (tie.spec (λ c _. search rules) (λ c _. search rules) (λ c _. search rules) returns)

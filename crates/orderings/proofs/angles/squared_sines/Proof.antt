@@ -8,5 +8,5 @@ returns : tie.Need-returns
 unfolding squared_sines
 returns c = refl
 
-pub squared-sines-spec : {M : Type 1} → statement M
-squared-sines-spec = tie.close (tie.spec returns)
+pub squared_sines_spec : {M : Type 1} → statement M
+squared_sines_spec = tie.close (tie.spec returns)

@@ -8,7 +8,7 @@ returns : tie.Need-returns
 unfolding condition_of_edges
 returns c = cc
 
-pub condition-of-edges-spec : {M : Type 1} → statement M
-condition-of-edges-spec =
+pub condition_of_edges_spec : {M : Type 1} → statement M
+condition_of_edges_spec =
     tie.close (tie.spec (λ c _. search rules) (λ c _. search rules) (λ c _. search rules)
     (λ c _. search rules) returns)

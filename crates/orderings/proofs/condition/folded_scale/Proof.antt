@@ -8,8 +8,8 @@ returns : tie.Need-returns
 unfolding folded_scale
 returns c = cc
 
-pub folded-scale-spec : {M : Type 1} → statement M
-folded-scale-spec =
+pub folded_scale_spec : {M : Type 1} → statement M
+folded_scale_spec =
     tie.close (tie.spec (λ c _. search rules) (λ c _. search rules) (λ c _. search rules)
     (λ c _. search rules) (λ c _. search rules) (λ c _. search rules) (λ c _. search rules)
     (λ c _. search rules) returns)

@@ -8,6 +8,6 @@ returns : tie.Need-returns
 unfolding leading_cubic_condition
 returns c = cc
 
-pub leading-cubic-condition-spec : {M : Type 1} → statement M
-leading-cubic-condition-spec =
+pub leading_cubic_condition_spec : {M : Type 1} → statement M
+leading_cubic_condition_spec =
     tie.close (tie.spec (λ c _. search rules) (λ c _. search rules) (λ c _. search rules) returns)

@@ -8,7 +8,7 @@ returns : tie.Need-returns
 unfolding coefficient_scale
 returns c = cc
 
-pub coefficient-scale-spec : {M : Type 1} → statement M
-coefficient-scale-spec =
+pub coefficient_scale_spec : {M : Type 1} → statement M
+coefficient_scale_spec =
     tie.close (tie.spec (λ c _. search rules) (λ c _. search rules) (λ c _. search rules)
     (λ c _. search rules) (λ c _. search rules) (λ c _. search rules) (λ c _. search rules) returns)

@@ -8,5 +8,5 @@ returns : tie.Need-returns
 unfolding cubic_coefficients
 returns c = refl
 
-pub cubic-coefficients-spec : {M : Type 1} → statement M
-cubic-coefficients-spec = tie.close (tie.spec returns)
+pub cubic_coefficients_spec : {M : Type 1} → statement M
+cubic_coefficients_spec = tie.close (tie.spec returns)

@@ -25,11 +25,11 @@ returns c =
     let scaled = c.before.before in
     rw (
       unusable-value _,
-      ← scaled.coefficient-scale.ensures,
+      ← scaled.coefficient_scale-scale.ensures,
       ← c.before.is_finite.ensures,
       ← c.abs.ensures,
     )
 
-pub is-unusable-spec : {M : Type 1} → statement M
-is-unusable-spec =
+pub is_unusable_spec : {M : Type 1} → statement M
+is_unusable_spec =
     tie.close (tie.spec (λ c _. search rules) (λ c _. search rules) (λ c _. search rules) returns)

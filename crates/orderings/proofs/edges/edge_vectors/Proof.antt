@@ -8,6 +8,6 @@ returns : tie.Need-returns
 unfolding edge_vectors
 returns c = cc
 
-pub edge-vectors-spec : {M : Type 1} → statement M
-edge-vectors-spec =
+pub edge_vectors_spec : {M : Type 1} → statement M
+edge_vectors_spec =
     tie.close (tie.spec (λ c _. search rules) (λ c _. search rules) (λ c _. search rules) returns)

@@ -8,6 +8,6 @@ returns : tie.Need-returns
 unfolding squared_edges
 returns c = cc
 
-pub squared-edges-spec : {M : Type 1} → statement M
-squared-edges-spec =
+pub squared_edges_spec : {M : Type 1} → statement M
+squared_edges_spec =
     tie.close (tie.spec (λ c _. search rules) (λ c _. search rules) (λ c _. search rules) returns)

@@ -8,6 +8,6 @@ returns : tie.Need-returns
 unfolding measure
 returns c = cc
 
-pub measure-spec : {M : Type 1} → statement M
-measure-spec =
+pub measure_spec : {M : Type 1} → statement M
+measure_spec =
     tie.close (tie.spec (λ c _. search rules) (λ c _. search rules) (λ c _. search rules) returns)

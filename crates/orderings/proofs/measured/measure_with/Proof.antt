@@ -8,6 +8,6 @@ returns : tie.Need-returns
 unfolding measure_with
 returns c = cc
 
-pub measure-with-spec : {M : Type 1} → statement M
-measure-with-spec =
+pub measure_with_spec : {M : Type 1} → statement M
+measure_with_spec =
     tie.close (tie.spec (λ c _. search rules) (λ c _. search rules) returns)

@@ -8,6 +8,6 @@ returns : tie.Need-returns
 unfolding measured_cubic
 returns c = cc
 
-pub measured-cubic-spec : {M : Type 1} → statement M
-measured-cubic-spec =
+pub measured_cubic_spec : {M : Type 1} → statement M
+measured_cubic_spec =
     tie.close (tie.spec (λ c _. search rules) (λ c _. search rules) returns)

@@ -11,19 +11,19 @@ returns c =
     let c120 = c201.before.before in
     let c102 = c120.before.before in
     rw (
-      ← c102.before.before.with-condition.ensures,
-      ← c102.before.with-condition2.ensures,
-      ← c102.better.ensures,
-      ← c120.before.with-condition3.ensures,
-      ← c120.better2.ensures,
-      ← c201.before.with-condition4.ensures,
-      ← c201.better3.ensures,
-      ← c.before.with-condition5.ensures,
-      ← c.better4.ensures,
+      ← c102.before.before.with_condition-best.ensures,
+      ← c102.before.with_condition.ensures,
+      ← c102.better-best.ensures,
+      ← c120.before.with_condition-2.ensures,
+      ← c120.better-best-2.ensures,
+      ← c201.before.with_condition-3.ensures,
+      ← c201.better-best-3.ensures,
+      ← c.before.with_condition-4.ensures,
+      ← c.better.ensures,
     )
 
-pub best-permutation-spec : {M : Type 1} → statement M
-best-permutation-spec =
+pub best_permutation_spec : {M : Type 1} → statement M
+best_permutation_spec =
     tie.close (tie.spec (λ c _. search rules) (λ c _. search rules) (λ c _. search rules)
     (λ c _. search rules) (λ c _. search rules) (λ c _. search rules) (λ c _. search rules)
     (λ c _. search rules) (λ c _. search rules) returns)

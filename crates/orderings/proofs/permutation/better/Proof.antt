@@ -3,13 +3,13 @@ use Rattle.orderings.specs.Permutation.{better}
 use Rattle.orderings.proofs.permutation.better.Statement.{statement}
 use Rattle.orderings.proofs.permutation.better.Tie as tie
 
-returns : tie.Need-returns
+returns : tie.Need-returns-then-next-best
 unfolding better
-returns c = rw c.if1.true
+returns c = rw c.if-next-best.true
 
-returns-2 : tie.Need-returns-2
+returns-2 : tie.Need-returns
 unfolding better
-returns-2 c = rw c.if1.false
+returns-2 c = rw c.if-next-best.false
 
-pub better-spec : {M : Type 1} → statement M
-better-spec = tie.close (tie.spec returns returns-2)
+pub better_spec : {M : Type 1} → statement M
+better_spec = tie.close (tie.spec returns returns-2)

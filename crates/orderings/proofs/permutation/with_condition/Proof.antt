@@ -8,6 +8,6 @@ returns : tie.Need-returns
 unfolding with_condition
 returns c = cc
 
-pub with-condition-spec : {M : Type 1} → statement M
-with-condition-spec =
+pub with_condition_spec : {M : Type 1} → statement M
+with_condition_spec =
     tie.close (tie.spec (λ c _. search rules) returns)

@@ -14,12 +14,12 @@ returns c =
     let origin = target.before.before in
     let poses = origin.before.before in
     let found =
-    as-chosen-about _ _ _ _ poses.poses-in.ensures target.vector-at2.ensures
-    bearing.vector-at3.ensures _ origin.vector-at.ensures
-    choice.choose-about.ensures in
-    rw (← found) c.write-choice.ensures
+    as-chosen-about _ _ _ _ poses.poses_in-slots.ensures target.vector_at-seen.ensures
+    bearing.vector_at-ray.ensures _ origin.vector_at-from.ensures
+    choice.choose_about.ensures in
+    rw (← found) c.write_choice.ensures
 
-pub p3p-choose-about-spec : {M : Type 1} → statement M
-p3p-choose-about-spec =
+pub p3p_choose_about_spec : {M : Type 1} → statement M
+p3p_choose_about_spec =
     tie.close (tie.spec (λ c _. search rules) (λ c _. search rules) (λ c _. search rules)
     (λ c _. search rules) (λ c _. search rules) (λ c _. search rules) returns)

@@ -13,11 +13,11 @@ returns c =
     let target = bearing.before.before in
     let poses = target.before.before in
     let found =
-    as-chosen _ _ _ _ poses.poses-in.ensures target.vector-at.ensures
-    bearing.vector-at2.ensures choice.choose.ensures in
-    rw (← found) c.write-choice.ensures
+    as-chosen _ _ _ _ poses.poses_in-slots.ensures target.vector_at-seen.ensures
+    bearing.vector_at-ray.ensures choice.choose.ensures in
+    rw (← found) c.write_choice.ensures
 
-pub p3p-choose-spec : {M : Type 1} → statement M
-p3p-choose-spec =
+pub p3p_choose_spec : {M : Type 1} → statement M
+p3p_choose_spec =
     tie.close (tie.spec (λ c _. search rules) (λ c _. search rules) (λ c _. search rules)
     (λ c _. search rules) (λ c _. search rules) returns)

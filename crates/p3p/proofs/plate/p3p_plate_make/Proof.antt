@@ -9,9 +9,9 @@ returns c =
     -- the two lent places are handed on
     let lent = c.before.before in
     let outcome = lent.before in
-    rw (← as-made _ outcome.before.world-at.ensures outcome.make.ensures)
-    c.write-plate.ensures
+    rw (← as-made _ outcome.before.world_at-world.ensures outcome.make.ensures)
+    c.write_plate.ensures
 
-pub p3p-plate-make-spec : {M : Type 1} → statement M
-p3p-plate-make-spec =
+pub p3p_plate_make_spec : {M : Type 1} → statement M
+p3p_plate_make_spec =
     tie.close (tie.spec (λ c _. search rules) (λ c _. search rules) (λ c _. search rules) returns)

@@ -13,11 +13,11 @@ returns c =
     let rays = answer.before in
     let plate = rays.before.before in
     let found =
-    as-solved-plate _ _ plate.plate-in.ensures _ rays.bearings-at.ensures
-    answer.solve-plate.ensures in
-    rw (← found) c.write-answer.ensures
+    as-solved-plate _ _ plate.plate_in-stored.ensures _ rays.bearings_at-rays.ensures
+    answer.solve_plate.ensures in
+    rw (← found) c.write_answer.ensures
 
-pub p3p-plate-solve-spec : {M : Type 1} → statement M
-p3p-plate-solve-spec =
+pub p3p_plate_solve_spec : {M : Type 1} → statement M
+p3p_plate_solve_spec =
     tie.close (tie.spec (λ c _. search rules) (λ c _. search rules) (λ c _. search rules)
     (λ c _. search rules) returns)

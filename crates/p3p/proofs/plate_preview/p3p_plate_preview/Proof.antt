@@ -11,16 +11,16 @@ use Rattle.p3p.proofs.PreviewLaws.{read_again, refusal-shown, copy-shown}
 use Rattle.p3p.proofs.plate_preview.p3p_plate_preview.Statement.{statement}
 use Rattle.p3p.proofs.plate_preview.p3p_plate_preview.Tie as tie
 
-returns : tie.Need-returns
+returns : tie.Need-returns-then-refusal-ne0
 unfolding poses_after updates_after lifted_after count_after refused answered edge_entries zero_edges
 returns c =
     let tested = c.before in
     let replaced = tested.before in
     let flag = replaced.before in
     let copy = flag.before.before in
-    let same = read_again _ _ _ copy.before.plate-in.ensures copy.plate-entries.ensures in
-    let is-refused = tested.if1.true in
-    rw (refusal-shown _ _ _ _ _ _ same replaced.p3p-plate-replace.ensures.0 is-refused) (
+    let same = read_again _ _ _ copy.before.plate_in.ensures copy.plate_entries-copy.ensures in
+    let is-refused = tested.if-refusal-ne0.true in
+    rw (refusal-shown _ _ _ _ _ _ same replaced.p3p_plate_replace-refusal.ensures.0 is-refused) (
       refl,
       (
         when-refused _ _ is-refused,
@@ -31,7 +31,7 @@ returns c =
       ),
     )
 
-returns-2 : tie.Need-returns-2
+returns-2 : tie.Need-returns
 unfolding edge_entries
 returns-2 c =
     -- the four lent places and the copy are handed on, after the edges
@@ -42,17 +42,17 @@ returns-2 c =
     let replaced = tested.before in
     let flag = replaced.before in
     let copy = flag.before.before in
-    let same = read_again _ _ _ copy.before.plate-in.ensures copy.plate-entries.ensures in
-    let left = replaced.p3p-plate-replace.ensures in
-    let w = c.p3p-plate-solve.ensures in
+    let same = read_again _ _ _ copy.before.plate_in.ensures copy.plate_entries-copy.ensures in
+    let left = replaced.p3p_plate_replace-refusal.ensures in
+    let w = c.p3p_plate_solve.ensures in
     rw (
-      copy-shown _ _ _ _ _ _ same (sym left.0 ∙ tested.if1.false),
+      copy-shown _ _ _ _ _ _ same (sym left.0 ∙ tested.if-refusal-ne0.false),
       ← left.1.0,
       ← left.1.1,
     )
     (w.0, (w.1.0, (w.1.1.0, (w.1.1.1.0, (w.1.1.1.1, refl)))))
 
-pub p3p-plate-preview-spec : {M : Type 1} → statement M
-p3p-plate-preview-spec =
+pub p3p_plate_preview_spec : {M : Type 1} → statement M
+p3p_plate_preview_spec =
     tie.close (tie.spec (λ c _. search rules) (λ c _. search rules) (λ c _. search rules) returns
     (λ c. search rules) (λ c. search rules) (λ c. search rules) (λ c _. search rules) returns-2)

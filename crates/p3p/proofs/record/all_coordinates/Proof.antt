@@ -7,5 +7,5 @@ use Rattle.p3p.proofs.record.all_coordinates.Tie as tie
 returns : tie.Need-returns
 returns c = refl
 
-pub all-coordinates-spec : {M : Type 1} → statement M
-all-coordinates-spec = tie.close (tie.spec returns)
+pub all_coordinates_spec : {M : Type 1} → statement M
+all_coordinates_spec = tie.close (tie.spec returns)

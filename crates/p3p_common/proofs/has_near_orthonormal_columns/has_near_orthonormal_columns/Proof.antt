@@ -10,8 +10,8 @@ returns : tie.Need-returns
 unfolding has_near_orthonormal_columns
 returns c = cc
 
-pub has-near-orthonormal-columns-spec : {M : Type 1} → statement M
-has-near-orthonormal-columns-spec =
+pub has_near_orthonormal_columns_spec : {M : Type 1} → statement M
+has_near_orthonormal_columns_spec =
     tie.close (tie.spec (λ c _. search rules) (λ c _. search rules) (λ c _. search rules)
     (λ c _. search rules) (λ c _. search rules) (λ c _. search rules) (λ c _. search rules)
     (λ c _. search rules) (λ c _. search rules) (λ c _. search rules) (λ c _. search rules)

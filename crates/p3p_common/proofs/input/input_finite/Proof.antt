@@ -8,7 +8,7 @@ returns : tie.Need-returns
 unfolding input_finite
 returns c = cc
 
-pub input-finite-spec : {M : Type 1} → statement M
-input-finite-spec =
+pub input_finite_spec : {M : Type 1} → statement M
+input_finite_spec =
     tie.close (tie.spec (λ c _. search rules) (λ c _. search rules) (λ c _. search rules)
     (λ c _. search rules) (λ c _. search rules) (λ c _. search rules) returns)

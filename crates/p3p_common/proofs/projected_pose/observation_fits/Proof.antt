@@ -8,5 +8,5 @@ returns : tie.Need-returns
 unfolding observation_fits
 returns c = cc
 
-pub observation-fits-spec : {M : Type 1} → statement M
-observation-fits-spec = tie.close (tie.spec (λ c _. search rules) (λ c _. search rules) returns)
+pub observation_fits_spec : {M : Type 1} → statement M
+observation_fits_spec = tie.close (tie.spec (λ c _. search rules) (λ c _. search rules) returns)

@@ -7,35 +7,35 @@ use Rattle.p3p_common.proofs.projected_pose.projected_pose_fits_minimal_sample.S
 }
 use Rattle.p3p_common.proofs.projected_pose.projected_pose_fits_minimal_sample.Tie as tie
 
-returns : tie.Need-returns
+returns : tie.Need-returns-then-not-observation_fits
 unfolding projected_pose_fits_minimal_sample
-returns c = rw (← c.before.observation-fits.ensures, c.if1.true)
+returns c = rw (← c.before.observation_fits.ensures, c.if-not-observation_fits.true)
 
-returns-2 : tie.Need-returns-2
+returns-2 : tie.Need-returns-then-not-observation_fits-2
 unfolding projected_pose_fits_minimal_sample
 returns-2 c =
     let fits0 = c.before.before in
     rw (
-      ← fits0.before.observation-fits.ensures,
-      fits0.if1.false,
-      ← c.before.observation-fits2.ensures,
-      c.if2.true,
+      ← fits0.before.observation_fits.ensures,
+      fits0.if-not-observation_fits.false,
+      ← c.before.observation_fits-2.ensures,
+      c.if-not-observation_fits-2.true,
     )
 
-returns-3 : tie.Need-returns-3
+returns-3 : tie.Need-returns
 unfolding projected_pose_fits_minimal_sample
 returns-3 c =
     let fits1 = c.before in
     let fits0 = fits1.before.before in
     rw (
-      ← fits0.before.observation-fits.ensures,
-      fits0.if1.false,
-      ← fits1.before.observation-fits2.ensures,
-      fits1.if2.false,
+      ← fits0.before.observation_fits.ensures,
+      fits0.if-not-observation_fits.false,
+      ← fits1.before.observation_fits-2.ensures,
+      fits1.if-not-observation_fits-2.false,
     )
-    c.observation-fits3.ensures
+    c.observation_fits-3.ensures
 
-pub projected-pose-fits-minimal-sample-spec : {M : Type 1} → statement M
-projected-pose-fits-minimal-sample-spec =
+pub projected_pose_fits_minimal_sample_spec : {M : Type 1} → statement M
+projected_pose_fits_minimal_sample_spec =
     tie.close (tie.spec (λ c _. search rules) returns (λ c _. search rules) returns-2
     (λ c _. search rules) returns-3)

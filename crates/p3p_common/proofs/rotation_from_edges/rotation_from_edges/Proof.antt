@@ -8,6 +8,6 @@ returns : tie.Need-returns
 unfolding rotation_from_edges
 returns c = cc
 
-pub rotation-from-edges-spec : {M : Type 1} → statement M
-rotation-from-edges-spec =
+pub rotation_from_edges_spec : {M : Type 1} → statement M
+rotation_from_edges_spec =
     tie.close (tie.spec (λ c _. search rules) (λ c _. search rules) (λ c _. search rules) returns)

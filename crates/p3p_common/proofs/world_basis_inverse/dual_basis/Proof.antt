@@ -8,7 +8,7 @@ returns : tie.Need-returns
 unfolding dual_basis
 returns c = cc
 
-pub dual-basis-spec : {M : Type 1} → statement M
-dual-basis-spec =
+pub dual_basis_spec : {M : Type 1} → statement M
+dual_basis_spec =
     tie.close (tie.spec (λ c _. search rules) (λ c _. search rules) (λ c _. search rules)
     (λ c _. search rules) (λ c _. search rules) (λ c _. search rules) returns)

@@ -16,43 +16,43 @@ singular-value : (d s : Float)
 unfolding is_singular
 singular-value d s = or-value (not (finite d)) _
 
-returns : tie.Need-returns
+returns : tie.Need-returns-then-is_finite-determinant
 unfolding world_basis_inverse
 returns c =
     let measured = c.before.before in
     let edges = measured.before.before in
     let normal = edges.before.before in
     rw (
-      ← normal.cross.ensures,
-      ← edges.before.norm-squared.ensures,
-      ← edges.norm-squared2.ensures,
-      ← measured.before.norm-squared3.ensures,
-      ← measured.max.ensures,
+      ← normal.cross-normal.ensures,
+      ← edges.before.norm_squared-determinant.ensures,
+      ← edges.norm_squared-first_squared.ensures,
+      ← measured.before.norm_squared-second_squared.ensures,
+      ← measured.max-geometry_scale_squared.ensures,
       singular-value _ _,
       ← c.before.is_finite.ensures,
-      c.if1.true,
+      c.if-is_finite-determinant.true,
     )
 
-returns-2 : tie.Need-returns-2
+returns-2 : tie.Need-returns
 unfolding world_basis_inverse
 returns-2 c =
     let measured = c.before.before.before in
     let edges = measured.before.before in
     let normal = edges.before.before in
     rw (
-      ← normal.cross.ensures,
-      ← edges.before.norm-squared.ensures,
-      ← edges.norm-squared2.ensures,
-      ← measured.before.norm-squared3.ensures,
-      ← measured.max.ensures,
+      ← normal.cross-normal.ensures,
+      ← edges.before.norm_squared-determinant.ensures,
+      ← edges.norm_squared-first_squared.ensures,
+      ← measured.before.norm_squared-second_squared.ensures,
+      ← measured.max-geometry_scale_squared.ensures,
       singular-value _ _,
       ← c.before.before.is_finite.ensures,
-      c.before.if1.false,
-      ← c.dual-basis.ensures,
+      c.before.if-is_finite-determinant.false,
+      ← c.dual_basis.ensures,
     )
 
-pub world-basis-inverse-spec : {M : Type 1} → statement M
-world-basis-inverse-spec =
+pub world_basis_inverse_spec : {M : Type 1} → statement M
+world_basis_inverse_spec =
     tie.close (tie.spec (λ c _. search rules) (λ c _. search rules) (λ c _. search rules)
     (λ c _. search rules) (λ c _. search rules) (λ c _. search rules) returns (λ c _. search rules)
     returns-2)

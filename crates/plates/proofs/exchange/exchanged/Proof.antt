@@ -9,13 +9,13 @@ unfolding exchanged
 returns c =
     let moved = c.before in
     rw (
-      ← moved.before.before.target-of.ensures,
-      ← moved.before.target-of2.ensures,
-      ← moved.with-target.ensures,
+      ← moved.before.before.target_of-p.ensures,
+      ← moved.before.target_of-q.ensures,
+      ← moved.with_target.ensures,
     )
-    c.with-target2.ensures
+    c.with_target-2.ensures
 
-pub exchanged-spec : {M : Type 1} → statement M
-exchanged-spec =
+pub exchanged_spec : {M : Type 1} → statement M
+exchanged_spec =
     tie.close (tie.spec (λ c _. search rules) (λ c _. search rules) (λ c _. search rules)
     (λ c _. search rules) returns)

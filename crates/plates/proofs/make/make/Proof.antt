@@ -4,23 +4,23 @@ use Rattle.plates.specs.Make.{make}
 use Rattle.plates.proofs.make.make.Statement.{statement}
 use Rattle.plates.proofs.make.make.Tie as tie
 
-returns : tie.Need-returns
+returns : tie.Need-returns-then-not-world_finite
 unfolding make
 returns c =
     let tested = c.before in
     rw (
-      ← tested.before.world-finite.ensures,
-      tested.if1.true,
-      c.zero-plate.ensures,
+      ← tested.before.world_finite.ensures,
+      tested.if-not-world_finite.true,
+      c.zero_plate.ensures,
     )
 
-returns-2 : tie.Need-returns-2
+returns-2 : tie.Need-returns
 unfolding make
 returns-2 c =
     let tested = c.before in
     rw (
-      ← tested.before.world-finite.ensures,
-      tested.if1.false,
+      ← tested.before.world_finite.ensures,
+      tested.if-not-world_finite.false,
     )
     c.done.ensures
 

@@ -11,19 +11,19 @@ returns c =
     let c120 = c201.before.before in
     let c102 = c120.before.before in
     rw (
-      ← c102.before.before.ordering-of.ensures,
-      ← c102.before.ordering-of2.ensures,
-      ← c102.better.ensures,
-      ← c120.before.ordering-of3.ensures,
-      ← c120.better2.ensures,
-      ← c201.before.ordering-of4.ensures,
-      ← c201.better3.ensures,
-      ← c.before.ordering-of5.ensures,
-      ← c.better4.ensures,
+      ← c102.before.before.ordering_of-best.ensures,
+      ← c102.before.ordering_of.ensures,
+      ← c102.better-best.ensures,
+      ← c120.before.ordering_of-2.ensures,
+      ← c120.better-best-2.ensures,
+      ← c201.before.ordering_of-3.ensures,
+      ← c201.better-best-3.ensures,
+      ← c.before.ordering_of-4.ensures,
+      ← c.better.ensures,
     )
 
-pub best-ordering-spec : {M : Type 1} → statement M
-best-ordering-spec =
+pub best_ordering_spec : {M : Type 1} → statement M
+best_ordering_spec =
     tie.close (tie.spec (λ c _. search rules) (λ c _. search rules) (λ c _. search rules)
     (λ c _. search rules) (λ c _. search rules) (λ c _. search rules) (λ c _. search rules)
     (λ c _. search rules) (λ c _. search rules) returns)

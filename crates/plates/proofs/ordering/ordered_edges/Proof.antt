@@ -9,11 +9,11 @@ unfolding ordered_edges
 returns c =
     let two = c.before in
     rw (
-      two.before.opposite.ensures,
-      two.opposite2.ensures,
-      c.opposite3.ensures,
+      two.before.opposite-a01.ensures,
+      two.opposite-a02.ensures,
+      c.opposite-a12.ensures,
     )
 
-pub ordered-edges-spec : {M : Type 1} → statement M
-ordered-edges-spec =
+pub ordered_edges_spec : {M : Type 1} → statement M
+ordered_edges_spec =
     tie.close (tie.spec (λ c _. search rules) (λ c _. search rules) (λ c _. search rules) returns)

@@ -9,11 +9,11 @@ unfolding ordered_rays
 returns c =
     let two = c.before in
     rw (
-      two.before.ray.ensures,
-      two.ray2.ensures,
-      c.ray3.ensures,
+      two.before.ray-f0.ensures,
+      two.ray-f1.ensures,
+      c.ray-f2.ensures,
     )
 
-pub ordered-rays-spec : {M : Type 1} → statement M
-ordered-rays-spec =
+pub ordered_rays_spec : {M : Type 1} → statement M
+ordered_rays_spec =
     tie.close (tie.spec (λ c _. search rules) (λ c _. search rules) (λ c _. search rules) returns)

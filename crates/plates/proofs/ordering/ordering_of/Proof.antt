@@ -9,11 +9,11 @@ unfolding ordering
 returns c =
     let rays = c.before in
     rw (
-      ← rays.before.ordered-edges.ensures,
-      ← rays.ordered-rays.ensures,
-      ← c.condition-of-edges.ensures,
+      ← rays.before.ordered_edges-squares.ensures,
+      ← rays.ordered_rays-rays.ensures,
+      ← c.condition_of_edges-condition.ensures,
     )
 
-pub ordering-of-spec : {M : Type 1} → statement M
-ordering-of-spec =
+pub ordering_of_spec : {M : Type 1} → statement M
+ordering_of_spec =
     tie.close (tie.spec (λ c _. search rules) (λ c _. search rules) (λ c _. search rules) returns)

@@ -6,8 +6,8 @@ use Rattle.plates.proofs.outcome.done.Tie as tie
 
 returns : tie.Need-returns
 unfolding done
-returns c = rw c.plate-of.ensures
+returns c = rw c.plate_of.ensures
 
-pub done-spec : {M : Type 1} → statement M
-done-spec =
+pub done_spec : {M : Type 1} → statement M
+done_spec =
     tie.close (tie.spec (λ c _. search rules) returns)

@@ -10,13 +10,13 @@ returns c =
     let edges = c.before.before in
     let fields = edges.before.before in
     rw (
-      ← fields.before.edge-vectors.ensures,
-      ← edges.squared-edges.ensures,
-      ← c.before.world-basis-inverse.ensures,
-      ← c.with-basis.ensures,
+      ← fields.before.edge_vectors-vectors.ensures,
+      ← edges.squared_edges-edges.ensures,
+      ← c.before.world_basis_inverse.ensures,
+      ← c.with_basis.ensures,
     )
 
-pub plate-of-spec : {M : Type 1} → statement M
-plate-of-spec =
+pub plate_of_spec : {M : Type 1} → statement M
+plate_of_spec =
     tie.close (tie.spec (λ c _. search rules) (λ c _. search rules) (λ c _. search rules)
     (λ c _. search rules) returns)

@@ -6,8 +6,8 @@ use Rattle.plates.proofs.plate.zero_plate.Tie as tie
 
 returns : tie.Need-returns
 unfolding zero_plate zero_edges
-returns c = rw (c.with-basis.ensures, c.before.zeros.ensures)
+returns c = rw (c.with_basis.ensures, c.before.zeros-zeros.ensures)
 
-pub zero-plate-spec : {M : Type 1} → statement M
-zero-plate-spec =
+pub zero_plate_spec : {M : Type 1} → statement M
+zero_plate_spec =
     tie.close (tie.spec (λ c _. search rules) (λ c _. search rules) returns)

@@ -5,30 +5,30 @@ use Rattle.plates.specs.Replace.{replace}
 use Rattle.plates.proofs.replace.replace.Statement.{statement}
 use Rattle.plates.proofs.replace.replace.Tie as tie
 
-returns : tie.Need-returns
+returns : tie.Need-returns-then-not-all_finite
 unfolding replace
-returns c = rw (← c.before.all-finite.ensures, c.if1.true)
+returns c = rw (← c.before.all_finite.ensures, c.if-not-all_finite.true)
 
-returns-2 : tie.Need-returns-2
+returns-2 : tie.Need-returns-then-number-gt2
 unfolding replace
 returns-2 c =
     let tested = c.before in
     rw (
-      ← tested.before.all-finite.ensures,
-      tested.if1.false,
-      lt-ltb _ _ c.if2.true,
+      ← tested.before.all_finite.ensures,
+      tested.if-not-all_finite.false,
+      lt-ltb _ _ c.if-number-gt2.true,
     )
 
-returns-3 : tie.Need-returns-3
+returns-3 : tie.Need-returns
 unfolding replace
 returns-3 c =
     let moved = c.before in
     let tested = moved.before.before in
     rw (
-      ← tested.before.before.all-finite.ensures,
-      tested.before.if1.false,
-      le-ltb _ _ tested.if2.false,
-      ← moved.with-target.ensures,
+      ← tested.before.before.all_finite.ensures,
+      tested.before.if-not-all_finite.false,
+      le-ltb _ _ tested.if-number-gt2.false,
+      ← moved.with_target.ensures,
       ← c.done.ensures,
     )
 

@@ -11,18 +11,18 @@ returns c =
     let first = squares.before.before in
     let third = first.before in
     rw (
-      ← third.before.before.target-of.ensures,
-      ← third.before.target-of2.ensures,
-      ← third.target-of3.ensures,
-      ← first.sub.ensures,
-      ← squares.before.sub2.ensures,
-      ← squares.ordered-edges.ensures,
-      ← c.before.ordered-rays.ensures,
+      ← third.before.before.target_of-p0.ensures,
+      ← third.before.target_of-p1.ensures,
+      ← third.target_of-p2.ensures,
+      ← first.sub-d01.ensures,
+      ← squares.before.sub-d02.ensures,
+      ← squares.ordered_edges-squares.ensures,
+      ← c.before.ordered_rays-rays.ensures,
     )
-    c.measure-with.ensures
+    c.measure_with.ensures
 
-pub measure-ordering-spec : {M : Type 1} → statement M
-measure-ordering-spec =
+pub measure_ordering_spec : {M : Type 1} → statement M
+measure_ordering_spec =
     tie.close (tie.spec (λ c _. search rules) (λ c _. search rules) (λ c _. search rules)
     (λ c _. search rules) (λ c _. search rules) (λ c _. search rules) (λ c _. search rules)
     (λ c _. search rules) returns)

@@ -6,8 +6,8 @@ use Rattle.plates.proofs.solve_plate.measure_plate.Tie as tie
 
 returns : tie.Need-returns
 unfolding measure_plate
-returns c = rw (← c.before.source_of.ensures) c.measure-with.ensures
+returns c = rw (← c.before.source_of.ensures) c.measure_with.ensures
 
-pub measure-plate-spec : {M : Type 1} → statement M
-measure-plate-spec =
+pub measure_plate_spec : {M : Type 1} → statement M
+measure_plate_spec =
     tie.close (tie.spec (λ c _. search rules) (λ c _. search rules) returns)

@@ -7,17 +7,17 @@ use Rattle.plates.specs.SolvePlate.{solve_measured, solve_best_ordering}
 use Rattle.plates.proofs.solve_plate.solve_best_ordering.Statement.{statement}
 use Rattle.plates.proofs.solve_plate.solve_best_ordering.Tie as tie
 
-returns : tie.Need-returns
+returns : tie.Need-returns-then-best
 unfolding solve_best_ordering
 returns c =
     let tested = c.before in
     rw (
-      ← tested.before.before.best-ordering.ensures,
-      tested.if1.true,
+      ← tested.before.before.best_ordering-best.ensures,
+      tested.if-best.true,
       ← c.refused.ensures,
     )
 
-returns-2 : tie.Need-returns-2
+returns-2 : tie.Need-returns-then-is_unusable
 unfolding solve_best_ordering solve_measured
 returns-2 c =
     let tested = c.before in
@@ -25,20 +25,20 @@ returns-2 c =
     let measured = cubic.before in
     let limited = measured.before in
     rw (
-      ← limited.before.before.best-ordering.ensures,
-      limited.if1.false,
-      ← measured.measure-ordering.ensures,
-      ← cubic.measured-cubic.ensures,
-      ← tested.before.is-unusable.ensures,
-      tested.if2.true,
-      ← c.refused2.ensures,
+      ← limited.before.before.best_ordering-best.ensures,
+      limited.if-best.false,
+      ← measured.measure_ordering-measured.ensures,
+      ← cubic.measured_cubic-cubic.ensures,
+      ← tested.before.is_unusable.ensures,
+      tested.if-is_unusable.true,
+      ← c.refused-then-is_unusable.ensures,
     )
 
-if-kept-requires : tie.Need-if-kept-requires
+if-kept-requires : tie.Need-if_kept-requires
 unfolding held
-if-kept-requires c κs = rw c.held.ensures c.before.solve-cubic.ensures.few
+if-kept-requires c κs = rw c.held.ensures c.before.solve_cubic-count.ensures.few
 
-returns-3 : tie.Need-returns-3
+returns-3 : tie.Need-returns
 unfolding solve_best_ordering solve_measured
 returns-3 c =
     let after-held = c.before in
@@ -49,19 +49,19 @@ returns-3 c =
     let measured = cubic.before in
     let limited = measured.before in
     rw (
-      ← limited.before.before.best-ordering.ensures,
-      limited.if1.false,
-      ← measured.measure-ordering.ensures,
-      ← cubic.measured-cubic.ensures,
-      ← tested.before.is-unusable.ensures,
-      tested.if2.false,
+      ← limited.before.before.best_ordering-best.ensures,
+      limited.if-best.false,
+      ← measured.measure_ordering-measured.ensures,
+      ← cubic.measured_cubic-cubic.ensures,
+      ← tested.before.is_unusable.ensures,
+      tested.if-is_unusable.false,
     )
     (c.if_kept.ensures
     ∙ ap if_kept after-held.held.ensures
-    ∙ after-solve-cubic.solve-cubic.ensures.same)
+    ∙ after-solve-cubic.solve_cubic-count.ensures.same)
 
-pub solve-best-ordering-spec : {M : Type 1} → statement M
-solve-best-ordering-spec =
+pub solve_best_ordering_spec : {M : Type 1} → statement M
+solve_best_ordering_spec =
     tie.close (tie.spec (λ c _. search rules) (λ c _. search rules) returns (λ c _. search rules)
     (λ c _. search rules) (λ c _. search rules) (λ c _. search rules) returns-2
     (λ c _. search rules) (λ c _. search rules) if-kept-requires returns-3)

@@ -3,13 +3,13 @@ use Rattle.plates.specs.SolvePlate.{source_of}
 use Rattle.plates.proofs.solve_plate.source_of.Statement.{statement}
 use Rattle.plates.proofs.solve_plate.source_of.Tie as tie
 
-returns : tie.Need-returns
+returns : tie.Need-returns-then-invertible
 unfolding source_of
-returns c = rw c.if1.true
+returns c = rw c.if-invertible.true
 
-returns-2 : tie.Need-returns-2
+returns-2 : tie.Need-returns
 unfolding source_of
-returns-2 c = rw c.if1.false
+returns-2 c = rw c.if-invertible.false
 
-pub source-of-spec : {M : Type 1} → statement M
-source-of-spec = tie.close (tie.spec returns returns-2)
+pub source_of_spec : {M : Type 1} → statement M
+source_of_spec = tie.close (tie.spec returns returns-2)

@@ -4,25 +4,25 @@ use Rattle.plates.specs.Target.{ray}
 use Rattle.plates.proofs.targets.ray.Statement.{statement}
 use Rattle.plates.proofs.targets.ray.Tie as tie
 
-returns : tie.Need-returns
+returns : tie.Need-returns-then-number-eq0
 unfolding ray
-returns c = rw (eq-eqb _ _ c.if1.true)
+returns c = rw (eq-eqb _ _ c.if-number-eq0.true)
 
-returns-2 : tie.Need-returns-2
+returns-2 : tie.Need-returns-then-number-eq1
 unfolding ray
 returns-2 c =
     rw (
-      ne_eqb _ _ c.before.if1.false,
-      eq-eqb _ _ c.if2.true,
+      ne_eqb _ _ c.before.if-number-eq0.false,
+      eq-eqb _ _ c.if-number-eq1.true,
     )
 
-returns-3 : tie.Need-returns-3
+returns-3 : tie.Need-returns
 unfolding ray
 returns-3 c =
     rw (
-      ne_eqb _ _ c.before.if1.false,
-      ne_eqb _ _ c.if2.false,
+      ne_eqb _ _ c.before.if-number-eq0.false,
+      ne_eqb _ _ c.if-number-eq1.false,
     )
 
-pub ray-spec : {M : Type 1} → statement M
-ray-spec = tie.close (tie.spec returns returns-2 returns-3)
+pub ray_spec : {M : Type 1} → statement M
+ray_spec = tie.close (tie.spec returns returns-2 returns-3)

@@ -12,12 +12,12 @@ returns c =
     let two = c.before in
     let start = two.before.before in
     rw (
-      two.before.is-scalable.ensures,
-      two.is-scalable2.ensures,
-      c.is-scalable3.ensures,
+      two.before.is_scalable.ensures,
+      two.is_scalable-2.ensures,
+      c.is_scalable-3.ensures,
       to_z-of_z w32 start.args.k start.ranges.k,
     )
 
-pub point-scalable-spec : {M : Type 1} → statement M
-point-scalable-spec =
+pub point_scalable_spec : {M : Type 1} → statement M
+point_scalable_spec =
     tie.close (tie.spec (λ c _. search rules) (λ c _. search rules) (λ c _. search rules) returns)

@@ -7,19 +7,19 @@ use Rattle.plates.proofs.PowerLaws.{points-scalable}
 use Rattle.plates.proofs.times_power.scaled_world.Statement.{statement}
 use Rattle.plates.proofs.times_power.scaled_world.Tie as tie
 
-scaled-point-requires : tie.Need-scaled-point-requires
+scaled-point-requires : tie.Need-scaled_point-p0-requires
 scaled-point-requires c κs =
     let k = c.args.k in
     rw (to_z-of_z w32 k c.ranges.k) (c.requires.0, (points-scalable k c.args.world c.requires.1).0)
 
-scaled-point-requires-2 : tie.Need-scaled-point-requires-2
+scaled-point-requires-2 : tie.Need-scaled_point-p1-requires
 scaled-point-requires-2 c κs =
     let start = c.before in
     let k = start.args.k in
     rw (to_z-of_z w32 k start.ranges.k)
     (start.requires.0, (points-scalable k start.args.world start.requires.1).1)
 
-scaled-point-requires-3 : tie.Need-scaled-point-requires-3
+scaled-point-requires-3 : tie.Need-scaled_point-p2-requires
 scaled-point-requires-3 c κs =
     let start = c.before.before in
     let k = start.args.k in
@@ -32,13 +32,13 @@ returns c =
     let two = c.before in
     let start = two.before.before in
     rw (
-      two.before.scaled-point.ensures,
-      two.scaled-point2.ensures,
-      c.scaled-point3.ensures,
+      two.before.scaled_point-p0.ensures,
+      two.scaled_point-p1.ensures,
+      c.scaled_point-p2.ensures,
       to_z-of_z w32 start.args.k start.ranges.k,
     )
 
-pub scaled-world-spec : {M : Type 1} → statement M
-scaled-world-spec =
+pub scaled_world_spec : {M : Type 1} → statement M
+scaled_world_spec =
     tie.close (tie.spec scaled-point-requires scaled-point-requires-2 scaled-point-requires-3
     returns)

@@ -12,12 +12,12 @@ returns c =
     let two = c.before in
     let start = two.before.before in
     rw (
-      two.before.point-scalable.ensures,
-      two.point-scalable2.ensures,
-      c.point-scalable3.ensures,
+      two.before.point_scalable-p0.ensures,
+      two.point_scalable-p1.ensures,
+      c.point_scalable-p2.ensures,
       to_z-of_z w32 start.args.k start.ranges.k,
     )
 
-pub world-scalable-spec : {M : Type 1} → statement M
-world-scalable-spec =
+pub world_scalable_spec : {M : Type 1} → statement M
+world_scalable_spec =
     tie.close (tie.spec (λ c _. search rules) (λ c _. search rules) (λ c _. search rules) returns)

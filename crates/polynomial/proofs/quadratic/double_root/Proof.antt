@@ -7,17 +7,17 @@ use Rattle.polynomial.specs.Quadratic.{double_root}
 use Rattle.polynomial.proofs.quadratic.double_root.Statement.{statement}
 use Rattle.polynomial.proofs.quadratic.double_root.Tie as tie
 
-returns : tie.Need-returns
+returns : tie.Need-returns-then-computed
 unfolding double_root
 returns c =
-    let below : lt c.before.args.computed plus_zero ≡ true = c.if1.true in
+    let below : lt c.before.args.computed plus_zero ≡ true = c.if-computed.true in
     rw (below)
 
-returns-2 : tie.Need-returns-2
+returns-2 : tie.Need-returns
 unfolding double_root
 returns-2 c =
-    let not-below : lt c.before.args.computed plus_zero ≡ false = c.if1.false in
+    let not-below : lt c.before.args.computed plus_zero ≡ false = c.if-computed.false in
     rw (not-below)
 
-pub double-root-spec : {M : Type 1} → statement M
-double-root-spec = tie.close (tie.spec returns returns-2)
+pub double_root_spec : {M : Type 1} → statement M
+double_root_spec = tie.close (tie.spec returns returns-2)

@@ -6,7 +6,7 @@ use Rattle.polynomial.proofs.quadratic.quadratic_real_monic.Tie as tie
 
 returns : tie.Need-returns
 unfolding quadratic_real_monic
-returns c = rw (← c.before.abs.ensures, ← c.quadratic-real-monic-computed.ensures)
+returns c = rw (← c.before.abs.ensures, ← c.quadratic_real_monic_computed.ensures)
 
-pub quadratic-real-monic-spec : {M : Type 1} → statement M
-quadratic-real-monic-spec = tie.close (tie.spec (λ c _. search rules) (λ c _. search rules) returns)
+pub quadratic_real_monic_spec : {M : Type 1} → statement M
+quadratic_real_monic_spec = tie.close (tie.spec (λ c _. search rules) (λ c _. search rules) returns)

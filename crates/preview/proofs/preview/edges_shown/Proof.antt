@@ -5,13 +5,13 @@ use Rattle.preview.specs.Preview.{edges_shown}
 use Rattle.preview.proofs.preview.edges_shown.Statement.{statement}
 use Rattle.preview.proofs.preview.edges_shown.Tie as tie
 
-returns : tie.Need-returns
+returns : tie.Need-returns-then-refusal-ne0
 unfolding edges_shown zero_edges
-returns c = rw (ne_eqb _ _ c.if1.true)
+returns c = rw (ne_eqb _ _ c.if-refusal-ne0.true)
 
-returns-2 : tie.Need-returns-2
+returns-2 : tie.Need-returns
 unfolding edges_shown
-returns-2 c = rw (eq-eqb _ _ c.before.if1.false)
+returns-2 c = rw (eq-eqb _ _ c.before.if-refusal-ne0.false)
 
-pub edges-shown-spec : {M : Type 1} → statement M
-edges-shown-spec = tie.close (tie.spec returns returns-2)
+pub edges_shown_spec : {M : Type 1} → statement M
+edges_shown_spec = tie.close (tie.spec returns returns-2)

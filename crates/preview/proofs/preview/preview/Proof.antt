@@ -10,12 +10,12 @@ unfolding preview
 returns c =
     let edges = c.before in
     rw (
-      c.answer-shown.ensures,
-      edges.edges-shown.ensures,
-      edges.before.replace.ensures,
+      c.answer_shown-answer.ensures,
+      edges.edges_shown-edges.ensures,
+      edges.before.replace-copy.ensures,
     )
     refl
 
-pub preview-spec : {M : Type 1} → statement M
-preview-spec =
+pub preview_spec : {M : Type 1} → statement M
+preview_spec =
     tie.close (tie.spec (λ c _. search rules) (λ c _. search rules) (λ c _. search rules) returns)

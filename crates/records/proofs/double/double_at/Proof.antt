@@ -8,8 +8,8 @@ use Rattle.records.proofs.double.double_at.Tie as tie
 
 returns : tie.Need-returns
 unfolding double_at
-returns c = c.from-bits.ensures ∙ ap (of_bits binary64) c.before.number.ensures
+returns c = c.from_bits.ensures ∙ ap (of_bits binary64) c.before.number.ensures
 
-pub double-at-spec : {M : Type 1} → statement M
-double-at-spec =
+pub double_at_spec : {M : Type 1} → statement M
+double_at_spec =
     tie.close (tie.spec (λ c _. search rules) (λ c _. search rules) returns)

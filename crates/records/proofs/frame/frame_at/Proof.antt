@@ -8,8 +8,8 @@ returns : tie.Need-returns
 unfolding frame_at
 returns c = cc
 
-pub frame-at-spec : {M : Type 1} → statement M
-frame-at-spec =
+pub frame_at_spec : {M : Type 1} → statement M
+frame_at_spec =
     tie.close (tie.spec (λ c _. search rules) (λ c _. search rules) (λ c _. search rules)
     (λ c _. search rules) (λ c _. search rules) (λ c _. search rules) (λ c _. search rules)
     (λ c _. search rules) returns)

@@ -8,5 +8,5 @@ returns : tie.Need-returns
 unfolding depth_residual
 returns c = refl
 
-pub depth-residual-spec : {M : Type 1} → statement M
-depth-residual-spec = tie.close (tie.spec returns)
+pub depth_residual_spec : {M : Type 1} → statement M
+depth_residual_spec = tie.close (tie.spec returns)

@@ -15,19 +15,19 @@ returns c =
     let poses = origin.before in
     let count = poses.before in
     rw (
-      c.choice-agrees.ensures,
-      chosen.choose-about.ensures,
+      c.choice_agrees.ensures,
+      chosen.choose_about.ensures,
       ← count.before.word.ensures,
-      ← count.narrow.ensures,
-      ← poses.poses-at.ensures,
-      ← origin.vector-at.ensures,
-      ← target.vector-at2.ensures,
-      ← bearing.vector-at3.ensures,
+      ← count.narrow-count.ensures,
+      ← poses.poses_at-poses.ensures,
+      ← origin.vector_at-origin.ensures,
+      ← target.vector_at-target.ensures,
+      ← bearing.vector_at-bearing.ensures,
     )
     refl
 
-pub holds-spec : {M : Type 1} → statement M
-holds-spec =
+pub holds_spec : {M : Type 1} → statement M
+holds_spec =
     tie.close (tie.spec (λ c _. search rules) (λ c _. search rules) (λ c _. search rules)
     (λ c _. search rules) (λ c _. search rules) (λ c _. search rules) (λ c _. search rules)
     (λ c _. search rules) returns)

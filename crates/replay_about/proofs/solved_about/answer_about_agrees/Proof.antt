@@ -9,11 +9,11 @@ returns : tie.Need-returns
 unfolding answer_about_agrees
 returns c =
     rw (
-      ← c.before.answer-agrees.ensures,
-      ← c.vector-agrees.ensures,
+      ← c.before.answer_agrees-answer.ensures,
+      ← c.vector_agrees-origin.ensures,
     )
     refl
 
-pub answer-about-agrees-spec : {M : Type 1} → statement M
-answer-about-agrees-spec =
+pub answer_about_agrees_spec : {M : Type 1} → statement M
+answer_about_agrees_spec =
     tie.close (tie.spec (λ c _. search rules) (λ c _. search rules) returns)

@@ -11,14 +11,14 @@ returns c =
     let solved = c.before in
     let bearings = solved.before in
     rw (
-      c.answer-about-agrees.ensures,
-      solved.solve-about.ensures,
-      ← bearings.before.world-at.ensures,
-      ← bearings.bearings-at.ensures,
+      c.answer_about_agrees.ensures,
+      solved.solve_about.ensures,
+      ← bearings.before.world_at-world.ensures,
+      ← bearings.bearings_at-bearings.ensures,
     )
     refl
 
-pub holds-spec : {M : Type 1} → statement M
-holds-spec =
+pub holds_spec : {M : Type 1} → statement M
+holds_spec =
     tie.close (tie.spec (λ c _. search rules) (λ c _. search rules) (λ c _. search rules)
     (λ c _. search rules) returns)

@@ -8,7 +8,7 @@ returns : tie.Need-returns
 unfolding poses_at
 returns c = cc
 
-pub poses-at-spec : {M : Type 1} → statement M
-poses-at-spec =
+pub poses_at_spec : {M : Type 1} → statement M
+poses_at_spec =
     tie.close (tie.spec (λ c _. search rules) (λ c. search rules) (λ c _. search rules)
     (λ c. search rules) (λ c _. search rules) (λ c. search rules) (λ c _. search rules) returns)

@@ -8,7 +8,7 @@ returns : tie.Need-returns
 unfolding basis_holds
 returns c = cc
 
-pub basis-holds-spec : {M : Type 1} → statement M
-basis-holds-spec =
+pub basis_holds_spec : {M : Type 1} → statement M
+basis_holds_spec =
     tie.close (tie.spec (λ c _. search rules) (λ c _. search rules) (λ c _. search rules)
     (λ c _. search rules) returns)

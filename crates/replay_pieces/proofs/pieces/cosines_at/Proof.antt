@@ -8,7 +8,7 @@ returns : tie.Need-returns
 unfolding cosines_at
 returns c = cc
 
-pub cosines-at-spec : {M : Type 1} → statement M
-cosines-at-spec =
+pub cosines_at_spec : {M : Type 1} → statement M
+cosines_at_spec =
     tie.close (tie.spec (λ c _. search rules) (λ c. search rules) (λ c _. search rules)
     (λ c. search rules) (λ c _. search rules) returns)

@@ -8,7 +8,7 @@ returns : tie.Need-returns
 unfolding edges_hold
 returns c = cc
 
-pub edges-hold-spec : {M : Type 1} → statement M
-edges-hold-spec =
+pub edges_hold_spec : {M : Type 1} → statement M
+edges_hold_spec =
     tie.close (tie.spec (λ c _. search rules) (λ c _. search rules) (λ c _. search rules)
     (λ c _. search rules) (λ c _. search rules) returns)

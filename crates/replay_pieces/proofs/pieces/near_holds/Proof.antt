@@ -8,7 +8,7 @@ returns : tie.Need-returns
 unfolding near_holds
 returns c = cc
 
-pub near-holds-spec : {M : Type 1} → statement M
-near-holds-spec =
+pub near_holds_spec : {M : Type 1} → statement M
+near_holds_spec =
     tie.close (tie.spec (λ c _. search rules) (λ c _. search rules) (λ c _. search rules)
     (λ c _. search rules) returns)

@@ -8,7 +8,7 @@ returns : tie.Need-returns
 unfolding project_holds
 returns c = cc
 
-pub project-holds-spec : {M : Type 1} → statement M
-project-holds-spec =
+pub project_holds_spec : {M : Type 1} → statement M
+project_holds_spec =
     tie.close (tie.spec (λ c _. search rules) (λ c _. search rules) (λ c _. search rules)
     returns)

@@ -8,7 +8,7 @@ returns : tie.Need-returns
 unfolding ray_holds
 returns c = cc
 
-pub ray-holds-spec : {M : Type 1} → statement M
-ray-holds-spec =
+pub ray_holds_spec : {M : Type 1} → statement M
+ray_holds_spec =
     tie.close (tie.spec (λ c _. search rules) (λ c _. search rules) (λ c _. search rules)
     (λ c _. search rules) (λ c _. search rules) returns)

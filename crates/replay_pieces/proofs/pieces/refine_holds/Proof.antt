@@ -8,8 +8,8 @@ returns : tie.Need-returns
 unfolding refine_holds
 returns c = cc
 
-pub refine-holds-spec : {M : Type 1} → statement M
-refine-holds-spec =
+pub refine_holds_spec : {M : Type 1} → statement M
+refine_holds_spec =
     tie.close (tie.spec (λ c _. search rules) (λ c _. search rules) (λ c _. search rules)
     (λ c _. search rules) (λ c _. search rules) (λ c _. search rules) (λ c _. search rules)
     returns)

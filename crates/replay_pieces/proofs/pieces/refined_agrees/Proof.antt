@@ -8,6 +8,6 @@ returns : tie.Need-returns
 unfolding refined_agrees
 returns c = cc
 
-pub refined-agrees-spec : {M : Type 1} → statement M
-refined-agrees-spec =
+pub refined_agrees_spec : {M : Type 1} → statement M
+refined_agrees_spec =
     tie.close (tie.spec (λ c. search rules) (λ c _. search rules) (λ c _. search rules) returns)

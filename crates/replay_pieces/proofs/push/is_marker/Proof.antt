@@ -8,8 +8,8 @@ returns : tie.Need-returns
 unfolding is_marker
 returns c = cc
 
-pub is-marker-spec : {M : Type 1} → statement M
-is-marker-spec =
+pub is_marker_spec : {M : Type 1} → statement M
+is_marker_spec =
     tie.close (tie.spec (λ c _. search rules) (λ c _. search rules) (λ c _. search rules)
     (λ c _. search rules) (λ c _. search rules) (λ c _. search rules) (λ c _. search rules)
     returns)

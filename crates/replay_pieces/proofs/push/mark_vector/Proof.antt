@@ -8,6 +8,6 @@ returns : tie.Need-returns
 unfolding mark_vector
 returns c = cc
 
-pub mark-vector-spec : {M : Type 1} → statement M
-mark-vector-spec =
+pub mark_vector_spec : {M : Type 1} → statement M
+mark_vector_spec =
     tie.close (tie.spec (λ c _. search rules) returns)

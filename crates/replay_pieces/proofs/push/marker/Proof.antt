@@ -8,6 +8,6 @@ returns : tie.Need-returns
 unfolding marker
 returns c = cc
 
-pub marker-spec : {M : Type 1} → statement M
-marker-spec =
+pub marker_spec : {M : Type 1} → statement M
+marker_spec =
     tie.close (tie.spec (λ c _. search rules) (λ c _. search rules) returns)

@@ -18,20 +18,20 @@ returns c =
     let bearings = count.before.before in
     let world = bearings.before in
     rw (
-      ← world.world-at.ensures,
-      ← bearings.bearings-at.ensures,
+      ← world.world_at-world.ensures,
+      ← bearings.bearings_at-bearings.ensures,
       ← count.word.ensures,
       ← narrowed.narrow.ensures,
-      ← held.marked.ensures,
-      ← matrix.matrix-at.ensures,
-      ← translation.vector-at.ensures,
-      ← limit.word2.ensures,
-      ← updates.narrow2.ensures,
-      ← pushed.push-pose.ensures,
-    ) c.solutions-hold.ensures
+      ← held.marked-before.ensures,
+      ← matrix.matrix_at-matrix.ensures,
+      ← translation.vector_at-translation.ensures,
+      ← limit.word-2.ensures,
+      ← updates.narrow-updates.ensures,
+      ← pushed.push_pose.ensures,
+    ) c.solutions_hold.ensures
 
-pub push-holds-spec : {M : Type 1} → statement M
-push-holds-spec =
+pub push_holds_spec : {M : Type 1} → statement M
+push_holds_spec =
     tie.close (tie.spec (λ c _. search rules) (λ c _. search rules) (λ c _. search rules)
     (λ c _. search rules) (λ c. search rules) (λ c _. search rules) (λ c _. search rules)
     (λ c _. search rules) (λ c _. search rules) (λ c _. search rules) (λ c _. search rules)

@@ -8,6 +8,6 @@ returns : tie.Need-returns
 unfolding solutions_hold
 returns c = cc
 
-pub solutions-hold-spec : {M : Type 1} → statement M
-solutions-hold-spec =
+pub solutions_hold_spec : {M : Type 1} → statement M
+solutions_hold_spec =
     tie.close (tie.spec (λ c _. search rules) (λ c _. search rules) returns)

@@ -8,7 +8,7 @@ returns : tie.Need-returns
 unfolding vector_is
 returns c = cc
 
-pub vector-is-spec : {M : Type 1} → statement M
-vector-is-spec =
+pub vector_is_spec : {M : Type 1} → statement M
+vector_is_spec =
     tie.close (tie.spec (λ c _. search rules) (λ c _. search rules) (λ c _. search rules)
     returns)

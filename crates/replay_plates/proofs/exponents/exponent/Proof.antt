@@ -27,30 +27,30 @@ lacking w h g =
     let above = ltb→lt last w (subst (λ (b : Bool). T (b || ltb last w)) low h) in
     omega (arith, above)
 
-returns : tie.Need-returns
+returns : tie.Need-returns-then-w-lt2147483648
 unfolding exponent
-returns c = rw (lt-ltb _ _ c.if1.true) refl
+returns c = rw (lt-ltb _ _ c.if-w-lt2147483648.true) refl
 
-cast-result-2 : tie.Need-overflow-cast-result-2
-cast-result-2 c = record { sfits = lacking c.before.args.w c.before.requires c.if1.false }
+cast-result-2 : tie.Need-overflow_cast-result-2
+cast-result-2 c = record { sfits = lacking c.before.args.w c.before.requires c.if-w-lt2147483648.false }
 
-sub-result-2 : tie.Need-overflow-sub-result-2
+sub-result-2 : tie.Need-overflow_sub-result-2
 sub-result-2 c =
     let w = c.before.args.w in
     let n : ℕ = 0xffff_ffff_ffff_ffff - w in
-    let small = lacking w c.before.requires c.if1.false in
+    let small = lacking w c.before.requires c.if-w-lt2147483648.false in
     rw (to_z_pos w32 n small, minus-one-less n) (record { sfits = small })
 
-returns-2 : tie.Need-returns-2
+returns-2 : tie.Need-returns
 unfolding exponent
 returns-2 c =
     let w = c.before.args.w in
     let n : ℕ = 0xffff_ffff_ffff_ffff - w in
-    let small = lacking w c.before.requires c.if1.false in
-    rw (le-ltb _ _ c.if1.false, to_z_pos w32 n small, minus-one-less n)
+    let small = lacking w c.before.requires c.if-w-lt2147483648.false in
+    rw (le-ltb _ _ c.if-w-lt2147483648.false, to_z_pos w32 n small, minus-one-less n)
     (to_z-of_z w32 (negsuc n) (record { sfits = small }))
 
-pub exponent-spec : {M : Type 1} → statement M
-exponent-spec =
+pub exponent_spec : {M : Type 1} → statement M
+exponent_spec =
     tie.close (tie.spec (λ c. search rules) returns (λ c. search rules) cast-result-2 sub-result-2
     returns-2)

@@ -8,5 +8,5 @@ returns : tie.Need-returns
 unfolding is_exponent
 returns c = refl
 
-pub is-exponent-spec : {M : Type 1} → statement M
-is-exponent-spec = tie.close (tie.spec returns)
+pub is_exponent_spec : {M : Type 1} → statement M
+is_exponent_spec = tie.close (tie.spec returns)

@@ -14,17 +14,17 @@ returns c =
     let first = second-read.before.before in
     let first_read = first.before in
     rw (
-      c.outcome-agrees.ensures,
+      c.outcome_agrees.ensures,
       exchanged.exchange.ensures,
-      ← first_read.before.before.plate-at.ensures,
+      ← first_read.before.before.plate_at-plate.ensures,
       ← first_read.word.ensures,
-      ← first.narrow.ensures,
-      ← second-read.word2.ensures,
-      ← second.narrow2.ensures,
+      ← first.narrow-first.ensures,
+      ← second-read.word-2.ensures,
+      ← second.narrow-second.ensures,
     )
     refl
 
-pub exchange-holds-spec : {M : Type 1} → statement M
-exchange-holds-spec =
+pub exchange_holds_spec : {M : Type 1} → statement M
+exchange_holds_spec =
     tie.close (tie.spec (λ c _. search rules) (λ c _. search rules) (λ c _. search rules)
     (λ c _. search rules) (λ c _. search rules) (λ c _. search rules) (λ c _. search rules) returns)

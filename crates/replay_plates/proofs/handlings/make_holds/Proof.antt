@@ -10,12 +10,12 @@ unfolding make_holds
 returns c =
     let made = c.before in
     rw (
-      c.outcome-agrees.ensures,
+      c.outcome_agrees.ensures,
       made.make.ensures,
-      ← made.before.world-at.ensures,
+      ← made.before.world_at.ensures,
     )
     refl
 
-pub make-holds-spec : {M : Type 1} → statement M
-make-holds-spec =
+pub make_holds_spec : {M : Type 1} → statement M
+make_holds_spec =
     tie.close (tie.spec (λ c _. search rules) (λ c _. search rules) (λ c _. search rules) returns)

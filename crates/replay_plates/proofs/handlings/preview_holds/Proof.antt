@@ -14,17 +14,17 @@ returns c =
     let number = point.before in
     let read = number.before in
     rw (
-      c.shown-agrees.ensures,
+      c.shown_agrees.ensures,
       shown.preview.ensures,
-      ← read.before.before.plate-at.ensures,
+      ← read.before.before.plate_at-plate.ensures,
       ← read.word.ensures,
-      ← number.narrow.ensures,
-      ← point.vector-at.ensures,
-      ← bearings.bearings-at.ensures,
+      ← number.narrow-number.ensures,
+      ← point.vector_at-point.ensures,
+      ← bearings.bearings_at-bearings.ensures,
     )
     refl
 
-pub preview-holds-spec : {M : Type 1} → statement M
-preview-holds-spec =
+pub preview_holds_spec : {M : Type 1} → statement M
+preview_holds_spec =
     tie.close (tie.spec (λ c _. search rules) (λ c _. search rules) (λ c _. search rules)
     (λ c _. search rules) (λ c _. search rules) (λ c _. search rules) (λ c _. search rules) returns)

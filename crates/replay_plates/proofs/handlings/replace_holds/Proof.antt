@@ -13,16 +13,16 @@ returns c =
     let number = point.before in
     let read = number.before in
     rw (
-      c.outcome-agrees.ensures,
+      c.outcome_agrees.ensures,
       replaced.replace.ensures,
-      ← read.before.before.plate-at.ensures,
+      ← read.before.before.plate_at-plate.ensures,
       ← read.word.ensures,
-      ← number.narrow.ensures,
-      ← point.vector-at.ensures,
+      ← number.narrow-number.ensures,
+      ← point.vector_at-point.ensures,
     )
     refl
 
-pub replace-holds-spec : {M : Type 1} → statement M
-replace-holds-spec =
+pub replace_holds_spec : {M : Type 1} → statement M
+replace_holds_spec =
     tie.close (tie.spec (λ c _. search rules) (λ c _. search rules) (λ c _. search rules)
     (λ c _. search rules) (λ c _. search rules) (λ c _. search rules) returns)

@@ -9,10 +9,10 @@ returns : tie.Need-returns
 unfolding shown_agrees
 returns c =
     rw (
-      ← c.before.answer-agrees.ensures,
-      ← c.squares-agree.ensures,
+      ← c.before.answer_agrees-answer.ensures,
+      ← c.squares_agree-edges.ensures,
     )
     refl
 
-pub shown-agrees-spec : {M : Type 1} → statement M
-shown-agrees-spec = tie.close (tie.spec (λ c _. search rules) (λ c _. search rules) returns)
+pub shown_agrees_spec : {M : Type 1} → statement M
+shown_agrees_spec = tie.close (tie.spec (λ c _. search rules) (λ c _. search rules) returns)

@@ -11,14 +11,14 @@ returns c =
     let solved = c.before in
     let bearings = solved.before in
     rw (
-      c.answer-agrees.ensures,
-      solved.solve-plate.ensures,
-      ← bearings.before.plate-at.ensures,
-      ← bearings.bearings-at.ensures,
+      c.answer_agrees.ensures,
+      solved.solve_plate.ensures,
+      ← bearings.before.plate_at-plate.ensures,
+      ← bearings.bearings_at-bearings.ensures,
     )
     refl
 
-pub solve-holds-spec : {M : Type 1} → statement M
-solve-holds-spec =
+pub solve_holds_spec : {M : Type 1} → statement M
+solve_holds_spec =
     tie.close (tie.spec (λ c _. search rules) (λ c _. search rules) (λ c _. search rules)
     (λ c _. search rules) returns)

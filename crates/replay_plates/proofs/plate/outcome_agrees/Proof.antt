@@ -9,12 +9,12 @@ returns : tie.Need-returns
 unfolding outcome_agrees
 returns c =
     rw (
-      ← c.before.number-agrees.ensures,
-      ← c.plate-agrees.ensures,
+      ← c.before.number_agrees-number.ensures,
+      ← c.plate_agrees-plate.ensures,
     )
     refl
 
-pub outcome-agrees-spec : {M : Type 1} → statement M
-outcome-agrees-spec =
+pub outcome_agrees_spec : {M : Type 1} → statement M
+outcome_agrees_spec =
     tie.close (tie.spec (λ c. search rules) (λ c _. search rules) (λ c. search rules)
     (λ c _. search rules) returns)

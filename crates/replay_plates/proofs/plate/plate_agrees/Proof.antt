@@ -12,16 +12,16 @@ returns c =
     let inverse = flagged.before in
     let edges = inverse.before in
     rw (
-      ← edges.before.world-agrees.ensures,
-      ← edges.squares-agree.ensures,
-      ← inverse.matrix-agrees.ensures,
+      ← edges.before.world_agrees-world.ensures,
+      ← edges.squares_agree-edges.ensures,
+      ← inverse.matrix_agrees-inverse.ensures,
       ← flagged.flag.ensures,
-      ← c.number-agrees.ensures,
+      ← c.number_agrees-invertible.ensures,
     )
     refl
 
-pub plate-agrees-spec : {M : Type 1} → statement M
-plate-agrees-spec =
+pub plate_agrees_spec : {M : Type 1} → statement M
+plate_agrees_spec =
     tie.close (tie.spec (λ c _. search rules) (λ c. search rules) (λ c _. search rules)
     (λ c. search rules) (λ c _. search rules) (λ c _. search rules) (λ c. search rules)
     (λ c _. search rules) returns)

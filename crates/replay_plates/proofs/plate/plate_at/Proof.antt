@@ -11,14 +11,14 @@ returns c =
     let inverse = c.before.before in
     let edges = inverse.before in
     rw (
-      ← edges.before.world-at.ensures,
-      ← edges.squares-at.ensures,
-      ← inverse.matrix-at.ensures,
+      ← edges.before.world_at-world.ensures,
+      ← edges.squares_at-edges.ensures,
+      ← inverse.matrix_at-inverse.ensures,
       ← c.word.ensures,
     )
     refl
 
-pub plate-at-spec : {M : Type 1} → statement M
-plate-at-spec =
+pub plate_at_spec : {M : Type 1} → statement M
+plate_at_spec =
     tie.close (tie.spec (λ c _. search rules) (λ c _. search rules) (λ c _. search rules)
     (λ c _. search rules) returns)

@@ -10,13 +10,13 @@ unfolding squares_agree
 returns c =
     let second = c.before in
     rw (
-      ← second.before.double-agrees.ensures,
-      ← second.double-agrees2.ensures,
-      ← c.double-agrees3.ensures,
+      ← second.before.double_agrees-a01.ensures,
+      ← second.double_agrees-a02.ensures,
+      ← c.double_agrees-a12.ensures,
     )
     refl
 
-pub squares-agree-spec : {M : Type 1} → statement M
-squares-agree-spec =
+pub squares_agree_spec : {M : Type 1} → statement M
+squares_agree_spec =
     tie.close (tie.spec (λ c _. search rules) (λ c. search rules) (λ c _. search rules)
     (λ c. search rules) (λ c _. search rules) returns)

@@ -10,13 +10,13 @@ unfolding world_agrees
 returns c =
     let second = c.before in
     rw (
-      ← second.before.vector-agrees.ensures,
-      ← second.vector-agrees2.ensures,
-      ← c.vector-agrees3.ensures,
+      ← second.before.vector_agrees-p0.ensures,
+      ← second.vector_agrees-p1.ensures,
+      ← c.vector_agrees-p2.ensures,
     )
     refl
 
-pub world-agrees-spec : {M : Type 1} → statement M
-world-agrees-spec =
+pub world_agrees_spec : {M : Type 1} → statement M
+world_agrees_spec =
     tie.close (tie.spec (λ c _. search rules) (λ c. search rules) (λ c _. search rules)
     (λ c. search rules) (λ c _. search rules) returns)

@@ -8,7 +8,7 @@ returns : tie.Need-returns
 unfolding answer_agrees
 returns c = cc
 
-pub answer-agrees-spec : {M : Type 1} → statement M
-answer-agrees-spec =
+pub answer_agrees_spec : {M : Type 1} → statement M
+answer_agrees_spec =
     tie.close (tie.spec (λ c. search rules) (λ c _. search rules) (λ c. search rules)
     (λ c. search rules) (λ c _. search rules) (λ c _. search rules) returns)

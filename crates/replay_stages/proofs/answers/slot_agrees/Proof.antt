@@ -8,7 +8,7 @@ returns : tie.Need-returns
 unfolding slot_agrees
 returns c = cc
 
-pub slot-agrees-spec : {M : Type 1} → statement M
-slot-agrees-spec =
+pub slot_agrees_spec : {M : Type 1} → statement M
+slot_agrees_spec =
     tie.close (tie.spec (λ c _. search rules) (λ c _. search rules) (λ c. search rules)
     (λ c _. search rules) (λ c. search rules) (λ c _. search rules) returns)

@@ -8,7 +8,7 @@ returns : tie.Need-returns
 unfolding pairs_hold
 returns c = cc
 
-pub pairs-hold-spec : {M : Type 1} → statement M
-pairs-hold-spec =
+pub pairs_hold_spec : {M : Type 1} → statement M
+pairs_hold_spec =
     tie.close (tie.spec (λ c _. search rules) (λ c _. search rules) (λ c _. search rules)
     returns)

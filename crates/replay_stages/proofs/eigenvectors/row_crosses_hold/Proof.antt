@@ -8,7 +8,7 @@ returns : tie.Need-returns
 unfolding row_crosses_hold
 returns c = cc
 
-pub row-crosses-hold-spec : {M : Type 1} → statement M
-row-crosses-hold-spec =
+pub row_crosses_hold_spec : {M : Type 1} → statement M
+row_crosses_hold_spec =
     tie.close (tie.spec (λ c _. search rules) (λ c _. search rules) (λ c _. search rules)
     (λ c _. search rules) returns)

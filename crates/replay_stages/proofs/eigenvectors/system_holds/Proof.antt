@@ -8,7 +8,7 @@ returns : tie.Need-returns
 unfolding system_holds
 returns c = cc
 
-pub system-holds-spec : {M : Type 1} → statement M
-system-holds-spec =
+pub system_holds_spec : {M : Type 1} → statement M
+system_holds_spec =
     tie.close (tie.spec (λ c _. search rules) (λ c _. search rules) (λ c _. search rules)
     returns)

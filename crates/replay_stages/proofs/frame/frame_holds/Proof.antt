@@ -8,7 +8,7 @@ returns : tie.Need-returns
 unfolding frame_holds
 returns c = cc
 
-pub frame-holds-spec : {M : Type 1} → statement M
-frame-holds-spec =
+pub frame_holds_spec : {M : Type 1} → statement M
+frame_holds_spec =
     tie.close (tie.spec (λ c _. search rules) (λ c _. search rules) (λ c _. search rules)
     (λ c _. search rules) returns)

@@ -8,7 +8,7 @@ returns : tie.Need-returns
 unfolding condition_holds
 returns c = cc
 
-pub condition-holds-spec : {M : Type 1} → statement M
-condition-holds-spec =
+pub condition_holds_spec : {M : Type 1} → statement M
+condition_holds_spec =
     tie.close (tie.spec (λ c _. search rules) (λ c _. search rules) (λ c _. search rules)
     (λ c _. search rules) returns)

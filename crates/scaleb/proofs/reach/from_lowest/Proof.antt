@@ -23,14 +23,14 @@ module _ (k : ℤ) (word : SFits w32 k) (u : ℕ) (most : u ≤ 128) (is : k +�
   read_is : to_z w32 (of_z w32 (to_z w32 (of_z w32 k) +ℤ pos 64)) ≡ pos u
   read_is = ap (λ (z : ℤ). to_z w32 (of_z w32 z)) sum_is ∙ to_z-of_z w32 (pos u) sum-word
 
-add-result : tie.Need-overflow-add-result
+add-result : tie.Need-overflow_add-result
 add-result c =
     let k = c.args.k in
     let r = reach-counted k c.requires in
     rw (sum_is k c.ranges.k r.0 r.1 r.2)
     (sum-word k c.ranges.k r.0 r.1 r.2)
 
-cast-result : tie.Need-overflow-cast-result
+cast-result : tie.Need-overflow_cast-result
 cast-result c =
     let k = c.args.k in
     let r = reach-counted k c.requires in
@@ -43,5 +43,5 @@ returns c =
     let r = reach-counted k c.requires in
     rw (read_is k c.ranges.k r.0 r.1 r.2) (r.1, sym r.2)
 
-pub from-lowest-spec : {M : Type 1} → statement M
-from-lowest-spec = tie.close (tie.spec add-result cast-result returns)
+pub from_lowest_spec : {M : Type 1} → statement M
+from_lowest_spec = tie.close (tie.spec add-result cast-result returns)

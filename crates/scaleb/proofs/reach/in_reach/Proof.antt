@@ -10,5 +10,5 @@ returns : tie.Need-returns
 unfolding in_reach
 returns c = rw (to_z-of_z w32 c.args.k c.ranges.k) refl
 
-pub in-reach-spec : {M : Type 1} → statement M
-in-reach-spec = tie.close (tie.spec returns)
+pub in_reach_spec : {M : Type 1} → statement M
+in_reach_spec = tie.close (tie.spec returns)

@@ -8,6 +8,6 @@ returns : tie.Need-returns
 unfolding camera_point
 returns c = cc
 
-pub camera-point-spec : {M : Type 1} → statement M
-camera-point-spec =
+pub camera_point_spec : {M : Type 1} → statement M
+camera_point_spec =
     tie.close (tie.spec (λ c _. search rules) (λ c _. search rules) returns)

@@ -8,5 +8,5 @@ returns : tie.Need-returns
 unfolding from_columns
 returns c = refl
 
-pub from-columns-spec : {M : Type 1} → statement M
-from-columns-spec = tie.close (tie.spec returns)
+pub from_columns_spec : {M : Type 1} → statement M
+from_columns_spec = tie.close (tie.spec returns)

@@ -8,5 +8,5 @@ returns : tie.Need-returns
 unfolding from_rows
 returns c = refl
 
-pub from-rows-spec : {M : Type 1} → statement M
-from-rows-spec = tie.close (tie.spec returns)
+pub from_rows_spec : {M : Type 1} → statement M
+from_rows_spec = tie.close (tie.spec returns)

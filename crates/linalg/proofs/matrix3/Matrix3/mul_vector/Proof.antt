@@ -8,5 +8,5 @@ returns : tie.Need-returns
 unfolding mat_vec
 returns c = refl
 
-pub mul-vector-spec : {M : Type 1} → statement M
-mul-vector-spec = tie.close (tie.spec returns)
+pub mul_vector_spec : {M : Type 1} → statement M
+mul_vector_spec = tie.close (tie.spec returns)

@@ -8,5 +8,5 @@ returns : tie.Need-returns
 unfolding trace
 returns c = refl
 
-pub trace-spec : {M : Type 1} → statement M
-trace-spec = tie.close (tie.spec returns)
+pub trace_spec : {M : Type 1} → statement M
+trace_spec = tie.close (tie.spec returns)

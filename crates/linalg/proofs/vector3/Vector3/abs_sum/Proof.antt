@@ -8,6 +8,6 @@ returns : tie.Need-returns
 unfolding abs_sum
 returns c = cc
 
-pub abs-sum-spec : {M : Type 1} → statement M
-abs-sum-spec =
+pub abs_sum_spec : {M : Type 1} → statement M
+abs_sum_spec =
     tie.close (tie.spec (λ c _. search rules) (λ c _. search rules) (λ c _. search rules) returns)

@@ -8,6 +8,6 @@ returns : tie.Need-returns
 unfolding all_finite
 returns c = cc
 
-pub all-finite-spec : {M : Type 1} → statement M
-all-finite-spec =
+pub all_finite_spec : {M : Type 1} → statement M
+all_finite_spec =
     tie.close (tie.spec (λ c _. search rules) (λ c _. search rules) (λ c _. search rules) returns)

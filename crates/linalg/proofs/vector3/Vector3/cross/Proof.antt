@@ -8,5 +8,5 @@ returns : tie.Need-returns
 unfolding cross
 returns c = refl
 
-pub cross-spec : {M : Type 1} → statement M
-cross-spec = tie.close (tie.spec returns)
+pub cross_spec : {M : Type 1} → statement M
+cross_spec = tie.close (tie.spec returns)

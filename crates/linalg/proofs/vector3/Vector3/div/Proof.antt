@@ -8,5 +8,5 @@ returns : tie.Need-returns
 unfolding vec_div
 returns c = refl
 
-pub div-spec : {M : Type 1} → statement M
-div-spec = tie.close (tie.spec returns)
+pub div_spec : {M : Type 1} → statement M
+div_spec = tie.close (tie.spec returns)

@@ -8,5 +8,5 @@ returns : tie.Need-returns
 unfolding dot
 returns c = refl
 
-pub dot-spec : {M : Type 1} → statement M
-dot-spec = tie.close (tie.spec returns)
+pub dot_spec : {M : Type 1} → statement M
+dot_spec = tie.close (tie.spec returns)

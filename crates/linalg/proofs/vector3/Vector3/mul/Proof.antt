@@ -8,5 +8,5 @@ returns : tie.Need-returns
 unfolding vec_mul
 returns c = refl
 
-pub mul-spec : {M : Type 1} → statement M
-mul-spec = tie.close (tie.spec returns)
+pub mul_spec : {M : Type 1} → statement M
+mul_spec = tie.close (tie.spec returns)

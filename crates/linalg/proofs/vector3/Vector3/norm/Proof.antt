@@ -8,6 +8,6 @@ returns : tie.Need-returns
 unfolding norm
 returns c = cc
 
-pub norm-spec : {M : Type 1} → statement M
-norm-spec =
+pub norm_spec : {M : Type 1} → statement M
+norm_spec =
     tie.close (tie.spec (λ c _. search rules) (λ c _. search rules) returns)

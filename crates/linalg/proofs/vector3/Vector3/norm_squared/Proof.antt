@@ -8,6 +8,6 @@ returns : tie.Need-returns
 unfolding norm_squared
 returns c = cc
 
-pub norm-squared-spec : {M : Type 1} → statement M
-norm-squared-spec =
+pub norm_squared_spec : {M : Type 1} → statement M
+norm_squared_spec =
     tie.close (tie.spec (λ c _. search rules) returns)

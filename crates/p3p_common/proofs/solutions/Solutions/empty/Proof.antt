@@ -8,5 +8,5 @@ returns : tie.Need-returns
 unfolding empty
 returns c = cc
 
-pub empty-spec : {M : Type 1} → statement M
-empty-spec = tie.close (tie.spec (λ c _. search rules) returns)
+pub empty_spec : {M : Type 1} → statement M
+empty_spec = tie.close (tie.spec (λ c _. search rules) returns)

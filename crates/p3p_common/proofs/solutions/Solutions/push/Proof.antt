@@ -5,13 +5,13 @@ use Rattle.p3p_common.specs.Slots.{push}
 use Rattle.p3p_common.proofs.solutions.Solutions.push.Statement.{statement}
 use Rattle.p3p_common.proofs.solutions.Solutions.push.Tie as tie
 
-returns : tie.Need-returns
+returns : tie.Need-returns-then-at-lt4
 unfolding push
-returns c = rw (lt-ltb _ _ c.if1.true)
+returns c = rw (lt-ltb _ _ c.if-at-lt4.true)
 
-returns-2 : tie.Need-returns-2
+returns-2 : tie.Need-returns-else-at-lt4
 unfolding push
-returns-2 c = rw (le-ltb _ _ c.if1.false)
+returns-2 c = rw (le-ltb _ _ c.if-at-lt4.false)
 
 pub push_spec : {M : Type 1} → statement M
 push_spec =
