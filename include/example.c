@@ -1,6 +1,6 @@
 /* A plate from the directions to its targets to the place of a hole.
  *
- *   cc -O2 -Iinclude include/example.c target/staticlib/libp3p.a -lm -o target/example
+ *   cc -O2 -Iinclude include/example.c crates/p3p/out/libp3p.a -lm -o target/example
  *   target/example
  */
 #include "p3p.h"

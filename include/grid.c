@@ -1,7 +1,7 @@
 /* The plate of example.c far from zero, in the metres of a national grid: solved about its first
  * target.
  *
- *   cc -O2 -Iinclude include/grid.c target/staticlib/libp3p.a -lm -o target/grid
+ *   cc -O2 -Iinclude include/grid.c crates/p3p/out/libp3p.a -lm -o target/grid
  *   target/grid
  */
 #include "p3p.h"

@@ -1,7 +1,7 @@
 /* One plate for many frames: made once, solved with in each frame, with one target measured again,
  * and kept in a file between two jobs.
  *
- *   cc -O2 -Iinclude include/plate.c target/staticlib/libp3p.a -lm -o target/plate
+ *   cc -O2 -Iinclude include/plate.c crates/p3p/out/libp3p.a -lm -o target/plate
  *   target/plate
  */
 #include "p3p.h"

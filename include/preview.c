@@ -1,7 +1,7 @@
 /* A target of a mounted plate is measured again, and the fitter looks before the plate takes it:
  * the edges that would be stored, where the hole would be, and how the checking target would score.
  *
- *   cc -O2 -Iinclude include/preview.c target/staticlib/libp3p.a -lm -o target/preview
+ *   cc -O2 -Iinclude include/preview.c crates/p3p/out/libp3p.a -lm -o target/preview
  *   target/preview
  */
 #include "p3p.h"

@@ -1,6 +1,6 @@
 /* Lists the records of standard input: of each how many poses it has and the best, or the refusal.
  *
- *   cc -O2 -Iinclude include/records.c target/staticlib/libp3p.a -lm -o target/records
+ *   cc -O2 -Iinclude include/records.c crates/p3p/out/libp3p.a -lm -o target/records
  *   target/records < samples/frames.bin
  */
 #include "p3p.h"

@@ -7,10 +7,11 @@
 # yet.
 set -euo pipefail
 cd "$(dirname "$0")/.."
-rt check poses 2>&1 | tail -1
-rt staticlib p3p 2>&1 | tail -1
-program=target/bin/poses
-library=target/staticlib/libp3p.a
+(cd crates/poses && rt run </dev/null 2>&1 >/dev/null) | tail -1
+(cd crates/p3p && rt lib 2>&1) | tail -1
+mkdir -p target
+program=crates/poses/out/poses
+library=crates/p3p/out/libp3p.a
 
 run() {
     echo "== $*"

@@ -8,7 +8,7 @@ set -eu
 cd "$(dirname "$0")/../.."
 count=1000000
 [ "${1-}" = long ] && count=10000000
-for library in p3p ieee754_single; do rt staticlib $library | tail -1; done
+for library in p3p ieee754_single; do (cd "crates/$library" && rt lib) | tail -1; done
 out=target/bench/ieee754
 mkdir -p "$out"
 build() { # PROGRAM SOURCE LIBRARY..
@@ -17,9 +17,9 @@ build() { # PROGRAM SOURCE LIBRARY..
     gcc -O2 -fno-math-errno -ffp-contract=off -Wall -Wextra -o "$out/$program" \
         "bench/ieee754/$source" "$@" -lm
 }
-build compare compare.c target/staticlib/libp3p.a target/staticlib/libieee754_single.a
+build compare compare.c crates/p3p/out/libp3p.a crates/ieee754_single/out/libieee754_single.a
 build wrong compare.c bench/ieee754/wrong.c
-build timing timing.c target/staticlib/libp3p.a
+build timing timing.c crates/p3p/out/libp3p.a
 if "$out/wrong" >"$out/wrong.out" || grep -q ", 0 differ" "$out/wrong.out"; then
     echo "the comparison finds no fault with a wrong function"
     exit 1

@@ -9,14 +9,14 @@
 set -euo pipefail
 cd "$(dirname "$0")/../.."
 : "${1:?usage: run.sh SOURCES}"
-library=target/staticlib/libp3p.a
+library=crates/p3p/out/libp3p.a
 frames=crates/replay/data/rust/frame.bin
 peers=target/peers
 out=target/bench/solve
 mkdir -p "$out"
 
-rt staticlib p3p | tail -1
-rt check poses | tail -1
+(cd crates/p3p && rt lib) | tail -1
+(cd crates/poses && rt run </dev/null) >/dev/null
 # Bound at the start (now): else the loader, which looks a function of the C library up when it is
 # first called, can add stack of its own to the first frame's.
 for program in stack repeat plates; do
@@ -55,7 +55,7 @@ from make import stored_frames
 records = [frame.record() for frame in stored_frames() if frame.refusal == 0]
 sys.stdout.buffer.write(b"".join(records) * 600)
 END
-/usr/bin/time -o "$out/time" -f "%U %S %M" target/bin/poses <"$out/frames" >/dev/null
+/usr/bin/time -o "$out/time" -f "%U %S %M" crates/poses/out/poses <"$out/frames" >/dev/null
 awk -v records=$(($(stat -c %s "$out/frames") / 195)) '{
     printf "%d records in %.2f s of processor time, %.0f a second; peak memory %d KiB\n",
         records, $1 + $2, records / ($1 + $2), $3 }' "$out/time"

@@ -4,13 +4,13 @@
 # scores the checking target has, what mistakes look like, what a camera near the danger cylinder
 # brings, and what flush-to-zero and denormals-are-zero change.
 # Seeds are fixed: the figures are the same each time; those of `grid` must be docs/grid.tsv.
-#   bench/using/run.sh [LIBRARY]     LIBRARY: what `rt staticlib p3p` writes, if not in target/
+#   bench/using/run.sh [LIBRARY]     LIBRARY: libp3p.a, if not that of crates/p3p/out
 # Needs a C compiler (cc) on x86-64.
 set -euo pipefail
-library=$(realpath -m "${1:-$(dirname "$0")/../../target/staticlib/libp3p.a}")
+library=$(realpath -m "${1:-$(dirname "$0")/../../crates/p3p/out/libp3p.a}")
 cd "$(dirname "$0")/../.."
 if [ ! -f "$library" ]; then
-    echo "run.sh: no $library; rt staticlib p3p writes it" >&2
+    echo "run.sh: no $library; rt lib in crates/p3p writes it" >&2
     exit 1
 fi
 out=target/bench/using

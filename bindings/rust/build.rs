@@ -1,12 +1,12 @@
-//! Links the static library that `rt staticlib p3p` writes: the file that P3P_LIBRARY names, or,
-//! where the variable is unset or empty, the repository's own.
+//! Links the static library that `rt lib` in crates/p3p writes: the file that P3P_LIBRARY names,
+//! or, where the variable is unset or empty, the repository's own.
 
 use std::env;
 use std::path::{Path, PathBuf};
 use std::process::exit;
 
 /// The repository's own library, from the crate's folder.
-const OWN: &str = "../../target/staticlib/libp3p.a";
+const OWN: &str = "../../crates/p3p/out/libp3p.a";
 
 fn main() {
     println!("cargo:rerun-if-env-changed=P3P_LIBRARY");
@@ -15,7 +15,10 @@ fn main() {
     let named = env::var_os("P3P_LIBRARY").filter(|name| !name.is_empty());
     let file = folder.join(named.unwrap_or_else(|| OWN.into()));
     if let Err(fault) = link(&file) {
-        eprintln!("error: {}: {fault}: run rt staticlib p3p, or set P3P_LIBRARY", file.display());
+        eprintln!(
+            "error: {}: {fault}: run rt lib in crates/p3p, or set P3P_LIBRARY",
+            file.display()
+        );
         exit(1);
     }
 }

@@ -19,7 +19,7 @@ sys.dont_write_bytecode = True
 sys.path.insert(0, os.path.join(CRATE, "..", "..", "tests", "c"))
 import inputs
 
-ADVICE = "run rt staticlib p3p, or set P3P_LIBRARY"
+ADVICE = "run rt lib in crates/p3p, or set P3P_LIBRARY"
 # apart from the crate's own builds: cargo takes the packaged copy's for the crate's
 PACKAGED = "target/packaged"
 COMMANDS = [
@@ -127,7 +127,7 @@ def says_what_is_missing(text, file):
 def missing_faults(folder):
     """What is wrong with the message for a missing library, in a copy of the crate that has none
     of its own: the file is named by its whole path."""
-    own = os.path.join(folder, "../../target/staticlib/libp3p.a")
+    own = os.path.join(folder, "../../crates/p3p/out/libp3p.a")
     named = {"": own, "/no/libp3p.a": "/no/libp3p.a", "no/p3p.a": os.path.join(folder, "no/p3p.a")}
     for library, file in named.items():
         run = cargo("build --offline", library, folder=folder)

@@ -165,8 +165,9 @@ def compare_listing(compared):
 def page_commands(folder, library):
     """The commands of include/README.md as one script, with this library and folder."""
     blocks = re.findall(r"^<!-- shell -->\n((?:    .*\n)+)", read("include/README.md"), re.M)
-    lines = [line for line in "".join(blocks).splitlines(True) if not line.startswith("    rt ")]
-    built = r"target/(staticlib/libp3p\.a)?"
+    toolchain = ("    (cd crates/p3p && rt ", "    mkdir ")
+    lines = [line for line in "".join(blocks).splitlines(True) if not line.startswith(toolchain)]
+    built = r"(crates/p3p/out/libp3p\.a)|target/"
     return re.sub(built, lambda m: library if m[1] else folder + "/", "".join(lines))
 
 

@@ -3,10 +3,10 @@
 
     tests/documents/shell.py LIBRARY PROGRAM     the paths of libp3p.a and of `poses`
 
-Commands of the toolchain (`rt ..`, `.ci/run`) are left out: LIBRARY and PROGRAM stand where they
-would write them. Every other command must succeed, and leave the files of the tree as they are; the
-listing of the sample must come out of README's. A document with a command that fails, and one that
-writes another sample, must be found wrong.
+Commands of the toolchain (`rt ..` in a crate, `.ci/run`) are left out, but that PROGRAM is run for
+`rt run`: LIBRARY and PROGRAM stand where they would write them. Every other command must succeed,
+and leave the files of the tree as they are; the listing of the sample must come out of README's. A
+document with a command that fails, and one that writes another sample, must be found wrong.
 
 Needs cc, cargo and git."""
 import os
@@ -21,13 +21,15 @@ from blocks import blocks
 from checks import DOCUMENTS
 from tree import Tree
 
-TOOLCHAIN = re.compile(r"^ *(rt|\.ci/run)\b[^&\n]*(&& *)?", re.M)
+RUN = "(cd crates/poses && rt run)"
+TOOLCHAIN = re.compile(r"^ *(\(cd crates/\w+ && rt \w+\)|\.ci/run\b)[^&\n]*(&& *)?", re.M)
 
 
 def script(text):
     """The commands of a document's blocks, each block from the root of the tree."""
     commands = ["\n".join(block.lines) for block in blocks(text) if block.mark == "shell"]
-    return "".join(f"({TOOLCHAIN.sub('', block)}\n)\n" for block in commands)
+    run = [block.replace(RUN, "crates/poses/out/poses") for block in commands]
+    return "".join(f"({TOOLCHAIN.sub('', block)}\n)\n" for block in run)
 
 
 def copied_tree(folder, library, program):
@@ -36,12 +38,12 @@ def copied_tree(folder, library, program):
         place = os.path.join(folder, path)
         os.makedirs(os.path.dirname(place), exist_ok=True)
         shutil.copy2(path, place)
-    for built, place in ((library, "target/staticlib/libp3p.a"), (program, "target/bin/poses")):
+    for built, place in ((library, "crates/p3p/out/libp3p.a"), (program, "crates/poses/out/poses")):
         place = os.path.join(folder, place)
         os.makedirs(os.path.dirname(place))
         shutil.copy2(built, place)
     with open(os.path.join(folder, ".gitignore"), "w", encoding="utf-8") as f:
-        f.write("target\n*.pyc\n")
+        f.write("target\nout\n*.pyc\n")
     git(folder, "init", "-q")
     git(folder, "add", "-A")
 

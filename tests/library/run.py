@@ -6,14 +6,18 @@
 
 - It links memset alone (nm).
 - No instruction of it divides whole numbers (objdump).
-- In the program that is compiled (rt mir) each divisor of whole numbers is a power of two, so that
-  the compiler makes a shift or a mask of it.
+- In the programs that are compiled, the crates below p3p as their libraries hold them (out/rlib of
+  each: toolchain/mir.json), each divisor of whole numbers is a power of two, so that the compiler
+  makes a shift or a mask of it. The code of p3p itself, which is in no such library, has no / and
+  no %.
 
 Each of the three must find fault with something: with a function of C that divides numbers of 128
 bits, with one that divides words, and with crate listing_records, over listing, which writes
 decimal numbers.
 
-Run it at the repository's root. Needs rt, cc, nm and objdump."""
+Run it at the repository's root, after `rt lib` in crates/p3p and `rt check` in crates/poses. Needs
+cc, nm and objdump."""
+import json
 import os
 import re
 import subprocess
@@ -43,39 +47,57 @@ def dividing_instructions(path):
     return re.findall(r"^.*\sidiv.*$|^.*\sdiv[bwlq]?\s.*$", output("objdump", "-d", path), re.M)
 
 
-def tree(text):
-    """The nested lists of a text in brackets."""
-    stack = [[]]
-    for token in re.findall(r'"[^"]*"|[()]|[^\s()"]+', text):
-        if token == "(":
-            stack.append([])
-        elif token == ")":
-            stack[-2].append(stack.pop())
-        else:
-            stack[-1].append(token)
-    return stack[0]
-
-
-def divisors(crate):
-    """Of each division of whole numbers in a crate and those below, its function and divisor."""
-    found, rest = [], [(tree(output("rt", "mir", crate)), None)]
+def below(crate):
+    """The repository's libraries that a crate rests on, by crates.txt."""
+    with open("crates.txt", encoding="utf-8") as f:
+        rows = re.findall(r"^(\w+)(?: staticlib)?:(.*)$", f.read(), re.M)
+    uses, found, rest = {name: row.split() for name, row in rows}, set(), [crate]
     while rest:
-        node, function = rest.pop()
-        if node[:1] == ["fn-def"]:
-            function = node[1]
-        if node[:1] == ["op2"] and node[1][:1] in (["div"], ["rem"]):
-            found.append((function, node[3]))
-        rest += [(part, function) for part in node if isinstance(part, list)]
+        new = [each for each in uses.get(rest.pop(), []) if each in uses and each not in found]
+        found.update(new)
+        rest += new
+    return sorted(found)
+
+
+def divisors(crates):
+    """Of each division of whole numbers in the libraries of these crates, its function and
+    divisor."""
+    found = []
+    for crate in crates:
+        path = f"crates/{crate}/out/rlib/{crate}.rlib/toolchain/mir.json"
+        with open(path, encoding="utf-8") as f:
+            rest = [(json.load(f), crate)]
+        while rest:
+            node, function = rest.pop()
+            if isinstance(node, list):
+                if node and isinstance(node[0], str) and "::" in node[0]:
+                    function = node[0]
+                rest += [(part, function) for part in node]
+            elif isinstance(node, dict):
+                kind = node.get("Op2", [None])[0]
+                if isinstance(kind, dict) and {*kind} & {"Div", "Rem"}:
+                    found.append((function, node["Op2"][2]))
+                rest += [(part, function) for part in node.values()]
     return found
 
 
 def is_power_of_two(divisor):
-    """Of a constant, `int WIDTH NUMBER`."""
-    return divisor[0] == "int" and int(divisor[2]).bit_count() == 1
+    """Of a constant, {"Int": {"width": .., "value": ..}}."""
+    return "Int" in divisor and int(divisor["Int"]["value"]).bit_count() == 1
 
 
-def other_divisors(crate):
-    return [each for each in divisors(crate) if not is_power_of_two(each[1])]
+def other_divisors(crates):
+    return [each for each in divisors(crates) if not is_power_of_two(each[1])]
+
+
+def own_divisions(crate):
+    """The lines of a crate's own code that divide."""
+    folder, found = f"crates/{crate}/src", []
+    for name in sorted(os.listdir(folder)):
+        with open(os.path.join(folder, name), encoding="utf-8") as f:
+            code = [re.sub(r"//.*", "", line) for line in f]
+        found += [(name, line.strip()) for line in code if re.search(r"[/%]", line)]
+    return found
 
 
 def compiled(source, folder):
@@ -97,7 +119,10 @@ def main():
         looks = {
             "nm": (linked(library) - LINKED, linked(dividing) - LINKED),
             "objdump": (dividing_instructions(library), dividing_instructions(dividing)),
-            "rt mir": (other_divisors("p3p"), other_divisors("listing_records")),
+            "mir.json": (
+                other_divisors(below("p3p")) + own_divisions("p3p"),
+                other_divisors(below("listing_records")),
+            ),
         }
     faults = [f"{tool}: {each}" for tool, (found, _) in looks.items() for each in found]
     faults += [f"{tool}: no fault was found" for tool, (_, control) in looks.items() if not control]

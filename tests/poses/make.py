@@ -9,8 +9,8 @@ crates/poses_runs/args, the argument, and crates/poses_runs/stdout, what is expe
 The frames and their answers are the Rust's, of crates/replay/data/rust/frame.bin
 (reference/README.md has its layout), and the listing is put together from these as document 01
 says, "Frame records and their listing", with the last word of document 02, §8. PROGRAM is
-target/bin/poses. With --all it is given the frames by a file, and then by pipes that hand it a few
-bytes at a time."""
+crates/poses/out/poses. With --all it is given the frames by a file, and then by pipes that hand it
+a few bytes at a time."""
 
 import errno
 import os

@@ -3,7 +3,7 @@
 that cannot be read, and with arguments. Each run is held to what it writes, to what it says on
 standard error, and with arguments to leaving its input unread.
 
-    python3 tests/poses/run.py PROGRAM          PROGRAM is target/bin/poses
+    python3 tests/poses/run.py PROGRAM          PROGRAM is crates/poses/out/poses
 
 Stand-ins that are wrong in a known way are run too, and must be found wrong in the runs in which
 they are."""
@@ -108,7 +108,8 @@ def difference(program, case):
     """In what a run is not as expected, or nothing."""
     closing = (" <&-" if case.given == CLOSED else "") + (" >&-" if case.out == CLOSED else "")
     given, out = input_of(case.given), output_of(case.out)
-    # A write that nobody reads ends a program, unless the signal is ignored, as Python has it.
+    # A write that nobody reads ends a program, unless the signal is ignored, as Python has it; a
+    # program of Rattle ignores it by itself.
     run = subprocess.run(
         ["sh", "-c", f'exec "$0" "$@"{closing}', program, *case.words],
         stdin=given,

@@ -34,10 +34,10 @@ READINGS = {
     "the leading share divided before its test": (
         "crates/orderings/specs/Condition.antt",
         """    if eq (folded_scale c) plus_zero || not (finite (folded_scale c)) then pure plus_zero
-    else ! abs (c .cubic3) ⊘ ! folded_scale c
+    else ! abs c.cubic3 ⊘ ! folded_scale c
 """,
         """    do
-      share ← ! abs (c .cubic3) ⊘ ! folded_scale c
+      share ← ! abs c.cubic3 ⊘ ! folded_scale c
       if eq (folded_scale c) plus_zero || not (finite (folded_scale c)) then pure plus_zero
           else pure share
 """,
@@ -73,8 +73,8 @@ READINGS = {
 READINGS_ABOUT = {
     "a subtraction not counted": (
         "crates/about/specs/Differences.antt",
-        "  p1 ← vec_sub (world .p1) (world .p0)\n",
-        "  p1 ← pure (vec_sub (world .p1) (world .p0) .value)\n",
+        "  p1 ← vec_sub world.p1 world.p0\n",
+        "  p1 ← pure (vec_sub world.p1 world.p0).value\n",
     ),
     "no subtraction": (
         "crates/about/specs/SolveAbout.antt",

@@ -1,8 +1,8 @@
 #!/usr/bin/env python3
 """Tests of samples/record.py, and whether the sample's files and docs/pose.svg are as made.
 
-    python3 -B tests/samples/run.py                            the tool and the files
-    python3 -B tests/samples/run.py --program target/bin/poses    and that a program lists them so
+    python3 -B tests/samples/run.py                                     the tool and the files
+    python3 -B tests/samples/run.py --program crates/poses/out/poses    and a program's listing
 
 Scores are compared bit for bit with those of crates/replay/data/rust, which are the Rust's, and
 whole runs with those of crates/poses_runs. A comparison has something that it must find wrong."""

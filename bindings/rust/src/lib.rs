@@ -1,6 +1,6 @@
 //! The three-point pose solver, its root finders and single operations: safe functions over the
-//! library that `rt staticlib p3p` writes. Each answers every input, infinities and NaNs too, with
-//! the bits that its definition gives (crates/p3p); nothing allocates.
+//! library that `rt lib` in crates/p3p writes. Each answers every input, infinities and NaNs too,
+//! with the bits that its definition gives (crates/p3p); nothing allocates.
 //!
 //! ```
 //! // A plate with four targets, two metres in front of the camera, and the directions to them.

@@ -9,7 +9,7 @@ def libraries():
     if not os.path.exists("crates.txt"):
         return []
     with open("crates.txt", encoding="utf-8") as f:
-        names = re.findall(r"^(\w+):", f.read(), re.M)
+        names = re.findall(r"^(\w+)(?: staticlib)?:", f.read(), re.M)
     return [n for n in names if has_function(os.path.join("crates", n, "src"))]
 
 

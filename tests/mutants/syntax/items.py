@@ -39,6 +39,7 @@ class Items(Types):
         public = False
         while True:
             if self.passes("#"):
+                self.passes("!")
                 self.skip("[", "]")
             elif self.passes("pub"):
                 public = not self.sees("(")
@@ -55,13 +56,24 @@ class Items(Types):
         self.next()
 
     def use_item(self):
-        path = []
-        while not self.passes(";"):
-            if self.kind() == "id":
+        self.imports([])
+        self.expect(";")
+
+    def imports(self, before):
+        """A path, or the paths of a group in braces, behind the names that stand before it."""
+        path = [*before]
+        while not (self.sees(";") or self.sees(",") or self.sees("}")):
+            if self.passes("{"):
+                for _ in self.each("}"):
+                    self.imports(path)
+                return
+            if self.passes("as"):
+                path.pop()
+            elif self.kind() == "id":
                 path.append(self.word())
-            self.next()
-        if "as" in path:
-            path = path[: path.index("as")] + path[path.index("as") + 1 :]
+                self.next()
+            else:
+                self.next()
         crate = self.file.crate if path[0] == "crate" else path[0]
         self.file.names[path[-1]] = (crate, "::".join(path[1:-1]), path[-1])
 
@@ -107,6 +119,8 @@ class Items(Types):
     def declared(self):
         name = self.take()
         self.file.names[name] = self.file.key(name)
+        if self.sees("<"):
+            self.skip("<", ">")
         return name
 
     def parts(self):
@@ -158,7 +172,8 @@ class Items(Types):
             self.pass_type()
         while self.word() in ("requires", "ensures", "ghost"):
             f.requires = f.requires or self.word() == "requires"
-            self.next()
+            while not self.sees("{"):  # a clause may have a name
+                self.next()
             self.skip("{", "}")
         self.file.bodies.append((f, self.at, owner))
         self.skip("{", "}")

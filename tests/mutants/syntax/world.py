@@ -13,9 +13,8 @@ class World:
         self.structs, self.enums, self.functions, self.consts, self.files = {}, {}, {}, {}, []
         self.tuples = {}  # the types of the parts of each struct that has no names for them
         with open(os.path.join(root, "crates.txt"), encoding="utf-8") as f:
-            self.uses = {
-                m.group(1): m.group(2).split() for m in re.finditer(r"^(\w+):(.*)$", f.read(), re.M)
-            }
+            rows = re.findall(r"^(\w+)(?: staticlib)?:(.*)$", f.read(), re.M)
+            self.uses = {name: row.split() for name, row in rows}
         for crate in crates:
             folder = os.path.join(root, "crates", crate, "src")
             for name in sorted(os.listdir(folder)):

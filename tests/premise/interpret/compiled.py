@@ -1,8 +1,8 @@
 """The definitions compiled to Python, each when it is first needed, with those that it names. A
 function of n patterns becomes a Python function of n parameters; fewer arguments make a closure.
 Arguments are computed before a call, since every definition ends and none has an effect; only the
-branches of `if_then_else_` and `cond` wait for their test. What stands twice in a record is
-computed once (`_>>=_` goes on with the same value in both its fields)."""
+branches of `if◌then◌else◌` and `cond` wait for their test. What stands twice in a record is
+computed once (`◌>>=◌` goes on with the same value in both its fields)."""
 import functools
 import math
 import re
@@ -11,7 +11,7 @@ from collections import Counter
 from . import library, raised
 from .modules import Definition, Modules
 
-CHOICES = {"if_then_else_", "cond"}
+CHOICES = {"if◌then◌else◌", "cond"}
 TRACED = "crates/ieee754/specs/Traced.antt"
 RAISES = {
     "add_regular": raised.of_add, "mul_regular": raised.of_mul, "div_regular": raised.of_div,
@@ -23,7 +23,7 @@ RAISES = {
 CONSTRUCTORS = {
     "true": ("{}", []), "false": ("not {}", []),
     "zero": ("{} == 0", []), "suc": ("{} > 0", ["{} - 1"]),
-    "[]": ("not {}", []), "_∷_": ("{}", ["{}[0]", "{}[1:]"]),
+    "[]": ("not {}", []), "◌∷◌": ("{}", ["{}[0]", "{}[1:]"]),
     "nan": ("{0} != {0}", []), "inf": ("isinf({})", ["{} < 0"]),
     "fin": ("isfinite({})", ["{}[0]", "{}[1]", "{}[2]"]),
 }  # fmt: skip

@@ -118,40 +118,43 @@ def put_at(xs, at, x):
     return xs[:at] + (x,) + xs[at + 1 :] if at < len(xs) else xs
 
 
-# by name: the number of arguments, and the function or value
+NATURAL = {
+    "zero": (0, 0), "suc": (1, lambda a: a + 1), "◌+◌": (2, lambda a, b: a + b),
+    "◌-◌": (2, lambda a, b: max(a - b, 0)), "◌*◌": (2, lambda a, b: a * b),
+    "◌/◌": (2, lambda a, b: a // b if b else 0), "◌^◌": (2, power),
+    "compare": (2, lambda a, b: (a > b) - (a < b)),
+}  # fmt: skip
+# by module and name: the number of arguments, and the function or value
 NAMES = {
-    "lib.Ieee": {
+    "Rattle.std.specs.Float": {
         "binary64": (0, "binary64"), "nan": (0, math.nan),
         "inf": (1, infinity_of), "fin": (3, finite_of),
+    },
+    "Rattle.std.specs.Float.Ieee": {
         "add": (3, lambda f, x, y: x + y), "sub": (3, lambda f, x, y: x - y),
         "mul": (3, lambda f, x, y: x * y), "div": (3, divide), "neg": (1, lambda x: -x),
         "lt": (2, lambda x, y: x < y), "le": (2, lambda x, y: x <= y),
-        "eq": (2, lambda x, y: x == y), "isNan": (1, lambda x: x != x),
-        "ofBits": (2, of_bits), "toBits": (2, to_bits),
+        "eq": (2, lambda x, y: x == y), "is_nan": (1, lambda x: x != x),
+        "of_bits": (2, of_bits), "to_bits": (2, to_bits),
         "up": (1, lambda e: 1 << e if e > 0 else 1), "down": (1, lambda e: 1 << -e if e < 0 else 1),
         "unlike": (2, lambda s, t: bool(s) != bool(t)),
         "prec": (1, lambda f: 53), "low": (1, lambda f: 1074), "size": (1, int.bit_length),
         "nearest": (2, nearest), "sum": (6, summed),
         "units": (4, lambda f, s, q, k: quotient(s, q << k, 1 << 1074)),
     },
-    "lib.Ieee.Scale": {"finite": (1, math.isfinite)},
-    "lib.Dec": {
+    "Rattle.std.specs.Float.Ieee.Scale": {"finite": (1, math.isfinite)},
+    "Rattle.std.specs.Bool": {"beq": (2, lambda a, b: bool(a) == bool(b))},
+    "Rattle.std.specs.Prelude": {
         "leb": (2, lambda a, b: a <= b), "ltb": (2, lambda a, b: a < b),
-        "eqb": (2, lambda a, b: a == b),
-    },
-    "lib.ListN": {"set": (3, put_at), "take": (2, lambda n, xs: xs[:n])},
-    "mathlib.Core.Bool": {
+        "nat_lt": (2, lambda a, b: a < b),
+        "eqb": (2, lambda a, b: a == b), "◌==◌": (2, lambda a, b: a == b),
+        "set": (3, put_at), "slice_set": (3, put_at), "take": (2, lambda n, xs: xs[:n]),
         "true": (0, True), "false": (0, False), "not": (1, lambda a: not a),
-        "_&&_": (2, both), "_||_": (2, lambda a, b: bool(a) or bool(b)),
-        "Bool·beq": (2, lambda a, b: bool(a) == bool(b)),
+        "◌&&◌": (2, both), "◌||◌": (2, lambda a, b: bool(a) or bool(b)),
+        "[]": (0, ()), "◌∷◌": (2, lambda x, xs: (x, *xs)),
+        **NATURAL,
     },
-    "mathlib.Core.List": {"[]": (0, ()), "_∷_": (2, lambda x, xs: (x, *xs))},
-    "Prim.Native.Nat": {
-        "zero": (0, 0), "suc": (1, lambda a: a + 1), "_+_": (2, lambda a, b: a + b),
-        "_-_": (2, lambda a, b: max(a - b, 0)), "_*_": (2, lambda a, b: a * b),
-        "_/_": (2, lambda a, b: a // b if b else 0), "_^_": (2, power),
-        "compare": (2, lambda a, b: (a > b) - (a < b)),
-    },
+    "Prim.Native.Nat": NATURAL,
 }  # fmt: skip
 
 # definitions that are not read from their text, by the file and the name

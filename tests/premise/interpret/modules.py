@@ -78,10 +78,10 @@ class Modules:
 
     def place(self, module, name):
         parts = module.split(".")
-        if not parts[0].startswith("Rattle·"):
+        if parts[:2] == ["Rattle", "std"] or parts[0] != "Rattle":
             return ("library", module, name)
-        crate = parts[0].split("·")[1]
-        if "the-variants" in parts:
+        crate = parts[1]
+        if "TheVariants" in parts:
             return ("variant", f"{crate}.{parts[-2]}.{name}")
         if "declared" in parts:
             return ("type", name)
@@ -112,8 +112,8 @@ class Modules:
             while reader.word() != "=":
                 patterns.append(reader.pattern())
         else:
-            for part in re.split("(_)", name):
-                if part == "_":
+            for part in re.split("(◌)", name):
+                if part == "◌":
                     patterns.append(reader.pattern())
                 elif part:
                     reader.take(part)

@@ -1,7 +1,8 @@
 """What the processor raises at one operation, worked out exactly, and truth values that remember
-it. The definitions' tests `add_regular`, `mul_regular` and so on are read from their text; what they
-say of an operation is handed on as a `Mark` with what the operation raises, so that the `regular`
-of a whole solve tells which flags its operations raise together, whichever way they were joined.
+it. The definitions' tests `add_regular`, `mul_regular` and so on are read from their text; what
+they say of an operation is handed on as a `Mark` with what the operation raises, so that the
+`regular` of a whole solve tells which flags its operations raise together, whichever way they were
+joined.
 
 x86-64 raises underflow where a result is inexact and, rounded as if exponents had no end, below
 2 ^ -1022. So two operations fail the premise and raise none of the flags that tell of it: one whose
@@ -40,7 +41,7 @@ def raised_by(truth):
 
 
 def both(a, b):
-    """`_&&_`: where both are plain, as it is; else with what either raised."""
+    """`◌&&◌`: where both are plain, as it is; else with what either raised."""
     if a is True:
         return b
     if b is True or (a is False and b is False):

@@ -4,15 +4,15 @@ is:
   ("name", n)  ("number", k)  ("apply", function, arguments)  ("field", term, name)
   ("record", ((name, term), ..))  ("lambda", names, body)  ("let", pattern, term, body)
 
-An operator is applied by its name with the places of its operands, as `_⊗_`; `do` is written out by
-`_>>=_`. A pattern is ("name", n), ("apply", constructor, patterns), ("number", k) or
+An operator is applied by its name with the places of its operands, as `◌⊗◌`; `do` is written out by
+`◌>>=◌`. A pattern is ("name", n), ("apply", constructor, patterns), ("number", k) or
 ("record", ((name, pattern), ..))."""
 
 # binding strength and side, as the library declares them; the definitions' own are read from them
 LIBRARY = {
-    "_^_": (75, "l"), "_*_": (70, "l"), "_/_": (70, "l"), "_%_": (70, "l"),
-    "_+_": (65, "l"), "_-_": (65, "l"), "_∷_": (67, "r"), "_++_": (65, "l"),
-    "_&&_": (35, "l"), "_||_": (30, "l"),
+    "◌^◌": (75, "l"), "◌*◌": (70, "l"), "◌/◌": (70, "l"), "◌%◌": (70, "l"),
+    "◌+◌": (65, "l"), "◌-◌": (65, "l"), "◌∷◌": (67, "r"), "◌++◌": (65, "l"),
+    "◌&&◌": (35, "l"), "◌||◌": (30, "l"),
 }  # fmt: skip
 STOPS = {")", "}", ";", ",", "=", ":", "←", "in", "then", "else", "."}
 
@@ -52,7 +52,7 @@ class Reader:
 
     def term(self, least=0):
         left = self.operand()
-        while (name := f"_{self.word()}_") in self.fixity and self.fixity[name][0] >= least:
+        while (name := f"◌{self.word()}◌") in self.fixity and self.fixity[name][0] >= least:
             strength, side = self.fixity[name]
             self.take()
             right = self.term(strength + 1 if side == "l" else strength)
@@ -61,27 +61,31 @@ class Reader:
 
     def operand(self):
         word = self.word()
-        if f"{word}_" in self.fixity and word:
+        if f"{word}◌" in self.fixity and word:
             self.take()
-            return ("apply", ("name", f"{word}_"), (self.operand(),))
+            return ("apply", ("name", f"{word}◌"), (self.operand(),))
         special = {"if": self.choice, "let": self.let, "do": self.do, "λ": self.function}
         return special[word]() if word in special else self.application()
 
     def application(self):
+        head, arguments = self.part(), []
+        while (word := self.word()) and self.starts_atom(word):
+            arguments.append(self.part())
+        return ("apply", head, tuple(arguments)) if arguments else head
+
+    def part(self):
+        """An atom with the fields that are taken of it, `a.b.c` or `(f x).b`."""
         result = self.atom()
-        while word := self.word():
-            if word[0] == "." and len(word) > 1:
-                result = ("field", result, self.take()[1:])
-            elif not self.starts_atom(word):
+        while self.at < len(self.tokens) and self.tokens[self.at].tight:
+            word = self.tokens[self.at].word
+            if word[0] != "." or len(word) == 1:
                 break
-            elif result[0] == "apply":
-                result = ("apply", result[1], result[2] + (self.atom(),))
-            else:
-                result = ("apply", result, (self.atom(),))
+            result = ("field", result, word[1:])
+            self.at += 1
         return result
 
     def starts_atom(self, word):
-        return not (word in STOPS or f"_{word}_" in self.fixity or f"{word}_" in self.fixity)
+        return not (word in STOPS or f"◌{word}◌" in self.fixity or f"{word}◌" in self.fixity)
 
     def atom(self):
         word = self.take()
@@ -112,7 +116,7 @@ class Reader:
         self.take("then")
         yes = self.term()
         self.take("else")
-        return ("apply", ("name", "if_then_else_"), (test, yes, self.term()))
+        return ("apply", ("name", "if◌then◌else◌"), (test, yes, self.term()))
 
     def function(self):
         self.take("λ")
@@ -165,7 +169,7 @@ class Reader:
         elif self.tokens[self.at + 1].word == "←":
             name = self.take()
             self.take("←")
-            value, bind = self.term(), ("name", "_>>=_")
+            value, bind = self.term(), ("name", "◌>>=◌")
             return lambda rest: ("apply", bind, (value, ("lambda", (name,), rest)))
         else:
             last = self.term()
@@ -188,7 +192,7 @@ class Reader:
         head = self.pattern()
         if self.word() == "∷":
             self.take()
-            return ("apply", "_∷_", (head, self.compound()))
+            return ("apply", "◌∷◌", (head, self.compound()))
         parts = []
         while self.word() != ")":
             parts.append(self.pattern())

@@ -1,5 +1,6 @@
 """The tokens of a definition's text. A token knows its column and whether it is the first of its
-line, by which a `do` knows its statements."""
+line, by which a `do` knows its statements, and whether it stands right behind another, as a field
+does."""
 import re
 from typing import NamedTuple
 
@@ -10,6 +11,7 @@ class Token(NamedTuple):
     word: str
     column: int
     first: bool
+    tight: bool
 
 
 def tokens(text):
@@ -20,6 +22,7 @@ def tokens(text):
             if "\n" in word:
                 start_of_line, first = m.start() + word.rindex("\n") + 1, True
         elif not word.startswith("--"):
-            found.append(Token(word, m.start() - start_of_line, first))
+            tight = m.start() > 0 and not text[m.start() - 1].isspace()
+            found.append(Token(word, m.start() - start_of_line, first, tight))
             first = False
     return found
