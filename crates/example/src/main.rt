@@ -40,8 +40,9 @@ fn confirmed(score: f64) -> bool {
     score <= 3e-8
 }
 
-// A length to the nearest millimetre. Beside 2^52 a double has no fraction: it is rounded, and its
-// last 52 bits are the whole number.
+// Prints a length to the nearest millimetre. Beside 2^52 a double has no fraction: it is rounded,
+// and its last 52 bits are the whole number. An error is that of the writing: what was written
+// before stays written. No other error comes.
 fn print_millimetres(rt: &impl Print, metres: f64) -> io::Result<()> {
     let sum = abs(metres) * 1000.0 + 4503599627370496.0;
     let sign = if metres < 0.0 { "-" } else { "" };

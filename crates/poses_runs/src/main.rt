@@ -11,6 +11,8 @@ use std::io::{Read, Write};
 use std::rt::{Env, Files};
 use std::{fs, io};
 
+// Lists a file, behind its name. One that does not open is named among the errors and passed over.
+// An error is that of the writing of the name: the file is not listed then. No other error comes.
 fn list<F: Files + Print, E: Write>(rt: &F, errors: &mut E, name: &str) -> io::Result<()> {
     let file = match fs::open(rt, name) {
         Ok(file) => file,
@@ -39,7 +41,8 @@ fn reply<V: Env, R: Read, W: Write, E: Write>(env: &V, streams: &mut Streams<R, 
     answer(requested(3, b"--help"), streams);
 }
 
-// Writes out what a file holds.
+// Writes out what a file holds. An error is that of opening it, reading it or writing: what was
+// written before stays written. No other error comes.
 fn show<F: Files + Print>(rt: &F, name: &str) -> io::Result<()> {
     io::copy(&mut fs::open(rt, name)?, &mut io::writer(rt))?;
     Ok(())

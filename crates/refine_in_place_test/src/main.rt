@@ -10,6 +10,8 @@ use linalg::vector3::Vector3;
 use refine_in_place::refine_depths_here;
 use std::io;
 
+// Prints the bit pattern of a double. An error is that of the writing, as of `refine` too: what was
+// written before stays written. No other error comes.
 fn print_pattern(rt: &impl Print, x: f64) -> io::Result<()> {
     let pattern = to_bits(x);
     print!(rt; " {pattern:016x}")

@@ -83,7 +83,8 @@ fn holds(subject: Subject, s: &[u8; 768]) -> bool
     }
 }
 
-// Reads until `buf` is full or the file ends, and answers how many bytes were read.
+// Reads until `buf` is full or the file ends, and answers how many bytes were read. An error is the
+// file's own: what was read before it stands in `buf`. No other error comes.
 fn read_full<F: Read>(file: &mut F, buf: &mut [u8]) -> io::Result<usize> {
     let mut done = 0;
     while done < buf.len() {
@@ -96,7 +97,8 @@ fn read_full<F: Read>(file: &mut F, buf: &mut [u8]) -> io::Result<usize> {
     Ok(done)
 }
 
-// Reads the next record and tries it.
+// Reads the next record and tries it. An error is the file's own: the record is not tried. No other
+// error comes.
 fn step<F: Read>(file: &mut F, subject: Subject) -> io::Result<Found> {
     let mut record = [0u8; 768];
     let n = length(subject);
@@ -115,7 +117,9 @@ fn step<F: Read>(file: &mut F, subject: Subject) -> io::Result<Found> {
 }
 
 // Steps through a file. A proved loop has to end, and nothing says that a file does, so the count
-// of records bounds it.
+// of records bounds it. A file that does not open is named on standard error and passed over. An
+// error is that of a read of the file, which then has no line, or that of the writing of its line,
+// of which a part may stand written. No other error comes.
 fn compare<R: Files + Print, E: Write>(
     rt: &R,
     errors: &mut E,
