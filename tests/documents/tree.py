@@ -3,7 +3,7 @@ import os
 
 ROOT = os.path.join(os.path.dirname(os.path.abspath(__file__)), "..", "..")
 # built or fetched, and no part of the tree
-SKIPPED = {".git", "target", "vendor", "__pycache__"}
+SKIPPED = {".git", "target", "out", "vendor", "__pycache__"}
 
 
 class Tree:
