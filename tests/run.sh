@@ -1,6 +1,6 @@
 #!/usr/bin/env bash
 # Every test beside the gate that needs no other sources: the program, the library from C and Rust
-# and what it links, the sample and its tool, the documents, the edits' inputs. Half a minute after
+# and what it links, the sample and its tool, the documents, the edits' inputs. Two minutes after
 # what it builds.
 #   tests/run.sh
 # Needs cc, c++, cargo, git, binutils and python3; the first two commands prove what is not proved
