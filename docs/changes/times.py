@@ -4,11 +4,13 @@
     docs/changes/times.py BEFORE [AFTER]     commits; AFTER is HEAD unless it is given
 
 Each commit is cloned into a temporary folder and proved there from nothing, one crate at a time
-(`RT_JOBS=1 rt prove`), both at once: on a machine of two cores or more that does nothing else, they
-meet the same conditions. It takes ten minutes. The times are seconds of the processor in user mode:
-of all crates; of those whose files are the same, whose difference is chance, or what the change
-below costs them; and of each that has changed. What is printed are the tables of a note (README.md
-beside this)."""
+(`rt all verdict --jobs 1`), both at once: on a machine of two cores or more that does nothing else,
+they meet the same conditions. It takes as long as the proofs of all crates on one core. The times
+are seconds of the processor in user mode: of all crates; of those whose files are the same, whose
+difference is chance, or what the change below costs them; and of each that has changed. What is
+printed are the tables of a note (README.md beside this).
+
+Needs rt, and commits that its toolchain proves: none before the port to today's (../PORT.md)."""
 import collections
 import concurrent.futures
 import os
@@ -18,7 +20,8 @@ import sys
 import tempfile
 
 TICKS = os.sysconf("SC_CLK_TCK")
-PROVED = re.compile(r"^rt: (\w+) proved \(")
+# The first line of what rt says of a crate, once it has ended; behind the last comes a summary.
+ENDED = re.compile(r"^== (?!summary$)(\w+)$")
 PARTS = {"src": "code", "specs": "definitions", "proofs": "proofs", "must-fail": "edits"}
 
 
@@ -39,15 +42,13 @@ def times(commit):
     with tempfile.TemporaryDirectory() as folder:
         git("clone", "--quiet", repository, folder)
         git("-C", folder, "checkout", "--quiet", commit)
-        environment = dict(os.environ, RT_JOBS="1")
-        with subprocess.Popen(
-            ["rt", "prove"], cwd=folder, env=environment, stdout=subprocess.PIPE, text=True
-        ) as rt:
+        words = ["rt", "all", "verdict", "--jobs", "1"]
+        with subprocess.Popen(words, cwd=folder, stdout=subprocess.PIPE, text=True) as rt:
             before, last = 0, ""
             for last in rt.stdout:
-                if proved := PROVED.match(last):
+                if ended := ENDED.match(last):
                     now = spent(rt.pid)
-                    found[proved[1]], before = now - before, now
+                    found[ended[1]], before = now - before, now
     if rt.returncode != 0:
         sys.exit(f"{commit}: {last}")
     return found

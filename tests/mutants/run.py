@@ -3,15 +3,19 @@
 function of the library crates, and sees the prover refuse each change. Contracts, specs/ and
 proofs/ stay as they are.
 
-  tests/mutants/run.py CRATE... try the mutants of these crates (default: all), write
-  results/CRATE.tsv for each, and RESULT.md. A result of the same files is gone on with, and one of
-  other files is begun anew .. --rounds=N stop after N checks of each crate tests/mutants/run.py
-  --table write RESULT.md from the results that are there tests/mutants/run.py --witness CRATE..
-  look again for inputs at which the mutants of its result differ (interpret/witness.py)
-  tests/mutants/run.py --list CRATE print the mutants and try none tests/mutants/run.py --edits see
-  that each must-fail edit changes an answer, at the input that its comment names (check/edits.py)
-  tests/mutants/run.py --refusals see that each was refused for a fact, by what was said of it: `rt
-  must-fail --anew > target/must-fail.txt` (check/refusals.py)
+  tests/mutants/run.py CRATE...      try the mutants of these crates (default: all), write
+                                     results/CRATE.tsv for each, and RESULT.md. A result of the same
+                                     files is gone on with, and one of other files is begun anew
+  .. --rounds=N                      stop after N checks of each crate
+  tests/mutants/run.py --table       write RESULT.md from the results that are there
+  tests/mutants/run.py --witness CRATE..  look again for inputs at which the mutants of its result
+                                     differ (interpret/witness.py)
+  tests/mutants/run.py --list CRATE  print the mutants and try none
+  tests/mutants/run.py --edits       see that each must-fail edit changes an answer, at the input
+                                     that its comment names (check/edits.py)
+  tests/mutants/run.py --refusals    see that each was refused for a fact, by what was said of it:
+                                     `rt must-fail --anew > target/must-fail.txt` before it
+                                     (check/refusals.py)
 
 Run it at the repository's root, after `rt check`. `RT` in the environment is the command for rt.
 
