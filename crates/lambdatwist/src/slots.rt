@@ -47,7 +47,7 @@ pub(crate) fn store(
 ) -> usize
     requires { count < 4 }
     ensures upper_bound { result ≤ count + 1 }
-    ensures lifted_after { held result slots.new updates.new lifted.new
+    ensures stored { held result slots.new updates.new lifted.new
         ≡ turned (held count slots.old updates.old lifted.old) turn
         mark }
 {
