@@ -8,12 +8,12 @@
 - No instruction of it divides whole numbers (objdump).
 - In the programs that are compiled, the crates below p3p as their libraries hold them (out/rlib of
   each: toolchain/mir.json), each divisor of whole numbers is a power of two, so that the compiler
-  makes a shift or a mask of it. The code of p3p itself, which is in no such library, has no / and
-  no %.
+  makes a shift or a mask of it.
+- The code of p3p itself, which is in no such library, has no / and no %.
 
-Each of the three must find fault with something: with a function of C that divides numbers of 128
-bits, with one that divides words, and with crate listing_records, over listing, which writes
-decimal numbers.
+Each of the four must find fault with something: with a function of C that divides numbers of 128
+bits, with one that divides words, with crate listing_records, over listing, which writes decimal
+numbers, and with the code of listing.
 
 Run it at the repository's root, after `rt lib` in crates/p3p and `rt check` in crates/poses. Needs
 cc, nm and objdump."""
@@ -119,10 +119,8 @@ def main():
         looks = {
             "nm": (linked(library) - LINKED, linked(dividing) - LINKED),
             "objdump": (dividing_instructions(library), dividing_instructions(dividing)),
-            "mir.json": (
-                other_divisors(below("p3p")) + own_divisions("p3p"),
-                other_divisors(below("listing_records")),
-            ),
+            "mir.json": (other_divisors(below("p3p")), other_divisors(below("listing_records"))),
+            "src": (own_divisions("p3p"), own_divisions("listing")),
         }
     faults = [f"{tool}: {each}" for tool, (found, _) in looks.items() for each in found]
     faults += [f"{tool}: no fault was found" for tool, (_, control) in looks.items() if not control]

@@ -14,10 +14,11 @@ proofs/ stay as they are.
   tests/mutants/run.py --edits       see that each must-fail edit changes an answer, at the input
                                      that its comment names (check/edits.py)
   tests/mutants/run.py --refusals    see that each was refused for a fact, by what was said of it:
-                                     `rt must-fail --anew > target/must-fail.txt` before it
+                                     `rt must-fail > target/must-fail.txt` before it
                                      (check/refusals.py)
 
-Run it at the repository's root, after `rt check`. `RT` in the environment is the command for rt.
+Run it at the repository's root, after `rt check` in the crates' folders, with whose work it begins
+on the same machine. `RT` in the environment is the command for rt.
 
 A change is of an operator (+ to -, < to <=, a `!` left out), of an operand (another local or field
 of its type, two arguments or a receiver and an argument exchanged; a literal where there is no
@@ -35,7 +36,8 @@ shape, and is replaced by another while there are others (up to TRIES). A privat
 three: what a public one returns rests on its contract too.
 
 The crates are the libraries of crates.txt that have a function. Programs have no contracts that say
-what they write, and are left out. reasons.txt says why a survivor is equivalent."""
+what they write, and are left out; so are seven functions that read or write (change/bodies.py).
+reasons.txt says why a survivor is equivalent."""
 # The other files are in folders, none of which uses a later one: syntax, change, interpret, check.
 # The __init__.py of a folder says what it holds.
 import os

@@ -1,7 +1,7 @@
 #!/usr/bin/env python3
 """Runs the program `poses` where a stored run cannot: on an output that takes nothing, on an input
 that cannot be read, and with arguments. Each run is held to what it writes, to what it says on
-standard error, and with arguments to leaving its input unread.
+standard error, to its exit status, which is 0, and with arguments to leaving its input unread.
 
     python3 tests/poses/run.py PROGRAM          PROGRAM is crates/poses/out/poses
 
@@ -74,6 +74,7 @@ STAND_INS = [
     StandIn("does nothing", "", lambda case: True),
     StandIn("says nothing", '{} "$@" 2> /dev/null', lambda case: case.said != ""),
     StandIn("says more", '{} "$@"; echo more >&2', lambda case: True),
+    StandIn("ends with 1", '{} "$@"; exit 1', lambda case: True),
     StandIn("reads first", READING + '{} "$@"', lambda case: case.words != []),
     StandIn("takes no arguments", "{}", lambda case: case.words != []),
 ]
@@ -108,15 +109,14 @@ def difference(program, case):
     """In what a run is not as expected, or nothing."""
     closing = (" <&-" if case.given == CLOSED else "") + (" >&-" if case.out == CLOSED else "")
     given, out = input_of(case.given), output_of(case.out)
-    # A write that nobody reads ends a program, unless the signal is ignored, as Python has it; a
-    # program of Rattle ignores it by itself.
+    # Signals are as a shell has them: a write that nobody reads ends a program that does not ignore
+    # SIGPIPE, as one of Rattle does.
     run = subprocess.run(
         ["sh", "-c", f'exec "$0" "$@"{closing}', program, *case.words],
         stdin=given,
         stdout=out,
         stderr=subprocess.PIPE,
         timeout=SECONDS,
-        restore_signals=False,
     )
     left = os.read(given, PIPE) if case.words else case.given
     os.close(given)
@@ -126,6 +126,8 @@ def difference(program, case):
         return f"writes {run.stdout[:200]}"
     if run.stderr.decode() != case.said:
         return f"says {run.stderr[:200]}"
+    if run.returncode != 0:
+        return f"ends with {run.returncode}"
     return "" if left == case.given else "reads its input"
 
 

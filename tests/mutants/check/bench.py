@@ -1,8 +1,12 @@
-"""A copy of the repository in which a crate is changed and checked."""
+"""A copy of the repository in which a crate is changed and checked. It stands outside the tree,
+since the gate refuses a crate's text in any other place of it."""
 import os
 import shutil
 import subprocess
 import sys
+import tempfile
+
+from check.crates import PARTS
 
 RT = os.environ.get("RT", "rt").split()
 TIME_LIMIT = 900
@@ -10,42 +14,41 @@ TIME_LIMIT = 900
 
 class Bench:
     def __init__(self, root, crate):
-        self.crate, self.home = crate, os.path.join(root, "target", "mutants", crate)
-        shutil.rmtree(self.home, ignore_errors=True)
-        os.makedirs(os.path.join(self.home, "target"))
+        self.crate, self.copy = crate, tempfile.TemporaryDirectory(prefix="mutants-")
+        self.home = self.copy.name
         shutil.copy(os.path.join(root, "crates.txt"), self.home)
-        shutil.copytree(os.path.join(root, "crates"), os.path.join(self.home, "crates"))
-        for part in ("rlib", "stamp"):
-            if os.path.isdir(os.path.join(root, "target", part)):
-                shutil.copytree(
-                    os.path.join(root, "target", part), os.path.join(self.home, "target", part)
-                )
-        self.cache = os.path.join(self.home, "target", "inc", crate)
+        for name in os.listdir(os.path.join(root, "crates")):
+            for part in PARTS:
+                folder = os.path.join("crates", name, part)
+                if os.path.isdir(os.path.join(root, folder)):
+                    shutil.copytree(os.path.join(root, folder), os.path.join(self.home, folder))
+        self.folder = os.path.join(self.home, "crates", crate)
+        self.cache = os.path.join(self.folder, "out", "incremental")
         self.clean = os.path.join(self.home, "clean")
-        self.rounds = 0
+        self.logs, self.rounds = os.path.join(root, "target", "mutants", crate), 0
+        shutil.rmtree(self.logs, ignore_errors=True)
+        os.makedirs(self.logs)
 
-    def check(self):
+    def check(self, limit):
         """What the checker says, or None where it says nothing in time."""
         try:
             run = subprocess.run(
-                RT + ["dev", self.crate],
-                cwd=self.home,
+                RT + ["check", "--jobs", "1"],
+                cwd=self.folder,
                 capture_output=True,
                 text=True,
-                timeout=TIME_LIMIT,
-                env=dict(os.environ, RT_CUT="0", RT_JOBS="1"),
+                timeout=limit,
             )
         except subprocess.TimeoutExpired:
             return None
         return run.stdout + run.stderr
 
     def begin(self):
-        """The check of the unchanged crate; what it leaves is kept for the others to begin with."""
-        text = self.check()
-        if text is None or "\nlogic=proved" not in text:
-            sys.exit(
-                f"{self.crate} is not proved as it stands:\n{(text or 'no verdict in time')[-3000:]}"
-            )
+        """The check of the unchanged crate, behind those below it where they are not proved yet;
+        what it leaves is kept for the others to begin with."""
+        text = self.check(None)
+        if "\nlogic=proved" not in text:
+            sys.exit(f"{self.crate} is not proved as it stands:\n{text[-3000:]}")
         shutil.copytree(self.cache, self.clean)
 
     def trial(self, mutants):
@@ -60,19 +63,17 @@ class Bench:
             for m in sorted(ms, key=lambda m: -m.place.start):
                 text = m.within(text)
             self.write(file, text)
-        said = self.check()
+        said = self.check(TIME_LIMIT)
         for file in files:
             self.write(file, file.text)
         self.rounds += 1
-        with open(os.path.join(self.home, f"round{self.rounds}.log"), "w", encoding="utf-8") as f:
+        with open(os.path.join(self.logs, f"round{self.rounds}.log"), "w", encoding="utf-8") as f:
             f.write(said or "no verdict in time")
         return said
 
     def write(self, file, text):
-        with open(
-            os.path.join(self.home, "crates", self.crate, file.short), "w", encoding="utf-8"
-        ) as f:
+        with open(os.path.join(self.folder, file.short), "w", encoding="utf-8") as f:
             f.write(text)
 
     def end(self):
-        shutil.rmtree(self.clean, ignore_errors=True)
+        self.copy.cleanup()

@@ -25,6 +25,7 @@ def has_function(folder):
 
 
 CRATES = libraries()
+PARTS = ("src", "specs", "proofs")
 
 
 def source_sum(root, crate):
@@ -32,7 +33,7 @@ def source_sum(root, crate):
     not count."""
     sums = hashlib.sha256()
     top = os.path.join(root, "crates", crate)
-    for part in ("src", "specs", "proofs"):
+    for part in PARTS:
         for folder, _, names in sorted(os.walk(os.path.join(top, part))):
             for name in sorted(names):
                 path = os.path.join(folder, name)
@@ -46,12 +47,26 @@ def source_sum(root, crate):
     return sums.hexdigest()[:16]
 
 
-def own_file(root, function):
-    """The function's proof file: its own, or that of the cycle of calls that it is in."""
+def own_folder(root, function):
+    """Where the function's proof files stand, if it has any: in a folder of its own, or in that of
+    the cycle of calls that it is in, which has the names of all."""
     parts = function.path.split("::")[1:]
     folder = os.path.join("proofs", *parts[:-1])
     top = os.path.join(root, "crates", function.path.split("::")[0], folder)
+    names = [f.path.split("::")[-1] for f, _, _ in function.file.bodies]
     for name in sorted(os.listdir(top)) if os.path.isdir(top) else []:
-        if name.startswith("+") and parts[-1] in name.split("+"):
-            return os.path.join(folder, name, "Proof.antt")
-    return os.path.join(folder, parts[-1], "Proof.antt")
+        if name.startswith("+") and parts[-1] in members(name[1:], names):
+            return os.path.join(folder, name)
+    return os.path.join(folder, parts[-1])
+
+
+def members(cycle, names):
+    """The functions that a cycle is named after: their names, joined by `_`."""
+    for name in names:
+        if cycle == name:
+            return [name]
+        if cycle.startswith(name + "_"):
+            others = members(cycle[len(name) + 1 :], names)
+            if others:
+                return [name, *others]
+    return []

@@ -1,6 +1,7 @@
-"""What each must-fail edit is refused for, by what `rt must-fail --anew` says of it. An edit shows
-something where a goal is not proved or two values differ. One that is bad, and one that is refused
-only since a proof file names what it took away, shows nothing."""
+"""What each must-fail edit is refused for, by what `rt must-fail` says of it. An edit shows
+something where a goal is not proved or two values differ. One that is bad, one that is refused only
+since a proof file names what it took away, and one that only meets a limit of the prover show
+nothing."""
 import os
 import re
 
@@ -19,7 +20,7 @@ def read_refusals():
     """Whether every edit is refused for a fact; prints those that are not."""
     assert not is_fact(FACT + " (only because a proof file names what the edit took away, ..)")
     if not os.path.exists(SAID):
-        print(f"no {SAID}: run `rt must-fail --anew > {SAID}` first")
+        print(f"no {SAID}: run `rt must-fail > {SAID}` first")
         return False
     with open(SAID, encoding="utf-8") as f:
         said = dict(LINE.findall(f.read()))

@@ -25,9 +25,10 @@ def lines_of(crate):
         return f.read().splitlines()
 
 
-def write_results(root, crate, functions, tried, state):
+def write_results(root, bench, functions, tried, state):
+    crate = bench.crate
     os.makedirs(RESULTS, exist_ok=True)
-    bench_sum = source_sum(os.path.join(root, "target", "mutants", crate), crate)
+    bench_sum = source_sum(bench.home, crate)
     version = subprocess.run(RT + ["version"], capture_output=True, text=True).stdout.strip()
     commit = subprocess.run(
         ["git", "log", "-1", "--format=%cs"], cwd=root, capture_output=True, text=True

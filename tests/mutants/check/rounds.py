@@ -3,7 +3,7 @@ of which it does not tell are tried again."""
 from change.bodies import functions_of
 from change.mutants import mutants_of
 from check.bench import Bench
-from check.crates import CRATES, own_file
+from check.crates import CRATES, own_folder
 from check.results import add_witness, earlier, write_results
 from check.verdicts import front_errors, read
 from syntax.world import World
@@ -43,7 +43,7 @@ class Queues:
     def __init__(self, root, crate, world):
         self.root, self.crate, self.functions = root, crate, functions_of(world, crate)
         for f in self.functions:
-            f.proof = own_file(root, f)
+            f.proof = own_folder(root, f)
         self.waiting = {f.path: mutants_of(f) for f in self.functions}
         self.tried = {f.path: [] for f in self.functions}
 
@@ -77,8 +77,8 @@ class Queues:
     def count(self, verdict):
         return sum(m.verdict == verdict for ms in self.tried.values() for m in ms)
 
-    def write(self, state):
-        write_results(self.root, self.crate, self.functions, self.tried, state)
+    def write(self, bench, state):
+        write_results(self.root, bench, self.functions, self.tried, state)
 
 
 def try_crate(root, crate, world, rounds):
@@ -92,7 +92,7 @@ def try_crate(root, crate, world, rounds):
         rounds -= 1
         turn = queues.turn()
         if not turn:
-            queues.write("")
+            queues.write(bench, "")
             break
         settle(bench, turn)
         print(
@@ -100,6 +100,6 @@ def try_crate(root, crate, world, rounds):
             + ", ".join(f"{queues.count(v)} {v}" for v in VERDICTS),
             flush=True,
         )
-        queues.write("; NOT FINISHED")
+        queues.write(bench, "; NOT FINISHED")
     add_witness(crate, World(root, CRATES))
     bench.end()

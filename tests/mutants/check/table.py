@@ -17,14 +17,15 @@ proofs stay.
 - refused, shape: the proof file names a fact or a step that the changed code does not have, which
   shows less, and is counted apart;
 - survived: the crate is proved with the change.
-
+"""
+COUNTS_HEAD = """
 | functions | refused, fact | refused, shape | survived | no verdict |
 |---|---|---|---|---|"""
 WORDS_HEAD = """\
 By the prover's words, and by whether an input was found at which the changed function answers
 otherwise (interpret/witness.py: random inputs, an interpreter that is not the prover's; not tried
-where the function has a `requires`). Where one was found, the refused fact is false, whatever the
-words.
+where the function has a `requires` or is generic). Where one was found, the refused fact is false,
+whatever the words.
 
 | words | mutants | an input differs | no such input found | not tried |
 |---|---|---|---|---|"""
@@ -55,11 +56,11 @@ def reasons():
 class Tally:
     """What the results come to. rows: the functions, each with its places and the count of each
     verdict; total: the count of each verdict by public and private; said: by the prover's words,
-    whether inputs were found."""
+    whether inputs were found; changed: how many crates have changed since they were tried."""
 
     def __init__(self, root):
         self.reasons, self.rows, self.heads, self.survivors, self.odd = reasons(), [], [], [], []
-        self.total, self.said = {}, {}
+        self.total, self.said, self.changed = {}, {}, 0
         for crate in CRATES:
             if not os.path.exists(path_of(crate)):
                 self.rows.append(f"| {crate} | not tried | | | | | |")
@@ -68,8 +69,10 @@ class Tally:
 
     def add_crate(self, root, crate):
         lines = lines_of(crate)
-        stale = "" if source_sum(root, crate) in lines[0] else ", and the crate has changed since"
-        self.heads.append(f"- {crate}: {lines[0][2:]}{stale}")
+        has_changed = source_sum(root, crate) not in lines[0]
+        self.changed += has_changed
+        since = ", and the crate has changed since" if has_changed else ""
+        self.heads.append(f"- {crate}: {lines[0][2:]}{since}")
         for line in lines[2:]:
             parts = line.split("\t")
             if parts[0]:
@@ -124,6 +127,13 @@ def cells(counts, keys):
 def summary(tally):
     """The counts by public and private, and the reasons of the survivors."""
     text = [HEAD]
+    if tally.changed:
+        text += wrapped(
+            f"{tally.changed} of the {len(tally.heads)} crates have changed since they were tried: "
+            "their results are of the crates as they were, by the toolchain that "
+            '"Runs" names for each.'
+        )
+    text += [COUNTS_HEAD]
     for kind in ("public", "private"):
         text.append(f"| {kind} | " + cells(tally.total, [(kind, v) for v in VERDICTS]))
     number = len(tally.survivors)

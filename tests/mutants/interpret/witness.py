@@ -1,7 +1,8 @@
 """Inputs at which a mutant answers otherwise than the function does, by an interpreter
 (machine.py). Where there is one, the refusal is of a false fact, whatever the words of the refusal.
-Only functions with no `requires` are tried, since an input that breaks one shows nothing. The
-functions that a mutant calls are the unchanged ones, as in its proof."""
+Only functions with no `requires` are tried, since an input that breaks one shows nothing, and of
+these none that is generic: it reads or writes what its caller gives it. The functions that a mutant
+calls are the unchanged ones, as in its proof."""
 import copy
 import time
 
@@ -23,7 +24,7 @@ def outcome(machine, f, args, body):
 def differs(machine, function, text):
     """Whether an input was found at which the changed text answers otherwise; None where none is
     tried."""
-    if function.requires:
+    if function.requires or function.generic:
         return None
     changed, inputs = machine.parse(function, text), Inputs(machine.world, function)
     began = time.monotonic()

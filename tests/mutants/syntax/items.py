@@ -9,6 +9,7 @@ class Function:
     def __init__(self, path, public, file, start):
         self.path, self.public, self.file, self.start, self.end = path, public, file, start, 0
         self.params, self.result, self.places, self.requires = [], None, [], False
+        self.generic = False  # whether it has parameters of its own that are types
 
 
 class Items(Types):
@@ -162,9 +163,10 @@ class Items(Types):
         self.next()
         name = self.take()
         path = "::".join(p for p in (self.file.crate, self.file.module, owner, name) if p)
-        if self.sees("<"):
-            self.skip("<", ">")
         f = Function(path, public, self.file, start)
+        if self.sees("<"):
+            f.generic = True
+            self.skip("<", ">")
         params = self.params(owner)
         result = None
         if self.passes("->"):
