@@ -2,9 +2,9 @@
  *
  * Each function's result, and what it leaves in the memory that is lent to it, is proved equal to a
  * definition for every input, infinities and NaNs too (crates/p3p). None allocates or keeps state:
- * each may be called from several threads at once. A solve was measured to take 4.6 KiB of stack at
- * most, a preview too (with an older compiler: docs/BENCHMARKS.md); the others take less. Under
- * lazy binding the first call takes the loader's 1 to 3 KiB more: link with -Wl,-z,now.
+ * each may be called from several threads at once. A solve was measured to take 4.8 KiB of stack at
+ * most (docs/BENCHMARKS.md); the others take less. Under lazy binding the first call takes the
+ * loader's 1 to 3 KiB more: link with -Wl,-z,now.
  *
  * The floating-point environment must be as C starts a program:
  *   - The rounding mode is to nearest.

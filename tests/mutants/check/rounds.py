@@ -20,9 +20,9 @@ def settle(bench, mutants):
         return
     said = bench.trial(mutants)
     if said is not None and "\nlogic=" in said:
-        read(said, mutants, bench.crate)
+        read(said, mutants)
     elif said is not None:
-        for m in front_errors(said, mutants, bench.crate):
+        for m in front_errors(said, mutants):
             m.verdict = "not compiled"
     left = [m for m in mutants if m.verdict is None]
     if not left:
