@@ -50,6 +50,8 @@ fn print_millimetres(rt: &impl Print, metres: f64) -> io::Result<()> {
     print!(rt; " {sign}{whole}")
 }
 
+// An error is that of the first write that fails: what was written before stays written, and
+// nothing after it is done. No other error comes.
 fn main(rt: HostRuntime) -> io::Result<()> {
     // Three targets of the plate, and the bearings at which the camera sees them.
     let p0 = point(0.0, 0.0, 0.0);

@@ -1,6 +1,6 @@
 // The slots that a solve fills: for each of four poses its twelve entries, its updates, and whether
-// a pair of roots that it came from was lifted. Arrays of numbers can be lent to the stages, and a
-// struct of poses cannot; what is lent is not copied from stage to stage.
+// a pair of roots that it came from was lifted. Arrays of numbers are lent to the stages: what is
+// lent is not copied from stage to stage.
 ghost use Rattle.std.specs.Prelude.{◌≡◌, ◌+◌, ◌≤◌, ◌<◌};
 ghost use Rattle.frames.specs.Lent.{entries};
 ghost use Rattle.lambdatwist.specs.LentSlots.{pose_of, held, turned};
@@ -47,7 +47,7 @@ pub(crate) fn store(
 ) -> usize
     requires { count < 4 }
     ensures upper_bound { result ≤ count + 1 }
-    ensures lifted_after { held result slots.new updates.new lifted.new
+    ensures stored { held result slots.new updates.new lifted.new
         ≡ turned (held count slots.old updates.old lifted.old) turn
         mark }
 {

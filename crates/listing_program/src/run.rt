@@ -58,7 +58,7 @@ fn read_on<R: Read, W, E: Write>(
     listed: u64,
 ) -> Turn
     ensures reads { Reads (length input.old) filled next listed result }
-    ensures input_unchanged { take filled input.new ≡ take filled input.old }
+    ensures filled_kept { take filled input.new ≡ take filled input.old }
 {
     if input.len() <= next {
         return Turn::More(State {
@@ -97,7 +97,7 @@ fn step<R: Read, W: Write, E: Write>(
     state: State,
 ) -> Turn
     ensures steps { Steps input.old out.old out.new state result }
-    ensures input_unchanged { take state.filled input.new ≡ take state.filled input.old }
+    ensures filled_kept { take state.filled input.new ≡ take state.filled input.old }
 {
     let filled = state.filled;
     let ended = state.ended;

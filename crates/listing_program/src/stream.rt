@@ -31,7 +31,7 @@ pub(crate) fn fill<R: Read, W, E: Write>(
     filled: usize,
 ) -> Filling
     ensures fills { Fills (length input.old) filled result }
-    ensures input_unchanged { take filled input.new ≡ take filled input.old }
+    ensures filled_kept { take filled input.new ≡ take filled input.old }
 {
     if input.len() <= filled {
         return failed(&mut streams.errors, io::Error::from(ErrorKind::StorageFull));

@@ -19,7 +19,7 @@ pub extern "C" fn p3p_quadratic_kind(
     kind: &mut u32,
 ) -> u32
     ensures value { result ≡ number (quadratic_real_monic b c).value }
-    ensures second_after { first.new ∷ second.new ∷ []
+    ensures roots_after { first.new ∷ second.new ∷ []
         ≡ roots_after (quadratic_real_monic b c).value
         (first.old ∷ second.old ∷ []) }
     ensures kind_after { kind.new ≡ kind_after (quadratic_real_monic b c).value kind.old }
@@ -54,7 +54,7 @@ pub extern "C" fn p3p_quadratic_kind(
 #[unsafe(no_mangle)]
 pub extern "C" fn p3p_quadratic(b: f64, c: f64, first: &mut f64, second: &mut f64) -> u32
     ensures value { result ≡ number (quadratic_real_monic b c).value }
-    ensures second_after { first.new ∷ second.new ∷ []
+    ensures roots_after { first.new ∷ second.new ∷ []
         ≡ roots_after (quadratic_real_monic b c).value
         (first.old ∷ second.old ∷ []) }
 {

@@ -48,6 +48,9 @@ fn show<F: Files + Print>(rt: &F, name: &str) -> io::Result<()> {
     Ok(())
 }
 
+// An error is that of the file in the place of standard error, where it cannot be made or read
+// again, or of the first write that fails: what was written before stays written, and nothing after
+// it is done. No other error comes.
 fn main(rt: HostRuntime) -> io::Result<()> {
     let mut said = fs::create(&rt, "said")?;
     let mut streams = Streams {

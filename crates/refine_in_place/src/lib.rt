@@ -1,7 +1,6 @@
 // The refinement of depths in place: the triple is lent by `&mut` and altered there, as in
-// refine_depths of pose/p3p/common.rs (document 01, "What must change shape"). A thin layer over
-// the form by value, refinement::refine_depths, which does the work. The prover covers no reference
-// to a struct, so the proofs of both functions walk through their statements by hand.
+// refine_depths of pose/p3p/common.rs. A thin layer over the form by value,
+// refinement::refine_depths, which does the work.
 #![tactic(auto)]
 
 ghost use Rattle.std.specs.Prelude.{◌≡◌, ℕ};

@@ -10,14 +10,15 @@ use linalg::vector3::Vector3;
 use refine_in_place::refine_depths_here;
 use std::io;
 
-// Prints the bit pattern of a double. An error is that of the writing, as of `refine` too: what was
-// written before stays written. No other error comes.
+// Prints the bit pattern of a double. An error is that of the writing: what was written before
+// stays written. No other error comes.
 fn print_pattern(rt: &impl Print, x: f64) -> io::Result<()> {
     let pattern = to_bits(x);
     print!(rt; " {pattern:016x}")
 }
 
-// "updates U depths X Y Z"
+// Prints "updates U depths X Y Z". An error is that of the first write that fails: what was written
+// before stays written. No other error comes.
 fn refine(rt: &impl Print, depth: f64) -> io::Result<()> {
     let depths = Vector3 {
         x: depth,
@@ -44,6 +45,8 @@ fn refine(rt: &impl Print, depth: f64) -> io::Result<()> {
     println!(rt)
 }
 
+// An error is that of the first write that fails: what was written before stays written, and
+// nothing after it is done. No other error comes.
 fn main(rt: HostRuntime) -> io::Result<()> {
     refine(&rt, 2.0)?;
     refine(&rt, 1.0)

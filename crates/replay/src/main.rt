@@ -149,6 +149,8 @@ fn compare<R: Files + Print, E: Write>(
     replay_words::report::report(&mut io::writer(rt), path.as_bytes(), compared, differ)
 }
 
+// An error is that of the first read or write that fails: what was written before stays written,
+// and nothing after it is done. No other error comes.
 fn main(rt: HostRuntime) -> io::Result<()> {
     let mut errors = rt.stderr();
     let files = [

@@ -10,17 +10,12 @@ use Rattle.ieee754_parts.proofs.Reading.{ne-self, nan-of, zero-over-zero}
 use Rattle.ieee754.proofs.bits.from_bits.Statement.{statement}
 use Rattle.ieee754.proofs.bits.from_bits.Tie as tie
 
-returns : tie.Need-returns-then-magnitude-gt-INFINITY
-returns c =
-    zero-over-zero
-    ∙ sym (nan-of _
-    (ne-self _ ∙ sym (nan_bits_is binary64 c.before.args.pattern) ∙
-    nan_bits_above binary64 c.before.args.pattern ∙ lt-ltb _ _ c.if-magnitude-gt-INFINITY.true))
-
-float-from-bits-result : tie.Need-float_from_bits-result
-float-from-bits-result c =
-    rw (nan_bits_above binary64 c.before.args.pattern) (le→nltb _ _ c.if-magnitude-gt-INFINITY.false)
-
 pub from_bits_spec : {M : Type 1} → statement M
 from_bits_spec =
-    tie.close (tie.spec returns float-from-bits-result (λ c. search rules))
+    tie.close (tie.spec
+    (λ c. zero-over-zero
+    ∙ sym (nan-of _
+    (ne-self _ ∙ sym (nan_bits_is binary64 c.before.args.pattern) ∙
+    nan_bits_above binary64 c.before.args.pattern ∙ lt-ltb _ _ (search rules))))
+    (λ c. rw (nan_bits_above binary64 c.before.args.pattern) (le→nltb _ _ (search rules)))
+    (λ c. search rules))

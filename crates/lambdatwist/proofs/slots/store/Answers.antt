@@ -3,6 +3,6 @@ use mathlib.Core.Path.{sym}
 use Rattle.lambdatwist.proofs.Filling.{next-held}
 use Rattle.lambdatwist.proofs.slots.store.Goals as goal
 
-pub returns-in-Kept-clause-lifted_after : goal.returns-in-Kept-clause-lifted_after
-returns-in-Kept-clause-lifted_after c =
+pub returns-in-Kept-clause-stored : goal.returns-in-Kept-clause-stored
+returns-in-Kept-clause-stored c =
     rw (c.entries.ensures, c.in-Kept.is) (sym (next-held c.args.count _ _ _ _ _ _ c.requires))

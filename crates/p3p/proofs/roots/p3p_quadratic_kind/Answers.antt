@@ -11,8 +11,8 @@ returns-in-One c =
     let two = count_at (quadratic-two _ _) (sym c.in-One.ensures) refl in
     absurd (omega (arith, two))
 
-pub returns-in-Refused-clause-second_after : goal.returns-in-Refused-clause-second_after
-returns-in-Refused-clause-second_after c =
+pub returns-in-Refused-clause-roots_after : goal.returns-in-Refused-clause-roots_after
+returns-in-Refused-clause-roots_after c =
     let e = sym c.in-Refused.ensures in
     rw e (as-held (quadratic-two _ _) _ _ (λ h. omega (arith, h)) e)
 
