@@ -36,7 +36,7 @@ shape, and is replaced by another while there are others (up to TRIES). A privat
 three: what a public one returns rests on its contract too.
 
 The crates are the libraries of crates.txt that have a function. Programs have no contracts that say
-what they write, and are left out; so are seven functions that read or write (change/bodies.py).
+what they write, and are left out; so are eight functions that read or write (change/bodies.py).
 reasons.txt says why a survivor is equivalent."""
 # The other files are in folders, none of which uses a later one: syntax, change, interpret, check.
 # The __init__.py of a folder says what it holds.

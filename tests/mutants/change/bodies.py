@@ -13,6 +13,7 @@ LEFT_OUT = {
     "listing_program::stream::failed",
     "listing_program::stream::fill",
     "listing_program::stream::flush",
+    "replay_words::report::put",
     "replay_words::report::report",
 }
 
