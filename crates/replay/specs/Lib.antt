@@ -1,3 +1,4 @@
 -- The definitions that the contracts of this crate cite, in reading order.
 pub mod Types
 pub mod SubjectRecords
+pub mod Reading

@@ -13,7 +13,9 @@
 // seven three, an answer, a refused solve and a refused replacement.
 #![tactic(auto)]
 
-ghost use Rattle.std.specs.Prelude.{◌≡◌, ◌*◌, ◌≤◌};
+ghost use Rattle.std.specs.Prelude.{◌≡◌, ◌*◌, ◌≤◌, length, take, IfOk, OnErr};
+ghost use Rattle.std.specs.Io.KnownBytes.{Consumes};
+ghost use Rattle.replay.specs.Reading.{Shrinks};
 ghost use Rattle.replay.specs.SubjectRecords.{subject_holds, subject_words};
 
 use replay_about::{chosen_about, solved_about};
@@ -85,7 +87,12 @@ fn holds(subject: Subject, s: &[u8; 768]) -> bool
 
 // Reads until `buf` is full or the file ends, and answers how many bytes were read. An error is the
 // file's own: what was read before it stands in `buf`. No other error comes.
-fn read_full<F: Read>(file: &mut F, buf: &mut [u8]) -> io::Result<usize> {
+fn read_full<F: Read>(file: &mut F, buf: &mut [u8]) -> io::Result<usize>
+    ensures bound { IfOk result (λ n. n ≤ length buf.old) }
+    ensures read { IfOk result (λ n.
+        Consumes (F.remaining file.old) (F.remaining file.new) (take n buf.new)) }
+    ensures failed { OnErr result (Shrinks (F.remaining file.old) (F.remaining file.new)) }
+{
     let mut done = 0;
     while done < buf.len() {
         let n = file.read(&mut buf[done..])?;
@@ -99,7 +106,9 @@ fn read_full<F: Read>(file: &mut F, buf: &mut [u8]) -> io::Result<usize> {
 
 // Reads the next record and tries it. An error is the file's own: the record is not tried. No other
 // error comes.
-fn step<F: Read>(file: &mut F, subject: Subject) -> io::Result<Found> {
+fn step<F: Read>(file: &mut F, subject: Subject) -> io::Result<Found>
+    ensures { OnErr result (Shrinks (F.remaining file.old) (F.remaining file.new)) }
+{
     let mut record = [0u8; 768];
     let n = length(subject);
     let got = read_full(file, &mut record[..n])?;
