@@ -19,7 +19,7 @@ use Rattle.eigen.specs.RowCrosses.{eigenvector_from_row_crosses}
 use Rattle.eigen.specs.ZeroVector.{zero_direction, zero_vector}
 use Rattle.eigen.specs.EigenvectorOf.{precompute, eigen_denominator, denominator_scale}
 use Rattle.eigen.specs.EigenvectorOf.{if_finite, eigenvector_by_division, eigenvector_of}
-use Rattle.eigen.specs.Types.{Order, Less, Equal, Greater, Vector3, Matrix3, Eigenvector}
+use Rattle.eigen.specs.Types.{Ordering, Less, Equal, Greater, Vector3, Matrix3, Eigenvector}
 use Rattle.eigen.specs.Types.{Normalised, Missing, Precomputed}
 use Rattle.linalg.proofs.SquaredLength.{squared-normal}
 
@@ -34,16 +34,16 @@ module _ {A : Type 0} {R : A → A → Type 0} {none none' : Traced A} {f f' : V
 
 module _ {k : ℤ} where
   -- ---- the longest cross product of two rows
-  last_greatest-at : {n : ℤ} {o o' : Order} {l l' r r' : Vector3}
+  last_greatest-at : {n : ℤ} {o o' : Ordering} {l l' r r' : Vector3}
       → o ≡ o'
       → AtVector k n l l'
       → AtVector k n r r'
       → AtVector k n (last_greatest o l r) (last_greatest o' l' r')
   unfolding last_greatest
   last_greatest-at {n} {o} {l = l} {l'} {r} {r'} e L R =
-      subst (λ (p : Order). AtVector k n (last_greatest o l r) (last_greatest p l' r')) e (go o)
+      subst (λ (p : Ordering). AtVector k n (last_greatest o l r) (last_greatest p l' r')) e (go o)
     where
-      go : (o : Order) → AtVector k n (last_greatest o l r) (last_greatest o l' r')
+      go : (o : Ordering) → AtVector k n (last_greatest o l r) (last_greatest o l' r')
       go Less = R
       go Equal = R
       go Greater = L

@@ -7,7 +7,7 @@ use Rattle.ieee754.specs.Literal.{min_positive}
 use Rattle.ieee754.specs.TotalOrder.{total_cmp}
 use Rattle.ieee754.specs.Traced.{Traced, pure, ◌>>=◌, ◌⊖◌, !◌}
 use Rattle.linalg.specs.Vectors.{vector, cross, norm_squared, norm, vec_div}
-use Rattle.eigen.specs.Types.{Order, Less, Equal, Greater, Vector3, Matrix3, Eigenvector}
+use Rattle.eigen.specs.Types.{Ordering, Less, Equal, Greater, Vector3, Matrix3, Eigenvector}
 use Rattle.eigen.specs.Types.{Normalised, Missing}
 
 -- ---- what follows an eigenvector: what `k` makes of it, and `none` where it is missing
@@ -16,7 +16,7 @@ with_vector (Normalised v) none k = k v
 with_vector Missing none k = none
 
 -- `max_by` keeps what it has only where that compares greater: of equals the last wins
-unfoldable pub last_greatest : Order → Vector3 → Vector3 → Vector3
+unfoldable pub last_greatest : Ordering → Vector3 → Vector3 → Vector3
 last_greatest Less left right = right
 last_greatest Equal left right = right
 last_greatest Greater left right = left

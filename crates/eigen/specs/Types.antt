@@ -1,7 +1,7 @@
 -- The structs and enums that definitions and laws of this crate name: those of its src/, and those
 -- of the crates below.
-pub use Rattle.ieee754.specs.declared.total_cmp.Order.{Order}
-pub use Rattle.ieee754.specs.declared.total_cmp.Order.TheVariants.{Less, Equal, Greater}
+pub use Rattle.std.specs.declared.cmp.Ordering.{Ordering}
+pub use Rattle.std.specs.declared.cmp.Ordering.TheVariants.{Less, Equal, Greater}
 pub use Rattle.linalg.specs.declared.matrix3.Matrix3.{Matrix3}
 pub use Rattle.linalg.specs.declared.vector3.Vector3.{Vector3}
 pub use Rattle.eigen.specs.declared.eigenpairs.Eigenpairs.{Eigenpairs}

@@ -5,9 +5,10 @@ ghost use Rattle.eigen.specs.RowCrosses.{longer, unit_vector, eigenvector_from_r
 
 use ieee754::is_finite::is_finite;
 use ieee754::literal::MIN_POSITIVE;
-use ieee754::total_cmp::{Order, total_cmp};
+use ieee754::total_cmp::total_cmp;
 use linalg::matrix3::Matrix3;
 use linalg::vector3::Vector3;
+use std::cmp::Ordering;
 
 #[derive(Clone, Copy)]
 pub enum Eigenvector {
@@ -20,9 +21,9 @@ pub fn longer(left: Vector3, right: Vector3) -> Vector3
     ensures { result ≡ (longer left right).value }
 {
     match total_cmp(left.norm_squared(), right.norm_squared()) {
-        Order::Less => right,
-        Order::Equal => right,
-        Order::Greater => left,
+        Ordering::Less => right,
+        Ordering::Equal => right,
+        Ordering::Greater => left,
     }
 }
 

@@ -146,7 +146,7 @@ drops-dropped p f n den k P D d = go d.1
 -- ---- the number that is chosen
 
 -- q is the whole part of the p-th root of n / u
-abbrev Whole : ℕ → ℕ → ℕ → ℕ → Type 0
+abbrev pub Whole : ℕ → ℕ → ℕ → ℕ → Type 0
 Whole p n u q = ((2 * q) ^ p * u ≤ 2 ^ p * n) × (2 ^ p * n < (2 * suc q) ^ p * u)
 
 -- twice the root of n / u lies between 2 * q - 1 and 2 * q + 1: strictly (`Within`), or at one of

@@ -5,6 +5,7 @@
 -- hand, and `do` binds a `let`. What cannot round (negation, magnitude, copied sign, maximum,
 -- clamp, comparisons) is not traced.
 use Rattle.std.specs.Prelude.{ℕ, ◌+◌, ◌-◌, ◌*◌, ◌^◌, Bool, true, false, ◌&&◌, ◌||◌, not, cond, leb, ltb, eqb, Float}
+use Rattle.std.specs.Prelude.{Option, Some, None}
 use Rattle.std.specs.Bool.{beq}
 use Rattle.std.specs.Float.{nan, inf, fin, binary64}
 use Rattle.std.specs.Float.Ieee.{add, sub, mul, div, up, down, neg, unlike}
@@ -20,6 +21,12 @@ pure a = record { value = a; regular = true }
 
 abbrev pub ◌>>=◌ : {A B : Type 0} → Traced A → (A → Traced B) → Traced B
 ◌>>=◌ m k = record { value = (k m.value).value; regular = m.regular && (k m.value).regular }
+
+-- What follows a step that can stop, where the Rust writes `?` or `let .. else`: what `k` makes of
+-- the value, and `none` where there is none.
+abbrev pub with_some : {A B : Type 0} → Option A → Traced B → (A → Traced B) → Traced B
+with_some (Some a) none k = k a
+with_some None none k = none
 
 -- ---- what is asked of an operation's exact result. On a NaN or an infinity, and for the square
 -- root of a negative number, there is none, and nothing is asked.

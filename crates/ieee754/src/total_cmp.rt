@@ -3,13 +3,7 @@ ghost use Rattle.std.specs.Prelude.{◌≡◌};
 ghost use Rattle.ieee754.specs.TotalOrder.{total_order, total_cmp};
 
 use crate::copysign::negative;
-
-#[derive(Clone, Copy)]
-pub enum Order {
-    Less,
-    Equal,
-    Greater,
-}
+use std::cmp::Ordering;
 
 // Whether x is at or below y.
 pub fn total_order(x: f64, y: f64) -> bool
@@ -30,14 +24,14 @@ pub fn total_order(x: f64, y: f64) -> bool
     false
 }
 
-pub fn total_cmp(x: f64, y: f64) -> Order
+pub fn total_cmp(x: f64, y: f64) -> Ordering
     ensures { result ≡ total_cmp x y }
 {
     if total_order(x, y) {
         if total_order(y, x) {
-            return Order::Equal;
+            return Ordering::Equal;
         }
-        return Order::Less;
+        return Ordering::Less;
     }
-    Order::Greater
+    Ordering::Greater
 }

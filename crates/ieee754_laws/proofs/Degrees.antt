@@ -20,10 +20,11 @@ use Rattle.ieee754.specs.Clamp.{clamp}
 use Rattle.ieee754.specs.TotalOrder.{total_order, total_cmp}
 use Rattle.ieee754.specs.Root.{sqrt, cbrt}
 use Rattle.std.specs.Prelude as prelude
+use Rattle.std.specs.Prelude.{Option, Some, None}
 use Rattle.ieee754.specs.Traced as traced
 use Rattle.ieee754.specs.Traced.{Traced, add_regular, mul_regular, div_regular, fma_regular}
 use Rattle.ieee754.specs.Traced.{sqrt_regular, cbrt_regular}
-use Rattle.ieee754.specs.Scaling.{scale, Both, At, Scales}
+use Rattle.ieee754.specs.Scaling.{scale, Both, At, Scales, AtOption, some-at, none-at}
 use Rattle.ieee754.proofs.Tests.{three}
 use Rattle.ieee754_laws.proofs.Powers.{ℤ-add-mul, ℤ-sub-mul, ℤ-twice, ℤ-thrice}
 use Rattle.ieee754_laws.proofs.RoundScale.{scale-zero}
@@ -330,3 +331,22 @@ module _ {A B : Type 0} {S : B → B → Type 0} where
       → ((x : A) → Both S (f x) (f' x))
       → Both S (traced.◌>>=◌ m f) (traced.◌>>=◌ m' f')
   ◌>>≡◌ {f = f} {f' = f'} h g = h >>= λ x x' e. subst (λ (y : A). Both S (f x) (f' y)) e (g x)
+
+-- what follows a step that can stop: of values in a relation, or of one value in both runs
+module _ {A B : Type 0} {S : A → A → Type 0} {R : B → B → Type 0} {none none' : Traced B}
+    {f f' : A → Traced B} where
+  pub with_some : {o o' : Option A}
+      → AtOption S o o'
+      → Both R none none'
+      → ((x x' : A) → S x x' → Both R (f x) (f' x'))
+      → Both R (traced.with_some o none f) (traced.with_some o' none' f')
+  with_some (some-at {a} {a'} h) none next = next a a' h
+  with_some none-at none next = none
+
+module _ {A B : Type 0} {R : B → B → Type 0} {none none' : Traced B} {f f' : A → Traced B} where
+  pub with_same : (o : Option A)
+      → Both R none none'
+      → ((x : A) → Both R (f x) (f' x))
+      → Both R (traced.with_some o none f) (traced.with_some o none' f')
+  with_same (Some x) none next = next x
+  with_same None none next = none

@@ -17,7 +17,7 @@ use lib.Ieee.Positive.{through}
 use borrow.Author.Tests.{lt-ltb, le-ltb, lt-leb, le-leb}
 use Rattle.ieee754.specs.Literal.{double}
 use Rattle.ieee754.specs.TotalOrder.{total_order, total_cmp}
-use Rattle.ieee754.specs.declared.total_cmp.Order.TheVariants.{Less, Equal, Greater}
+use Rattle.std.specs.declared.cmp.Ordering.TheVariants.{Less, Equal, Greater}
 use Rattle.ieee754_parts.proofs.Tests.{lt-or-ge}
 use Rattle.ieee754.proofs.Tests.{or_left, or_right}
 use Rattle.ieee754_parts.proofs.Nearest.{Compared, compared}

@@ -7,7 +7,7 @@ ghost use Rattle.ieee754.specs.Root as Root;
 ghost use Rattle.ieee754.specs.TotalOrder.{total_cmp};
 ghost use Rattle.p3p.specs.Answer.{ordering};
 
-use ieee754::total_cmp::Order;
+use std::cmp::Ordering;
 
 #[unsafe(no_mangle)]
 pub extern "C" fn p3p_sqrt(x: f64) -> f64
@@ -51,8 +51,8 @@ pub extern "C" fn p3p_total_cmp(x: f64, y: f64) -> i32
 {
     let order = ieee754::total_cmp::total_cmp(x, y);
     match order {
-        Order::Less => -1,
-        Order::Equal => 0,
-        Order::Greater => 1,
+        Ordering::Less => -1,
+        Ordering::Equal => 0,
+        Ordering::Greater => 1,
     }
 }

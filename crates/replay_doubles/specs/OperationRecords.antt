@@ -13,10 +13,10 @@ use Rattle.replay_records.specs.Contents.{double_at}
 use Rattle.replay_records.specs.Agreement.{number_agrees, flag, double_agrees}
 use Rattle.replay_doubles.specs.Types.{Operation, Abs, Copysign, Max, Clamp, IsFinite}
 use Rattle.replay_doubles.specs.Types.{TotalOrder, TotalCmp, Sqrt, Cbrt, Fma}
-use Rattle.replay_doubles.specs.Types.{Order, Less, Equal, Greater}
+use Rattle.replay_doubles.specs.Types.{Ordering, Less, Equal, Greater}
 
 -- an order stands as 0, 1 or 2
-abbrev pub order_number : Order → ℕ
+abbrev pub order_number : Ordering → ℕ
 order_number Less = 0
 order_number Equal = 1
 order_number Greater = 2

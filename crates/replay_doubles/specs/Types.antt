@@ -1,7 +1,7 @@
 -- The enums that definitions and laws of this crate name: those of its src/, and those of the
 -- crates below.
-pub use Rattle.ieee754.specs.declared.total_cmp.Order.{Order}
-pub use Rattle.ieee754.specs.declared.total_cmp.Order.TheVariants.{Less, Equal, Greater}
+pub use Rattle.std.specs.declared.cmp.Ordering.{Ordering}
+pub use Rattle.std.specs.declared.cmp.Ordering.TheVariants.{Less, Equal, Greater}
 pub use Rattle.polynomial.specs.declared.Roots.{Roots}
 pub use Rattle.polynomial.specs.declared.Roots.TheVariants.{Two, Double, Lifted, One, Refused}
 pub use Rattle.replay_doubles.specs.declared.operations.Operation.{Operation}

@@ -4,9 +4,9 @@ ghost use Rattle.std.specs.Prelude.{◌≡◌, ◌*◌, ◌≤◌};
 ghost use Rattle.replay_doubles.specs.OperationRecords.{operation_holds, operation_words};
 ghost use Rattle.replay_doubles.specs.OperationRecords.{order_number};
 
-use ieee754::total_cmp::Order;
 use replay_records::agreement::{double_agrees, flag, number_agrees};
 use replay_records::contents::double_at;
+use std::cmp::Ordering;
 
 #[derive(Clone, Copy)]
 pub enum Operation {
@@ -41,13 +41,13 @@ pub fn length(operation: Operation) -> usize
 }
 
 // An order as a word.
-fn place(order: Order) -> u64
+fn place(order: Ordering) -> u64
     ensures { result ≡ order_number order }
 {
     match order {
-        Order::Less => 0,
-        Order::Equal => 1,
-        Order::Greater => 2,
+        Ordering::Less => 0,
+        Ordering::Equal => 1,
+        Ordering::Greater => 2,
     }
 }
 
