@@ -8,7 +8,6 @@ use ieee754::abs::abs;
 use ieee754::cbrt::cbrt;
 use ieee754::copysign::copysign;
 use ieee754::is_finite::is_finite;
-use ieee754::literal::MIN_POSITIVE;
 use ieee754_parts::third::third;
 
 // The first guess: the exponent divided by three, by way of the bit pattern.
@@ -52,7 +51,7 @@ pub fn fast_cbrt(value: f64) -> f64
         return 0.0;
     }
     let magnitude = abs(value);
-    if !is_finite(magnitude) | (magnitude < MIN_POSITIVE) {
+    if !is_finite(magnitude) | (magnitude < f64::MIN_POSITIVE) {
         return cbrt(value);
     }
     cbrt_steps(value, magnitude)

@@ -4,7 +4,6 @@ ghost use Rattle.std.specs.Prelude.{◌≡◌};
 ghost use Rattle.depths.specs.RatioOf.{ratio_of};
 
 use ieee754::is_finite::is_finite;
-use ieee754::literal::EPSILON;
 use ieee754::max::max;
 use ieee754::sqrt::sqrt;
 
@@ -18,7 +17,7 @@ pub fn ratio_of(first: f64, second: f64) -> Ratio
     ensures { result ≡ (ratio_of first second).value }
 {
     let ratio_squared = -second / first;
-    let limit = -EPSILON * 64.0;
+    let limit = -f64::EPSILON * 64.0;
     if !is_finite(ratio_squared) | (ratio_squared < limit) {
         return Ratio::NotReal;
     }

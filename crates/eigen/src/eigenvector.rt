@@ -7,7 +7,6 @@ ghost use Rattle.eigen.specs.EigenvectorOf.{eigenvector_by_division, eigenvector
 use crate::row_crosses::{Eigenvector, eigenvector_from_row_crosses};
 use ieee754::abs::abs;
 use ieee754::is_finite::is_finite;
-use ieee754::literal::{EPSILON, MIN_POSITIVE};
 use ieee754::max::max;
 use ieee754::sqrt::sqrt;
 use linalg::matrix3::Matrix3;
@@ -74,7 +73,7 @@ pub fn eigenvector(m: Matrix3, p: Precomputed, eigenvalue: f64) -> Eigenvector
 {
     let denominator = eigen_denominator(m, p, eigenvalue);
     let scale = denominator_scale(m, p, eigenvalue);
-    let limit = 64.0 * EPSILON * max(scale, MIN_POSITIVE);
+    let limit = 64.0 * f64::EPSILON * max(scale, f64::MIN_POSITIVE);
     if (abs(denominator) <= limit) | !is_finite(denominator) {
         return eigenvector_from_row_crosses(m, eigenvalue);
     }

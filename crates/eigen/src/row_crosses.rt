@@ -4,7 +4,6 @@ ghost use Rattle.std.specs.Prelude.{◌≡◌};
 ghost use Rattle.eigen.specs.RowCrosses.{longer, unit_vector, eigenvector_from_row_crosses};
 
 use ieee754::is_finite::is_finite;
-use ieee754::literal::MIN_POSITIVE;
 use ieee754::total_cmp::total_cmp;
 use linalg::matrix3::Matrix3;
 use linalg::vector3::Vector3;
@@ -32,7 +31,7 @@ pub fn unit_vector(v: Vector3) -> Eigenvector
 {
     let norm = v.norm();
     let unit = v.div(norm);
-    if (norm > MIN_POSITIVE) & is_finite(norm) {
+    if (norm > f64::MIN_POSITIVE) & is_finite(norm) {
         return Eigenvector::Normalised(unit);
     }
     Eigenvector::Missing

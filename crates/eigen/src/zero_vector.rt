@@ -5,7 +5,6 @@ ghost use Rattle.eigen.specs.Eigenpairs.{has_vector};
 ghost use Rattle.eigen.specs.ZeroVector.{zero_direction, zero_vector};
 
 use crate::row_crosses::{Eigenvector, eigenvector_from_row_crosses};
-use ieee754::literal::EPSILON;
 use ieee754::sqrt::sqrt;
 use linalg::matrix3::Matrix3;
 use linalg::vector3::Vector3;
@@ -26,7 +25,7 @@ pub fn zero_vector(m: Matrix3) -> Eigenvector
     let direction = zero_direction(m);
     let zero_norm_squared = direction.norm_squared();
     let matrix_scale = m.norm_squared();
-    if zero_norm_squared <= 64.0 * EPSILON * matrix_scale * matrix_scale {
+    if zero_norm_squared <= 64.0 * f64::EPSILON * matrix_scale * matrix_scale {
         return eigenvector_from_row_crosses(m, 0.0);
     }
     Eigenvector::Normalised(direction.div(sqrt(zero_norm_squared)))
@@ -38,7 +37,7 @@ pub fn has_zero_vector(m: Matrix3) -> bool
 {
     let zero_norm_squared = zero_direction(m).norm_squared();
     let matrix_scale = m.norm_squared();
-    if zero_norm_squared <= 64.0 * EPSILON * matrix_scale * matrix_scale {
+    if zero_norm_squared <= 64.0 * f64::EPSILON * matrix_scale * matrix_scale {
         let Eigenvector::Normalised(_) = eigenvector_from_row_crosses(m, 0.0) else {
             return false;
         };

@@ -12,7 +12,6 @@ pub mod copysign;
 pub mod fma;
 pub mod fma_square;
 pub mod is_finite;
-pub mod literal;
 pub mod max;
 pub mod sqrt;
 pub mod total_cmp;

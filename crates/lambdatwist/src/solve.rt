@@ -15,7 +15,6 @@ use eigen::eigenpairs::{Eigenpairs, eigenpairs_with_known_zero};
 use frames::bearings::Bearings;
 use frames::pose::Pose;
 use frames::world::World;
-use ieee754::literal::EPSILON;
 use orderings::basis::basis_of;
 use orderings::cubic::{Coefficients, is_unusable};
 use orderings::measured::{Measured, measure, measured_cubic};
@@ -184,7 +183,7 @@ fn solve_best_conditioned_permutation(input: P3pInput, retries: u32) -> Answer
     ensures { result ≡ (Solve.solve_best_conditioned_permutation retries input).value }
 {
     let best = best_permutation(input);
-    if best.condition <= 64.0 * EPSILON {
+    if best.condition <= 64.0 * f64::EPSILON {
         return refused(2);
     }
     let world = best.world;

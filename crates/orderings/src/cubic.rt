@@ -8,7 +8,6 @@ use crate::angles::SquaredSines;
 use frames::squared_edges::SquaredEdges;
 use ieee754::abs::abs;
 use ieee754::is_finite::is_finite;
-use ieee754::literal::EPSILON;
 use ieee754::max::max;
 
 #[derive(Clone, Copy)]
@@ -51,5 +50,5 @@ pub fn is_unusable(c: Coefficients) -> bool
     ensures { result ≡ (is_unusable c).value }
 {
     let scale = coefficient_scale(c);
-    !is_finite(scale) | (abs(c.cubic3) <= scale * EPSILON * 64.0)
+    !is_finite(scale) | (abs(c.cubic3) <= scale * f64::EPSILON * 64.0)
 }

@@ -3,7 +3,6 @@
 ghost use Rattle.std.specs.Prelude.{◌≡◌};
 ghost use Rattle.p3p_common.specs.ProjectToRotation.{project_to_rotation};
 
-use ieee754::literal::EPSILON;
 use ieee754::sqrt::sqrt;
 use linalg::matrix3::Matrix3;
 
@@ -21,14 +20,14 @@ pub fn project_to_rotation(matrix: Matrix3) -> Projection
     }
     let first = matrix.column0();
     let first_norm = first.norm();
-    if first_norm <= sqrt(EPSILON) {
+    if first_norm <= sqrt(f64::EPSILON) {
         return Projection::Refused;
     }
     let first = first.div(first_norm);
     let column1 = matrix.column1();
     let second = column1.sub(first.mul(first.dot(column1)));
     let second_norm = second.norm();
-    if second_norm <= sqrt(EPSILON) {
+    if second_norm <= sqrt(f64::EPSILON) {
         return Projection::Refused;
     }
     let second = second.div(second_norm);

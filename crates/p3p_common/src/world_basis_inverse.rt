@@ -4,7 +4,6 @@ ghost use Rattle.std.specs.Prelude.{◌≡◌};
 ghost use Rattle.p3p_common.specs.WorldBasisInverse.{world_basis_inverse, dual_basis};
 
 use ieee754::is_finite::is_finite;
-use ieee754::literal::EPSILON;
 use ieee754::max::max;
 use linalg::matrix3::Matrix3;
 use linalg::vector3::Vector3;
@@ -39,7 +38,7 @@ pub fn world_basis_inverse(first_edge: Vector3, second_edge: Vector3) -> Basis
     let first_squared = first_edge.norm_squared();
     let second_squared = second_edge.norm_squared();
     let geometry_scale_squared = max(first_squared, second_squared);
-    let limit = 64.0 * EPSILON * geometry_scale_squared * geometry_scale_squared;
+    let limit = 64.0 * f64::EPSILON * geometry_scale_squared * geometry_scale_squared;
     if !is_finite(determinant) | (determinant <= limit) {
         return Basis::Singular;
     }

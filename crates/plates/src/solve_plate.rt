@@ -9,7 +9,6 @@ use crate::plate::Plate;
 use crate::targets::target_of;
 use frames::bearings::Bearings;
 use frames::squared_edges::SquaredEdges;
-use ieee754::literal::EPSILON;
 use lambdatwist::slots::held;
 use lambdatwist::solve::{Answer, if_kept, refused, solve_cubic};
 use linalg::matrix3::Matrix3;
@@ -72,7 +71,7 @@ fn solve_best_ordering(input: P3pInput, edges: SquaredEdges) -> Answer
 {
     let bearings = input.bearings;
     let best = best_ordering(edges, bearings);
-    if best.condition <= 64.0 * EPSILON {
+    if best.condition <= 64.0 * f64::EPSILON {
         return refused(2);
     }
     let measured = measure_ordering(input, edges, best.i, best.j, best.k);

@@ -9,7 +9,6 @@ use ieee754::abs::abs;
 use ieee754::copysign::copysign;
 use ieee754::fma_square::fma_square;
 use ieee754::is_finite::is_finite;
-use ieee754::literal::{EPSILON, MIN_POSITIVE};
 use ieee754::max::max;
 use ieee754::sqrt::sqrt;
 
@@ -30,7 +29,7 @@ fn quadratic_real_monic_computed(b: f64, c: f64, c_scale: f64) -> Roots
     }
     let discriminant = fma_square(b, -4.0 * c);
     let discriminant_scale = b * b + 4.0 * c_scale;
-    let tolerance = 32.0 * EPSILON * max(discriminant_scale, MIN_POSITIVE);
+    let tolerance = 32.0 * f64::EPSILON * max(discriminant_scale, f64::MIN_POSITIVE);
     if (discriminant < -tolerance) | !is_finite(discriminant) {
         return Roots::Refused(5);
     }
