@@ -1,5 +1,4 @@
-// Vectors and matrices of three doubles a side, by value, with nalgebra's orders of operations:
-// document 01, "Rounding and sums".
+//! Vectors and matrices of three doubles a side, by value, with nalgebra's orders of operations.
 #![tactic(auto)]
 
 pub mod matrix3;

@@ -1,9 +1,10 @@
-// nalgebra's Matrix3<f64>, by its entries, the row first: the operations that the solver uses.
+//! nalgebra's Matrix3<f64>, by its entries, the row first: the operations that the solver uses.
 ghost use Rattle.std.specs.Prelude.{◌≡◌};
 ghost use Rattle.linalg.specs.Matrices.{from_columns, from_rows, column0, column1, column2};
 ghost use Rattle.linalg.specs.Matrices.{mat_vec, mat_mul, mat_norm_squared, trace, mat_finite};
 
 use crate::vector3::Vector3;
+use std::ops::Mul;
 
 #[derive(Clone, Copy)]
 pub struct Matrix3 {
@@ -19,6 +20,7 @@ pub struct Matrix3 {
 }
 
 impl Matrix3 {
+    #[tactic(auto, unfolding(crate::specs::Matrices::from_columns))]
     pub fn from_columns(c0: Vector3, c1: Vector3, c2: Vector3) -> Self
         ensures { result ≡ from_columns c0 c1 c2 }
     {
@@ -35,6 +37,7 @@ impl Matrix3 {
         }
     }
 
+    #[tactic(auto, unfolding(crate::specs::Matrices::from_rows))]
     pub fn from_rows(r0: Vector3, r1: Vector3, r2: Vector3) -> Self
         ensures { result ≡ from_rows r0 r1 r2 }
     {
@@ -81,49 +84,58 @@ impl Matrix3 {
         }
     }
 
-    // self * v
-    pub fn mul_vector(self, v: Vector3) -> Vector3
-        ensures { result ≡ (mat_vec self v).value }
-    {
-        Vector3 {
-            x: self.m00 * v.x + self.m01 * v.y + self.m02 * v.z,
-            y: self.m10 * v.x + self.m11 * v.y + self.m12 * v.z,
-            z: self.m20 * v.x + self.m21 * v.y + self.m22 * v.z,
-        }
-    }
-
-    // self * other, a column of `other` at a time
-    pub fn mul(self, other: Matrix3) -> Matrix3
-        ensures { result ≡ (mat_mul self other).value }
-    {
-        let c0 = self.mul_vector(other.column0());
-        let c1 = self.mul_vector(other.column1());
-        let c2 = self.mul_vector(other.column2());
-        Matrix3::from_columns(c0, c1, c2)
-    }
-
+    #[tactic(auto, unfolding(crate::specs::Matrices::mat_norm_squared))]
     pub fn norm_squared(self) -> f64
         ensures { result ≡ (mat_norm_squared self).value }
     {
-        let s0 = self.column0().norm_squared();
-        let s1 = self.column1().norm_squared();
-        let s2 = self.column2().norm_squared();
-        s0 + s1 + s2
+        self.column0().norm_squared()
+            + self.column1().norm_squared()
+            + self.column2().norm_squared()
     }
 
+    #[tactic(auto, unfolding(crate::specs::Matrices::trace))]
     pub fn trace(self) -> f64
         ensures { result ≡ (trace self).value }
     {
         0.0 + self.m00 + self.m11 + self.m22
     }
 
-    // self.iter().all(|value| value.is_finite())
+    /// `self.iter().all(|value| value.is_finite())`
+    #[tactic(auto, unfolding(crate::specs::Matrices::mat_finite))]
     pub fn all_finite(self) -> bool
         ensures { result ≡ mat_finite self }
     {
-        let c0 = self.column0().all_finite();
-        let c1 = self.column1().all_finite();
-        let c2 = self.column2().all_finite();
-        c0 & c1 & c2
+        self.column0().all_finite() & self.column1().all_finite() & self.column2().all_finite()
+    }
+}
+
+/// `self * v`
+impl Mul<Vector3> for Matrix3 {
+    type Output = Vector3;
+
+    ghost mul_gives = { λ m v r. r ≡ (mat_vec m v).value };
+
+    #[tactic(auto, unfolding(crate::specs::Matrices::mat_vec))]
+    fn mul(self, v: Vector3) -> Vector3 {
+        Vector3 {
+            x: self.m00 * v.x + self.m01 * v.y + self.m02 * v.z,
+            y: self.m10 * v.x + self.m11 * v.y + self.m12 * v.z,
+            z: self.m20 * v.x + self.m21 * v.y + self.m22 * v.z,
+        }
+    }
+}
+
+/// `self * other`, a column of `other` at a time
+impl Mul for Matrix3 {
+    type Output = Matrix3;
+
+    ghost mul_gives = { λ a b r. r ≡ (mat_mul a b).value };
+
+    #[tactic(auto, unfolding(crate::specs::Matrices::mat_mul))]
+    fn mul(self, other: Matrix3) -> Matrix3 {
+        let c0 = self * other.column0();
+        let c1 = self * other.column1();
+        let c2 = self * other.column2();
+        Matrix3::from_columns(c0, c1, c2)
     }
 }
