@@ -17,6 +17,6 @@ pub fn choose_about(
 ) -> Choice
     ensures { result ≡ (choose_about poses count origin target bearing).value }
 {
-    let moved = target.sub(origin);
+    let moved = target - origin;
     choose(poses, count, moved, bearing)
 }

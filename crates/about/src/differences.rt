@@ -12,8 +12,8 @@ pub fn differences(world: World) -> World
     let p1 = world.p1;
     let p2 = world.p2;
     World {
-        p0: p0.sub(p0),
-        p1: p1.sub(p0),
-        p2: p2.sub(p0),
+        p0: p0 - p0,
+        p1: p1 - p0,
+        p2: p2 - p0,
     }
 }

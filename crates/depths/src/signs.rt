@@ -25,7 +25,7 @@ pub fn sign_turn(
         column1 eigenvectors ≡ second_column →
         pushed_both found result ≡ (sign_turn squares factors eigenvectors sign found).value }
 {
-    let null_vector = first_column.sub(second_column.mul(sign));
+    let null_vector = first_column - second_column * sign;
     chart(squares, factors, null_vector)
 }
 

@@ -30,7 +30,7 @@ pub fn unit_vector(v: Vector3) -> Eigenvector
     ensures { result ≡ (unit_vector v).value }
 {
     let norm = v.norm();
-    let unit = v.div(norm);
+    let unit = v / norm;
     if (norm > f64::MIN_POSITIVE) & is_finite(norm) {
         return Eigenvector::Normalised(unit);
     }

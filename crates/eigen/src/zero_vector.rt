@@ -28,7 +28,7 @@ pub fn zero_vector(m: Matrix3) -> Eigenvector
     if zero_norm_squared <= 64.0 * f64::EPSILON * matrix_scale * matrix_scale {
         return eigenvector_from_row_crosses(m, 0.0);
     }
-    Eigenvector::Normalised(direction.div(sqrt(zero_norm_squared)))
+    Eigenvector::Normalised(direction / sqrt(zero_norm_squared))
 }
 
 // Whether there is a zero vector: zero_vector's test, without the square root and the division.

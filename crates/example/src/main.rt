@@ -20,7 +20,7 @@ fn point(x: f64, y: f64, z: f64) -> Vector3 {
 // The bearing at which a camera point is seen: a vector of length 1.
 fn seen(x: f64, y: f64, z: f64) -> Vector3 {
     let camera = Vector3 { x, y, z };
-    camera.div(camera.norm())
+    camera / camera.norm()
 }
 
 // The pose at a place, which counts from 1. (An index would have to be proved to be below four.)

@@ -28,8 +28,6 @@ impl Pose {
     pub fn camera_point(self, world: Vector3) -> Vector3
         ensures { result ≡ (camera_point self world).value }
     {
-        let rotation = self.rotation;
-        let translation = self.translation;
-        rotation.mul_vector(world).add(translation)
+        self.rotation * world + self.translation
     }
 }

@@ -36,11 +36,11 @@ pub fn gated_depths(
 {
     let bearings = measured.bearings;
     let depths = refined.depths;
-    let camera0 = bearings.f0.mul(depths.x);
-    let camera1 = bearings.f1.mul(depths.y);
-    let camera2 = bearings.f2.mul(depths.z);
-    let rotation = rotation_from_edges(camera0.sub(camera1), camera0.sub(camera2), world_inverse);
-    let translation = camera0.sub(rotation.mul_vector(measured.p0));
+    let camera0 = bearings.f0 * depths.x;
+    let camera1 = bearings.f1 * depths.y;
+    let camera2 = bearings.f2 * depths.z;
+    let rotation = rotation_from_edges(camera0 - camera1, camera0 - camera2, world_inverse);
+    let translation = camera0 - rotation * measured.p0;
     gate(input, rotation, translation)
 }
 

@@ -20,9 +20,9 @@ pub fn edge_vectors(world: World) -> EdgeVectors
     let p0 = world.p0;
     let p1 = world.p1;
     let p2 = world.p2;
-    let d01 = p0.sub(p1);
-    let d02 = p0.sub(p2);
-    let d12 = p1.sub(p2);
+    let d01 = p0 - p1;
+    let d02 = p0 - p2;
+    let d12 = p1 - p2;
     EdgeVectors { d01, d02, d12 }
 }
 

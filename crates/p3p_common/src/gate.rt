@@ -35,7 +35,7 @@ pub fn projected_gate(input: P3pInput, raw_rotation: Matrix3, translation: Vecto
         translation,
     };
     let camera0 = raw.camera_point(p0);
-    let kept = camera0.sub(rotation.mul_vector(p0));
+    let kept = camera0 - rotation * p0;
     let pose = Pose {
         rotation,
         translation: kept,

@@ -23,14 +23,14 @@ pub fn project_to_rotation(matrix: Matrix3) -> Projection
     if first_norm <= sqrt(f64::EPSILON) {
         return Projection::Refused;
     }
-    let first = first.div(first_norm);
+    let first = first / first_norm;
     let column1 = matrix.column1();
-    let second = column1.sub(first.mul(first.dot(column1)));
+    let second = column1 - first * first.dot(column1);
     let second_norm = second.norm();
     if second_norm <= sqrt(f64::EPSILON) {
         return Projection::Refused;
     }
-    let second = second.div(second_norm);
+    let second = second / second_norm;
     let third = first.cross(second);
     Projection::Rotation(Matrix3::from_columns(first, second, third))
 }

@@ -16,5 +16,5 @@ pub fn rotation_from_edges(
         world_basis_inverse).value }
 {
     let normal = first_camera_edge.cross(second_camera_edge);
-    Matrix3::from_columns(first_camera_edge, second_camera_edge, normal).mul(world_basis_inverse)
+    Matrix3::from_columns(first_camera_edge, second_camera_edge, normal) * world_basis_inverse
 }

@@ -24,9 +24,9 @@ pub fn dual_basis(
     ensures { result ≡ (dual_basis first_edge second_edge normal determinant).value }
 {
     let inverse_determinant = 1.0 / determinant;
-    let dual_first = second_edge.cross(normal).mul(inverse_determinant);
-    let dual_second = normal.cross(first_edge).mul(inverse_determinant);
-    let dual_normal = normal.mul(inverse_determinant);
+    let dual_first = second_edge.cross(normal) * inverse_determinant;
+    let dual_second = normal.cross(first_edge) * inverse_determinant;
+    let dual_normal = normal * inverse_determinant;
     Matrix3::from_rows(dual_first, dual_second, dual_normal)
 }
 

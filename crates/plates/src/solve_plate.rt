@@ -46,8 +46,8 @@ fn measure_ordering(input: P3pInput, edges: SquaredEdges, i: u32, j: u32, k: u32
     let p0 = target_of(world, i);
     let p1 = target_of(world, j);
     let p2 = target_of(world, k);
-    let d01 = p0.sub(p1);
-    let d02 = p0.sub(p2);
+    let d01 = p0 - p1;
+    let d02 = p0 - p2;
     let squares = ordered_edges(edges, i, j, k);
     let rays = ordered_rays(bearings, i, j, k);
     measure_with(p0, Source::Made(d01, d02), squares, rays)
