@@ -1,5 +1,5 @@
--- Demand 1 of the mission for the choice, as specs/OneAnswer.antt states it, by induction over the
--- poses: what holds of the poses passed so far holds with one more (`with-one`). Assumes nothing.
+-- That the choice gives one answer, as specs/OneAnswer.antt states it, by induction over the poses:
+-- what holds of the poses passed so far holds with one more (`with-one`). Assumes nothing.
 use mathlib.Core.Path.{◌≡◌, refl, sym, ap, ◌∙◌, subst}
 use mathlib.Core.Bool.{not}
 use mathlib.Core.List.{List, [], ◌∷◌, ◌++◌, append-nil, append_assoc}
@@ -19,7 +19,7 @@ use Rattle.choice.specs.Choose.{lower, better, choose_among, choose}
 use Rattle.choice.specs.OneAnswer.{Each, stated, depth, squared_tangent}
 use Rattle.choice.specs.OneAnswer.{HasFiniteScore, NoFiniteScore, Above, NotBelow, Lowest}
 use Rattle.choice.specs.OneAnswer.{OneAnswer, refused-10, chosen}
-use Rattle.choice.specs.Types.{Vector3, Pose, Scored, Choice, Best, Refused}
+use Rattle.choice.specs.Types.{Vector3, Pose, Best, Option, Some, None}
 
 -- ---- what holds of each
 pub each-also : (P Q : Pose → Type 0)
@@ -36,7 +36,7 @@ each_append P (x ∷ xs) ys h k = (h.0, each_append P xs ys h.1 k)
 
 module _ (target bearing : Vector3) where
   -- ---- a pose has a finite score, which is taken up, or it has none
-  scored-either : (P : Choice → Type 0) (pose : Pose) (best : Choice) (place : ℕ)
+  scored-either : (P : Option Best → Type 0) (pose : Pose) (best : Option Best) (place : ℕ)
       → ((x : Float) → HasFiniteScore target bearing pose x → P (lower best place x))
       → (NoFiniteScore target bearing pose → P best)
       → P (better best place (score pose target bearing).value)
@@ -49,16 +49,16 @@ module _ (target bearing : Vector3) where
       let not_finite : T (not (finite x)) → NoFiniteScore target bearing pose =
       λ n y h. T_not (finite x) n (subst (λ (z : Float). T (finite z)) h.score-is
       h.score-finite) in
-      either_way (λ (s : Traced Scored). P (better best place s.value)) ahead
+      either_way (λ (s : Traced (Option Float)). P (better best place s.value)) ahead
       (λ a. either_way P (finite x)
       (λ X. f x (record { in-front = a; score-is = refl; score-finite = X }))
       (λ n. g (not_finite n)))
       (λ n. g (not-ahead n))
 
   -- ---- the choice among the poses passed so far
-  abbrev Among : List Pose → Choice → Type 0
-  Among passed (Refused n) = (n ≡ 10) × Each (NoFiniteScore target bearing) passed
-  Among passed (Best at value) = Lowest target bearing passed at value
+  abbrev Among : List Pose → Option Best → Type 0
+  Among passed None = Each (NoFiniteScore target bearing) passed
+  Among passed (Some best) = Lowest target bearing passed best.place best.score
 
   module _ (passed : List Pose) (pose : Pose) where
     abbrev more : List Pose
@@ -124,29 +124,29 @@ module _ (target bearing : Vector3) where
         (best, after))
 
     -- with a finite score, from the choice so far
-    with-score : (best : Choice) (x : Float)
+    with-score : (best : Option Best) (x : Float)
         → HasFiniteScore target bearing pose x
         → Among passed best
         → Among more (lower best (length passed + 1) x)
     unfolding lower
-    with-score (Refused n) x s h =
+    with-score None x s h =
         takes x s
         (each-also (NoFiniteScore target bearing) (Above target bearing x)
-        (λ _ none y t. absurd (none y t)) passed h.1)
-    with-score (Best at lowest) x s w =
-        either_way (Among more) (lt x lowest) (λ l. takes x s (below_each x s.score-finite w l))
+        (λ _ none y t. absurd (none y t)) passed h)
+    with-score (Some held) x s w =
+        either_way (Among more) (lt x held.score) (λ l. takes x s (below_each x s.score-finite w l))
         (λ n. stays w (λ y t.
-        subst (λ (z : Float). T (not (lt z lowest))) (s.score-is ∙ sym t.score-is) n))
+        subst (λ (z : Float). T (not (lt z held.score))) (s.score-is ∙ sym t.score-is) n))
 
-    without : (best : Choice)
+    without : (best : Option Best)
         → NoFiniteScore target bearing pose
         → Among passed best
         → Among more best
-    without (Refused n) none h =
-        (h.0, each_append (NoFiniteScore target bearing) passed (pose ∷ []) h.1 (none, tt))
-    without (Best at lowest) none w = stays w (λ y t. absurd (none y t))
+    without None none h =
+        each_append (NoFiniteScore target bearing) passed (pose ∷ []) h (none, tt)
+    without (Some held) none w = stays w (λ y t. absurd (none y t))
 
-    with-one : (best : Choice)
+    with-one : (best : Option Best)
         → Among passed best
         → Among more (better best (length passed + 1) (score pose target bearing).value)
     with-one best h =
@@ -154,7 +154,7 @@ module _ (target bearing : Vector3) where
         (λ none. without best none h)
 
   -- ---- all poses
-  with_all : (poses passed : List Pose) (best : Choice)
+  with_all : (poses passed : List Pose) (best : Option Best)
       → Among passed best
       → Among (passed ++ poses) (choose_among poses (length passed) target bearing best).value
   unfolding choose_among
@@ -167,11 +167,11 @@ module _ (target bearing : Vector3) where
       rw (append_assoc passed (pose ∷ []) poses, longer) at rest
 
   -- what held of all the poses, of the answer's number, place and score
-  concluded : (poses : List Pose) (count : ℕ) (answer : Choice)
+  concluded : (poses : List Pose) (count : ℕ) (answer : Option Best)
       → Among (stated poses count) answer
       → OneAnswer target bearing poses count answer
-  concluded poses count (Refused n) h = refused-10 h.1 h.0 refl refl
-  concluded poses count (Best at value) w =
+  concluded poses count None h = refused-10 h refl refl refl
+  concluded poses count (Some best) w =
       let n = min count 4 in
       let among : length w.before + length (w.best ∷ w.after) ≡ min n (length poses) =
       sym (length-append w.before (w.best ∷ w.after))
@@ -180,10 +180,10 @@ module _ (target bearing : Vector3) where
       let place = w.place_is in
       let l = min-le_left n (length poses) in
       let r = min-le_right n (length poses) in
-      chosen value w refl (omega arith) (omega arith) (omega arith) refl
+      chosen best.score w refl (omega arith) (omega arith) (omega arith) refl
 
   pub one_answer : (poses : List Pose) (count : ℕ)
       → OneAnswer target bearing poses count (choose poses count target bearing).value
   unfolding choose
   one_answer poses count =
-      concluded poses count _ (with_all (take (min count 4) poses) [] (Refused 10) (refl, tt))
+      concluded poses count _ (with_all (take (min count 4) poses) [] None tt)

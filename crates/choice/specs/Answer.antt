@@ -1,22 +1,22 @@
--- What `Choice` stands for: the place of a pose with its score, or document 01's number 10.
+-- What a choice stands for: the place of a pose with its score, or number 10.
 use Rattle.std.specs.Prelude.{ℕ, List, [], ◌∷◌, Float}
-use Rattle.choice.specs.Types.{Choice, Best, Refused}
+use Rattle.choice.specs.Types.{Best, Option, Some, None}
 
 -- a choice's number, 0 where nothing is refused
-abbrev pub number : Choice → ℕ
-number (Best place value) = 0
-number (Refused n) = n
+abbrev pub number : Option Best → ℕ
+number (Some best) = 0
+number None = 10
 
 -- the place of the chosen pose, from 1, and 0 where there is none
-abbrev pub place : Choice → ℕ
-place (Best at value) = at
-place (Refused n) = 0
+abbrev pub place : Option Best → ℕ
+place (Some best) = best.place
+place None = 0
 
 -- the score of the chosen pose; a refusal has none
-abbrev pub values : Choice → List Float
-values (Best at value) = value ∷ []
-values (Refused n) = []
+abbrev pub values : Option Best → List Float
+values (Some best) = best.score ∷ []
+values None = []
 
 -- no pose has a finite score
-abbrev pub no_score : Choice
-no_score = Refused 10
+abbrev pub no_score : Option Best
+no_score = None

@@ -1,27 +1,27 @@
--- The choice of one pose. From document 01, module 8: lowest finite score wins, the earlier pose on
--- a tie, as `best_by` of pose/p3p/common.rs does. No score is minus zero, so the order of numbers
--- is that of `total_cmp`. A pose without a score is passed over: document 02, §2.
+-- The choice of one pose: the lowest finite score wins, the earlier pose on a tie, as `best_by` of
+-- pose/p3p/common.rs does. No score is minus zero, so the order of numbers is that of `total_cmp`. A
+-- pose without a score is passed over.
 use Rattle.std.specs.Prelude.{ℕ, ◌+◌, min, List, [], ◌∷◌, take, Float, if◌then◌else◌}
 use Rattle.std.specs.Float.Ieee.{lt}
 use Rattle.std.specs.Float.Ieee.Scale.{finite}
 use Rattle.ieee754.specs.Traced.{Traced, pure, ◌>>=◌}
 use Rattle.choice.specs.Answer.{no_score}
 use Rattle.choice.specs.Score.{score}
-use Rattle.choice.specs.Types.{Vector3, Pose, Scored, Score, Behind, Choice, Best, Refused}
+use Rattle.choice.specs.Types.{Vector3, Pose, Best, Option, Some, None}
 
 -- a finite score beside the choice so far: the lower one, and the earlier on a tie
-unfoldable pub lower : Choice → ℕ → Float → Choice
-lower (Refused number) place value = Best place value
-lower (Best held lowest) place value =
-    if lt value lowest then Best place value else Best held lowest
+unfoldable pub lower : Option Best → ℕ → Float → Option Best
+lower None place value = Some (record { place = place; score = value })
+lower (Some held) place value =
+    if lt value held.score then Some (record { place = place; score = value }) else Some held
 
 -- the choice so far with the pose at a place, from 1
-unfoldable pub better : Choice → ℕ → Scored → Choice
-better best place Behind = best
-better best place (Score value) = if finite value then lower best place value else best
+unfoldable pub better : Option Best → ℕ → Option Float → Option Best
+better best place None = best
+better best place (Some value) = if finite value then lower best place value else best
 
 -- the choice so far with a list of poses, the first of which comes after `passed` others
-unfoldable pub choose_among : List Pose → ℕ → Vector3 → Vector3 → Choice → Traced Choice
+unfoldable pub choose_among : List Pose → ℕ → Vector3 → Vector3 → Option Best → Traced (Option Best)
 choose_among [] passed target bearing best = pure best
 choose_among (pose ∷ poses) passed target bearing best = do
   scored ← score pose target bearing
@@ -29,5 +29,5 @@ choose_among (pose ∷ poses) passed target bearing best = do
 
 -- A stated pose count above 4 is read as 4. Has any pose a finite score? If no (also for an empty
 -- list, or where all poses lie behind): 10.
-unfoldable pub choose : List Pose → ℕ → Vector3 → Vector3 → Traced Choice
+unfoldable pub choose : List Pose → ℕ → Vector3 → Vector3 → Traced (Option Best)
 choose poses count target bearing = choose_among (take (min count 4) poses) 0 target bearing no_score

@@ -1,7 +1,6 @@
--- Demand 1 of the mission, for the choice: it answers with the place of the lowest finite score,
--- the earlier on a tie, or with 10 exactly where no pose has one. From document 01, "Questions, in
--- order" and module 8, and document 02, §2. What a finite score is stands here apart from the
--- definition `score`. That it holds of every input is `one_answer` in the proofs.
+-- The choice gives one answer: the place of the lowest finite score, the earlier on a tie, or 10
+-- exactly where no pose has one. What a finite score is stands here apart from the definition
+-- `score`. That it holds of every input is `one_answer` in the proofs.
 use Rattle.std.specs.Prelude.{◌≡◌, not, List, [], ◌∷◌, ◌++◌, ℕ, ◌+◌, ◌≤◌, min, T, Float, length, take}
 use Rattle.std.specs.Float.{binary64}
 use Rattle.std.specs.Float.Ieee.{lt, mul, div}
@@ -10,7 +9,7 @@ use Rattle.ieee754.specs.Literal.{plus_zero}
 use Rattle.linalg.specs.Vectors.{dot, norm_squared, cross}
 use Rattle.frames.specs.Poses.{camera_point}
 use Rattle.choice.specs.Answer.{number, place, values}
-use Rattle.choice.specs.Types.{Vector3, Pose, Choice}
+use Rattle.choice.specs.Types.{Vector3, Pose, Best, Option}
 
 -- what holds of each pose
 abbrev pub Each : (Pose → Type 0) → List Pose → Type 0
@@ -70,7 +69,7 @@ module _ (target bearing : Vector3) where
   -- ---- number 10, with no place and no score, where no pose has a finite score, and only there;
   --      otherwise the place of the lowest, which is one of the poses and at most four, and that
   --      score
-  pub data OneAnswer (poses : List Pose) (count : ℕ) (answer : Choice) : Type 0 where
+  pub data OneAnswer (poses : List Pose) (count : ℕ) (answer : Option Best) : Type 0 where
     refused-10 : Each NoFiniteScore (stated poses count)
         → number answer ≡ 10
         → place answer ≡ 0

@@ -1,60 +1,68 @@
-// The pose with the lowest finite score, the earlier one on a tie: best_by of pose/p3p/common.rs
-// with document 01's score, which document 02, §2, gives only where the target lies before the
-// camera.
+//! The pose with the lowest finite score, the earlier one on a tie: best_by of pose/p3p/common.rs,
+//! with a score only where the target lies before the camera.
 ghost use Rattle.std.specs.Prelude.{◌≡◌};
+ghost use Rattle.choice.specs.Answer as Answer;
 ghost use Rattle.choice.specs.Choose as Choose;
 
 use crate::count::at_most_four;
-use crate::score::{Scored, score};
+use crate::score::score;
 use frames::pose::Pose;
 use ieee754::is_finite::is_finite;
 use linalg::vector3::Vector3;
 
+/// The chosen pose.
 #[derive(Clone, Copy)]
-pub enum Choice {
-    // The place of the chosen pose, from 1, and its score.
-    Best(u32, f64),
-    // 10: no pose has a finite score.
-    Refused(u32),
+pub struct Best {
+    /// Its place, from 1.
+    pub place: u32,
+    pub score: f64,
 }
 
-// A finite score beside the choice so far: the lower one, and the earlier on a tie.
-pub fn lower(best: Choice, place: u32, value: f64) -> Choice
+/// The refusal number of a choice: 10 where no pose has a finite score, and 0 where one is chosen.
+pub fn number(choice: Option<Best>) -> u32
+    ensures { result ≡ Answer.number choice }
+{
+    match choice {
+        Some(_) => 0,
+        None => 10,
+    }
+}
+
+/// A finite score beside the choice so far: the lower one, and the earlier on a tie.
+#[tactic(auto, unfolding(crate::specs::Choose::lower))]
+pub fn lower(best: Option<Best>, place: u32, value: f64) -> Option<Best>
     ensures { result ≡ Choose.lower best place value }
 {
-    let Choice::Best(_, lowest) = best else {
-        return Choice::Best(place, value);
+    let next = Best {
+        place,
+        score: value,
     };
-    if value < lowest {
-        return Choice::Best(place, value);
+    match best {
+        None => Some(next),
+        Some(held) => Some(if value < held.score { next } else { held }),
     }
-    best
 }
 
-// The choice so far with one pose more, which takes it where its score is finite and the lowest.
-pub fn better(best: Choice, place: u32, scored: Scored) -> Choice
+/// The choice so far with one pose more, which takes it where its score is finite and the lowest.
+#[tactic(auto, unfolding(crate::specs::Choose::better))]
+pub fn better(best: Option<Best>, place: u32, scored: Option<f64>) -> Option<Best>
     ensures { result ≡ Choose.better best place scored }
 {
-    let Scored::Score(value) = scored else {
-        return best;
-    };
-    if is_finite(value) {
-        return lower(best, place, value);
+    match scored {
+        Some(value) if is_finite(value) => lower(best, place, value),
+        _ => best,
     }
-    best
 }
 
-// The choice among the first `count` poses.
-pub fn choose(poses: [Pose; 4], count: u32, target: Vector3, bearing: Vector3) -> Choice
+/// The choice among the first `count` poses, and `None` where none of them has a finite score.
+#[tactic(auto, using(crate::proofs::Turns::turn), unfolding(crate::specs::Choose::choose, crate::specs::Choose::choose_among))]
+pub fn choose(poses: [Pose; 4], count: u32, target: Vector3, bearing: Vector3) -> Option<Best>
     ensures { result ≡ (Choose.choose poses count target bearing).value }
 {
-    let n = at_most_four(count);
-    let mut best = Choice::Refused(10);
-    let mut at: u32 = 0;
-    while at < n {
-        let scored = score(poses[at as usize], target, bearing);
-        best = better(best, at + 1, scored);
-        at += 1;
+    let n = at_most_four(count) as usize;
+    let mut best = None;
+    for (at, pose) in poses[..n].iter().enumerate() {
+        best = better(best, at as u32 + 1, score(*pose, target, bearing));
     }
     best
 }

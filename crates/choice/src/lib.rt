@@ -1,4 +1,4 @@
-// The choice of one pose by a fourth target: document 01, module 8, and document 02, §2.
+//! The choice of one pose by a fourth target, which is to lie before the camera.
 #![tactic(auto)]
 
 pub mod choose;
