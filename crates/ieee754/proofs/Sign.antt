@@ -1,13 +1,13 @@
 -- The sign of a value and of its bit pattern: a pattern with another's bit for the sign stands for
 -- the value with that one's sign (`copysign-bits`), and the bit is the value's sign
--- (`negative-bits`). Assumes nothing.
-use Prim.Native.Nat.{ℕ, zero, suc, ◌+◌, ◌-◌, ◌*◌, ◌/◌, ◌%◌}
+-- (`negative-bits`). And what the test for NaN finds is it (`nan_is`). Assumes nothing.
+use Prim.Native.Nat.{ℕ, zero, suc, ◌+◌, ◌*◌, ◌/◌, ◌%◌}
 use mathlib.Core.Path.{◌≡◌, refl, sym, ap, ap₂, ◌∙◌, subst}
-use mathlib.Core.Bool.{Bool, true, false, not, cond}
+use mathlib.Core.Bool.{Bool, true, false, not, cond, false≢true}
 use native.Mathlib.Nat.{mod-mod, mod-mod_of_dvd, dvd-mul_right}
 use native.Mathlib.Nat.{add-mul-mod_self_right}
 use lib.Dec.{T, leb, eqb}
-use lib.Ieee.{Float, nan, inf, Format, prec, low, hid, ones, top, odd, of_fields, of_bits, to_bits}
+use lib.Ieee.{Float, nan, inf, fin, Format, prec, low, hid, ones, top, odd, of_fields, of_bits, to_bits}
 use lib.Ieee.{is_nan, fits}
 use lib.Ieee.Bits.{of_bits-to_bits}
 use Rattle.ieee754.specs.CopySign.{negative, copysign}
@@ -84,3 +84,10 @@ negative-bits f x h n =
     sym (negative-fields f (leb (top f) b) (b % top f / hid f) (b % hid f)
     (subst (λ (y : Float). T (not (is_nan y))) (sym e) n))
     ∙ ap negative e
+
+-- ---- the one NaN
+pub nan_is : (x : Float) → is_nan x ≡ true → x ≡ nan
+unfolding is_nan
+nan_is nan h = refl
+nan_is (inf s) h = absurd (false≢true h)
+nan_is (fin s m e) h = absurd (false≢true h)

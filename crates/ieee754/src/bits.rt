@@ -13,7 +13,7 @@ pub fn from_bits(pattern: u64) -> f64
 {
     let magnitude = pattern % SIGN;
     if INFINITY < magnitude {
-        return 0.0 / 0.0;
+        return f64::NAN;
     }
     f64::from_bits(pattern)
 }
@@ -21,8 +21,5 @@ pub fn from_bits(pattern: u64) -> f64
 pub fn to_bits(x: f64) -> u64
     ensures { result ≡ to_bits binary64 x }
 {
-    if x != x {
-        return NAN;
-    }
-    f64::to_bits(x)
+    if x.is_nan() { NAN } else { x.to_bits() }
 }

@@ -3,6 +3,7 @@ ghost use Rattle.std.specs.Prelude.{◌≡◌};
 ghost use Rattle.ieee754.specs.Clamp as Clamp;
 
 // The larger of x and low.
+#[tactic(auto, unfolding(crate::specs::Clamp::raised))]
 fn raised(x: f64, low: f64) -> f64
     ensures { result ≡ Clamp.raised x low }
 {
@@ -10,6 +11,7 @@ fn raised(x: f64, low: f64) -> f64
 }
 
 // x, moved to the nearest end of the range from low to high where it is outside. A NaN stays.
+#[tactic(auto, unfolding(crate::specs::Clamp::clamp))]
 pub fn clamp(x: f64, low: f64, high: f64) -> f64
     ensures { result ≡ Clamp.clamp x low high }
 {

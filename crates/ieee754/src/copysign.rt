@@ -8,10 +8,11 @@ use ieee754_parts::format::SIGN;
 pub fn negative(y: f64) -> bool
     ensures { result ≡ CopySign.negative y }
 {
-    if y != y {
-        return false;
+    if y.is_nan() {
+        false
+    } else {
+        SIGN <= y.to_bits()
     }
-    SIGN <= f64::to_bits(y)
 }
 
 // The magnitude of x with the sign of y, by their patterns: a choice between the two signs would be
@@ -19,12 +20,12 @@ pub fn negative(y: f64) -> bool
 pub fn copysign(x: f64, y: f64) -> f64
     ensures { result ≡ CopySign.copysign x y }
 {
-    if x != x {
+    if x.is_nan() {
         return x;
     }
-    let magnitude = f64::to_bits(x) % SIGN;
-    if y != y {
+    let magnitude = x.to_bits() % SIGN;
+    if y.is_nan() {
         return f64::from_bits(magnitude);
     }
-    f64::from_bits(magnitude + f64::to_bits(y) / SIGN * SIGN)
+    f64::from_bits(magnitude + y.to_bits() / SIGN * SIGN)
 }

@@ -19,10 +19,10 @@ pub fn max(x: f64, y: f64) -> f64
     if (x < y) | (y < x) {
         return larger(x, y);
     }
-    if x != x {
+    if x.is_nan() {
         return y;
     }
-    if y != y {
+    if y.is_nan() {
         return x;
     }
     if negative(x) { y } else { x }
