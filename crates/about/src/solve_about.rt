@@ -5,10 +5,10 @@ ghost use Rattle.about.specs.SolveAbout as SolveAbout;
 
 use crate::differences::differences;
 use frames::bearings::Bearings;
-use frames::world::{World, world_finite};
+use frames::world::World;
 use lambdatwist::solve::{Answer, refused, solve};
 use linalg::vector3::Vector3;
-use p3p_common::input::{P3pInput, input_finite};
+use p3p_common::input::P3pInput;
 
 // The poses of `answer` take x - origin to the camera. `origin` is the first world point as it was
 // given, and plus zeros where the answer is refused.
@@ -24,11 +24,11 @@ pub fn answer_about(world: World, bearings: Bearings) -> Answer
     ensures { result ≡ (SolveAbout.answer_about world bearings).value }
 {
     let input = P3pInput { world, bearings };
-    if !input_finite(input) {
+    if !input.is_finite() {
         return refused(1);
     }
     let moved = differences(world);
-    if !world_finite(moved) {
+    if !moved.is_finite() {
         return refused(1);
     }
     solve(moved, bearings)

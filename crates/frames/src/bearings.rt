@@ -1,4 +1,4 @@
-// The bearings at which the camera sees the three targets.
+//! The bearings at which the camera sees the three targets.
 use linalg::vector3::Vector3;
 
 #[derive(Clone, Copy)]

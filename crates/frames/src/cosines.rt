@@ -1,4 +1,4 @@
-// The cosines of the angles between three bearings, by the bearings that each lies between.
+//! The cosines of the angles between three bearings, by the bearings that each lies between.
 #[derive(Clone, Copy)]
 pub struct Cosines {
     pub m01: f64,

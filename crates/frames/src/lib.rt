@@ -1,6 +1,6 @@
-// What a frame consists of, and how it is read from lent doubles: world points, bearings, the
-// squared edges and cosines that the solver takes of them, a pose, and a stored frame with its
-// checking target.
+//! What a frame consists of, and how it is read from lent doubles: world points, bearings, the
+//! squared edges and cosines that the solver takes of them, a pose, and a stored frame with its
+//! checking target.
 #![tactic(auto)]
 
 pub mod bearings;

@@ -1,4 +1,4 @@
-// The squared lengths of the edges between three world points, by the points that each joins.
+//! The squared lengths of the edges between three world points, by the points that each joins.
 #[derive(Clone, Copy)]
 pub struct SquaredEdges {
     pub a01: f64,

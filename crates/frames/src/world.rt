@@ -1,4 +1,4 @@
-// The positions of the three targets in the world.
+//! The positions of the three targets in the world.
 ghost use Rattle.std.specs.Prelude.{◌≡◌};
 ghost use Rattle.frames.specs.Points.{world_finite};
 
@@ -11,12 +11,12 @@ pub struct World {
     pub p2: Vector3,
 }
 
-// Whether all nine coordinates are finite.
-pub fn world_finite(world: World) -> bool
-    ensures { result ≡ world_finite world }
-{
-    let p0 = world.p0.all_finite();
-    let p1 = world.p1.all_finite();
-    let p2 = world.p2.all_finite();
-    p0 & p1 & p2
+impl World {
+    /// Whether all nine coordinates are finite.
+    #[tactic(auto, unfolding(crate::specs::Points::world_finite))]
+    pub fn is_finite(self) -> bool
+        ensures { result ≡ world_finite self }
+    {
+        self.p0.all_finite() & self.p1.all_finite() & self.p2.all_finite()
+    }
 }

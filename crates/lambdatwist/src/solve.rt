@@ -19,7 +19,7 @@ use orderings::basis::basis_of;
 use orderings::cubic::{Coefficients, is_unusable};
 use orderings::measured::{Measured, measure, measured_cubic};
 use orderings::permutation::best_permutation;
-use p3p_common::input::{P3pInput, input_finite};
+use p3p_common::input::P3pInput;
 use p3p_common::solutions::Solutions;
 use p3p_common::world_basis_inverse::Basis;
 use polynomial::Roots;
@@ -211,7 +211,7 @@ pub fn solve(world: World, bearings: Bearings) -> Answer
     ensures { result ≡ (Solve.solve world bearings).value }
 {
     let input = P3pInput { world, bearings };
-    if !input_finite(input) {
+    if !input.is_finite() {
         return refused(1);
     }
     let measured = measure(world, bearings);

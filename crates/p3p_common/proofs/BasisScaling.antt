@@ -5,30 +5,16 @@ use mathlib.Core.Bool.{Bool, not}
 use lib.IntN.{ℤ, pos, negsuc}
 use lib.Ieee.{Float}
 use Rattle.ieee754.specs.Literal.{one, sixty_four, epsilon}
-use Rattle.ieee754.specs.Traced.{Traced}
-use Rattle.ieee754.specs.Scaling.{Both, At}
+use Rattle.ieee754.specs.Scaling.{Both, At, AtOption, some-at, none-at}
 use Rattle.ieee754_laws.proofs.Degrees.{same, !◌, ◌⊗◌, ◌⊘◌, pure, if◌then◌else◌, ◌>>=◌, both-map}
 use Rattle.ieee754_laws.proofs.Degrees.{max-at}
 use Rattle.ieee754_laws.proofs.Degrees.{le_same, finite-same}
-use Rattle.p3p_common.specs.Types.{Vector3, Matrix3, Basis}
+use Rattle.p3p_common.specs.Types.{Vector3, Matrix3}
 use Rattle.linalg.specs.VectorScaling.{AtVector, AtRows}
 use Rattle.linalg.proofs.VectorDegrees.{vec_mul-scales, norm_squared-scales, cross-scales}
 use Rattle.linalg.proofs.MatrixDegrees.{matrix-at-zero, from_columns-at, from_rows-at, mat_mul-scales}
-use Rattle.p3p_common.specs.WorldBasisInverse.{with_inverse, dual_basis, is_singular}
-use Rattle.p3p_common.specs.WorldBasisInverse.{world_basis_inverse}
+use Rattle.p3p_common.specs.WorldBasisInverse.{dual_basis, is_singular, world_basis_inverse}
 use Rattle.p3p_common.specs.RotationFromEdges.{rotation_from_edges}
-use Rattle.p3p_common.specs.PoseScaling.{AtBasis, inverse-at, singular-at}
-
--- what follows a basis, from bases at their degrees, in any relation of the two runs
-module _ {A : Type 0} {R : A → A → Type 0} {k : ℤ} {none none' : Traced A}
-    {f f' : Matrix3 → Traced A} where
-  pub with_inverse-scales : {basis basis' : Basis}
-      → AtBasis k basis basis'
-      → Both R none none'
-      → ((m m' : Matrix3) → AtRows k (negsuc 0) (negsuc 0) (negsuc 1) m m' → Both R (f m) (f' m'))
-      → Both R (with_inverse basis none f) (with_inverse basis' none' f')
-  with_inverse-scales (inverse-at {m} {m'} h) none next = next m m' h
-  with_inverse-scales singular-at none next = none
 
 module _ {k : ℤ} where
   is_singular-same : {determinant determinant' scale scale' : Float}
@@ -60,7 +46,9 @@ module _ {k : ℤ} where
         pure (from_rows-at dual_first dual_second dual_normal)
 
     pub world_basis_inverse-scales :
-        Both (AtBasis k) (world_basis_inverse first second) (world_basis_inverse first' second')
+        Both (AtOption (AtRows k (negsuc 0) (negsuc 0) (negsuc 1)))
+        (world_basis_inverse first second)
+        (world_basis_inverse first' second')
     unfolding world_basis_inverse
     world_basis_inverse-scales =
         cross-scales first-at second_at >>= λ _ _ normal.
@@ -68,10 +56,10 @@ module _ {k : ℤ} where
         norm_squared-scales first-at >>= λ _ _ first_squared.
         norm_squared-scales second_at >>= λ _ _ second_squared.
         is_singular-same determinant (max-at first_squared second_squared) >>= λ _ _ singular.
-        if singular then pure singular-at
+        if singular then pure none-at
         else (
         dual_basis-scales normal determinant >>= λ _ _ inverse.
-        pure (inverse-at inverse))
+        pure (some-at inverse))
 
     pub rotation_from_edges-same : {m m' : Matrix3}
         → AtRows k (negsuc 0) (negsuc 0) (negsuc 1) m m'

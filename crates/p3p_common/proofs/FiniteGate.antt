@@ -4,15 +4,15 @@
 use mathlib.Core.Bool.{not}
 use lib.Dec.{T}
 use mir.Facts.{T_not-not}
-use Rattle.ieee754.specs.Traced.{Traced, pure}
+use Rattle.ieee754.specs.Traced.{Traced, pure, with_some}
 use Rattle.ieee754.proofs.Tests.{either_way}
 use Rattle.linalg.specs.Vectors.{all_finite, vec_sub}
 use Rattle.linalg.specs.Matrices.{mat_vec, mat_finite}
 use Rattle.linalg.proofs.Finite.{rotation-finite}
-use Rattle.p3p_common.specs.Types.{Vector3, Matrix3, Pose, P3pInput, Projection, Rotation}
-use Rattle.p3p_common.specs.Types.{Refused, Gated, Passed, Projected, Dropped}
+use Rattle.p3p_common.specs.Types.{Vector3, Matrix3, Pose, P3pInput, Option, Some, None}
+use Rattle.p3p_common.specs.Types.{Gated, Passed, Projected, Dropped}
 use Rattle.p3p_common.specs.NearOrthonormal.{has_near_orthonormal_columns}
-use Rattle.p3p_common.specs.ProjectToRotation.{with_rotation, project_to_rotation}
+use Rattle.p3p_common.specs.ProjectToRotation.{project_to_rotation}
 use Rattle.frames.specs.Poses.{camera_point}
 use Rattle.p3p_common.specs.ProjectedPose.{projected_pose_fits_minimal_sample}
 use Rattle.p3p_common.specs.Gate.{if_valid, keep_point0, projected_gate, gate}
@@ -52,10 +52,10 @@ projected_gate-finite : (input : P3pInput) (raw : Matrix3) (t : Vector3)
 unfolding projected_gate
 projected_gate-finite input raw t = go (project_to_rotation raw).value
   where
-    go : (p : Projection)
-        → FiniteGated (with_rotation p (pure Dropped) (keep_point0 input raw t)).value
-    go Refused = tt
-    go (Rotation r) = keep_point0-finite input raw t r
+    go : (p : Option Matrix3)
+        → FiniteGated (with_some p (pure Dropped) (keep_point0 input raw t)).value
+    go None = tt
+    go (Some r) = keep_point0-finite input raw t r
 
 pub gate-finite : (input : P3pInput) (raw : Matrix3) (t : Vector3)
     → (T (all_finite t) → T (mat_finite raw))

@@ -3,31 +3,21 @@
 use mathlib.Core.Path.{refl, ap}
 use mathlib.Core.Bool.{not}
 use lib.IntN.{ℤ, pos}
-use Rattle.ieee754.specs.Traced.{Traced}
 use Rattle.ieee754.specs.Scaling.{Both}
 use Rattle.ieee754_laws.proofs.Degrees.{pure, if◌then◌else◌, ◌>>=◌, ◌>>≡◌, choose, alike}
+use Rattle.ieee754_laws.proofs.Degrees.{with_same}
 use Rattle.linalg.specs.VectorScaling.{AtVector}
 use Rattle.linalg.proofs.VectorDegrees.{vec_sub-scales, all_finite-same}
 use Rattle.linalg.proofs.MatrixDegrees.{same-matrix, columns-at, mat_vec-scales}
-use Rattle.p3p_common.specs.Types.{Vector3, Matrix3, Pose, P3pInput, Projection, Rotation}
-use Rattle.p3p_common.specs.Types.{Refused, Gated, Passed, Projected}
+use Rattle.p3p_common.specs.Types.{Vector3, Matrix3, Pose, P3pInput, Gated, Passed, Projected}
 use Rattle.p3p_common.specs.NearOrthonormal.{has_near_orthonormal_columns}
-use Rattle.p3p_common.specs.ProjectToRotation.{with_rotation, project_to_rotation}
+use Rattle.p3p_common.specs.ProjectToRotation.{project_to_rotation}
 use Rattle.p3p_common.specs.Gate.{if_valid, keep_point0, projected_gate, gate}
 use Rattle.frames.specs.FrameScaling.{AtPose}
 use Rattle.frames.proofs.PoseDegrees.{camera_point-scales}
 use Rattle.p3p_common.specs.PoseScaling.{AtInput, AtGated, passed-at, projected-at}
 use Rattle.p3p_common.specs.PoseScaling.{dropped-at}
 use Rattle.p3p_common.proofs.RayScaling.{projected_pose-same}
-
--- what follows a projection that is the same in the two runs, in any relation of them
-module _ {A : Type 0} {R : A → A → Type 0} {none none' : Traced A} {f f' : Matrix3 → Traced A} where
-  pub with_rotation-scales : (projection : Projection)
-      → Both R none none'
-      → ((rotation : Matrix3) → Both R (f rotation) (f' rotation))
-      → Both R (with_rotation projection none f) (with_rotation projection none' f')
-  with_rotation-scales (Rotation rotation) none next = next rotation
-  with_rotation-scales Refused none next = none
 
 module _ {k : ℤ} where
   if_valid-scales : (gated : Pose → Gated)
@@ -66,7 +56,7 @@ module _ {k : ℤ} where
     unfolding projected_gate
     projected_gate-scales =
         alike {m = project_to_rotation raw} >>≡ λ projection.
-        with_rotation-scales projection (pure dropped-at) keep_point0-scales
+        with_same projection (pure dropped-at) keep_point0-scales
 
     pub gate-scales : Both (AtGated k) (gate input raw t) (gate input' raw t')
     unfolding gate

@@ -2,14 +2,14 @@
 -- pose/p3p/common.rs where `edge_basis_with_positive_depths` holds, with the test of
 -- push_valid_rotation.
 use Rattle.std.specs.Prelude.{not, if◌then◌else◌}
-use Rattle.ieee754.specs.Traced.{Traced, pure, ◌>>=◌}
+use Rattle.ieee754.specs.Traced.{Traced, pure, ◌>>=◌, with_some}
 use Rattle.linalg.specs.Vectors.{all_finite, vec_sub}
 use Rattle.linalg.specs.Matrices.{mat_vec}
 use Rattle.frames.specs.Poses.{camera_point}
 use Rattle.p3p_common.specs.Types.{Vector3, Matrix3, Pose, P3pInput, Gated, Passed, Projected}
 use Rattle.p3p_common.specs.Types.{Dropped}
 use Rattle.p3p_common.specs.NearOrthonormal.{has_near_orthonormal_columns}
-use Rattle.p3p_common.specs.ProjectToRotation.{with_rotation, project_to_rotation}
+use Rattle.p3p_common.specs.ProjectToRotation.{project_to_rotation}
 use Rattle.p3p_common.specs.ProjectedPose.{projected_pose_fits_minimal_sample}
 
 -- push_valid_rotation: a translation that is not finite drops the pose
@@ -32,7 +32,7 @@ keep_point0 input raw_rotation translation rotation = do
 unfoldable pub projected_gate : P3pInput → Matrix3 → Vector3 → Traced Gated
 projected_gate input raw_rotation translation = do
   projection ← project_to_rotation raw_rotation
-  with_rotation projection (pure Dropped) (keep_point0 input raw_rotation translation)
+  with_some projection (pure Dropped) (keep_point0 input raw_rotation translation)
 
 unfoldable pub gate : P3pInput → Matrix3 → Vector3 → Traced Gated
 gate input raw_rotation translation = do

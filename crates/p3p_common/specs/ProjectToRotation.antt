@@ -7,21 +7,16 @@ use Rattle.ieee754.specs.Literal.{epsilon}
 use Rattle.ieee754.specs.Traced.{Traced, pure, ◌>>=◌, !◌, √◌}
 use Rattle.linalg.specs.Vectors.{dot, norm, cross, vec_sub, vec_mul, vec_div}
 use Rattle.linalg.specs.Matrices.{column0, column1, from_columns, mat_finite}
-use Rattle.p3p_common.specs.Types.{Matrix3, Projection, Rotation, Refused}
+use Rattle.p3p_common.specs.Types.{Matrix3, Option, Some, None}
 
--- ---- what follows a projection: what `k` makes of the rotation, and `none` where there is none
-abbrev pub with_rotation : {A : Type 0} → Projection → Traced A → (Matrix3 → Traced A) → Traced A
-with_rotation (Rotation rotation) none k = k rotation
-with_rotation Refused none k = none
-
-unfoldable pub project_to_rotation : Matrix3 → Traced Projection
+unfoldable pub project_to_rotation : Matrix3 → Traced (Option Matrix3)
 project_to_rotation matrix =
-    if not (mat_finite matrix) then pure Refused
+    if not (mat_finite matrix) then pure None
     else do
       let first = column0 matrix
       first_norm ← norm first
       root_epsilon ← √ ! epsilon
-      if le first_norm root_epsilon then pure Refused
+      if le first_norm root_epsilon then pure None
           else do
             first ← vec_div first first_norm
             -- matrix.column(1).into_owned() - first * first.dot(&matrix.column(1))
@@ -29,8 +24,8 @@ project_to_rotation matrix =
             parallel ← vec_mul first along
             second ← vec_sub (column1 matrix) parallel
             second_norm ← norm second
-            if le second_norm root_epsilon then pure Refused
+            if le second_norm root_epsilon then pure None
                 else do
                   second ← vec_div second second_norm
                   third ← cross first second
-                  pure (Rotation (from_columns first second third))
+                  pure (Some (from_columns first second third))

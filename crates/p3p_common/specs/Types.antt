@@ -1,17 +1,10 @@
 -- The structs and enums that definitions and laws of this crate name: those of its src/, and those
 -- of the crates below.
+pub use Rattle.std.specs.Prelude.{Option, Some, None}
 pub use Rattle.linalg.specs.declared.matrix3.Matrix3.{Matrix3}
 pub use Rattle.linalg.specs.declared.vector3.Vector3.{Vector3}
 pub use Rattle.frames.specs.declared.pose.Pose.{Pose}
 pub use Rattle.p3p_common.specs.declared.gate.Gated.{Gated}
 pub use Rattle.p3p_common.specs.declared.gate.Gated.TheVariants.{Passed, Projected, Dropped}
 pub use Rattle.p3p_common.specs.declared.input.P3pInput.{P3pInput}
-pub use Rattle.p3p_common.specs.declared.project_to_rotation.Projection.{Projection}
-pub use Rattle.p3p_common.specs.declared.project_to_rotation.Projection.TheVariants.{
-  Rotation,
-}
-pub use Rattle.p3p_common.specs.declared.project_to_rotation.Projection.TheVariants.{Refused}
 pub use Rattle.p3p_common.specs.declared.solutions.Solutions.{Solutions}
-pub use Rattle.p3p_common.specs.declared.world_basis_inverse.Basis.{Basis}
-pub use Rattle.p3p_common.specs.declared.world_basis_inverse.Basis.TheVariants.{Inverse}
-pub use Rattle.p3p_common.specs.declared.world_basis_inverse.Basis.TheVariants.{Singular}

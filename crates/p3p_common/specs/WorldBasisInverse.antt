@@ -8,12 +8,7 @@ use Rattle.ieee754.specs.Maximum.{max}
 use Rattle.ieee754.specs.Traced.{Traced, pure, ◌>>=◌, ◌⊗◌, ◌⊘◌, !◌}
 use Rattle.linalg.specs.Vectors.{norm_squared, cross, vec_mul}
 use Rattle.linalg.specs.Matrices.{from_rows}
-use Rattle.p3p_common.specs.Types.{Vector3, Matrix3, Basis, Inverse, Singular}
-
--- ---- what follows a basis: what `k` makes of its inverse, and `none` where it has none
-abbrev pub with_inverse : {A : Type 0} → Basis → Traced A → (Matrix3 → Traced A) → Traced A
-with_inverse (Inverse inverse) none k = k inverse
-with_inverse Singular none k = none
+use Rattle.p3p_common.specs.Types.{Vector3, Matrix3, Option, Some, None}
 
 -- let inverse_determinant = determinant.recip();
 -- let dual_first = second_edge.cross(&normal) * inverse_determinant;
@@ -40,14 +35,14 @@ is_singular determinant geometry_scale_squared =
       pure (le determinant limit)
 
 -- the larger of the two squared lengths is the geometry's scale squared
-unfoldable pub world_basis_inverse : Vector3 → Vector3 → Traced Basis
+unfoldable pub world_basis_inverse : Vector3 → Vector3 → Traced (Option Matrix3)
 world_basis_inverse first_edge second_edge = do
   normal ← cross first_edge second_edge
   determinant ← norm_squared normal
   first_squared ← norm_squared first_edge
   second_squared ← norm_squared second_edge
   singular ← is_singular determinant (max first_squared second_squared)
-  if singular then pure Singular
+  if singular then pure None
       else do
         inverse ← dual_basis first_edge second_edge normal determinant
-        pure (Inverse inverse)
+        pure (Some inverse)

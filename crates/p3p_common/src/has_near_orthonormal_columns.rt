@@ -1,5 +1,5 @@
-// Whether a matrix has orthonormal columns within 1e-10 (has_near_orthonormal_columns of
-// pose/p3p/common.rs).
+//! Whether a matrix has orthonormal columns within 1e-10 (has_near_orthonormal_columns of
+//! pose/p3p/common.rs).
 ghost use Rattle.std.specs.Prelude.{◌≡◌};
 ghost use Rattle.p3p_common.specs.NearOrthonormal.{has_near_orthonormal_columns};
 
@@ -8,6 +8,7 @@ use linalg::matrix3::Matrix3;
 
 pub const NEAR_ROTATION_TOLERANCE: f64 = 1e-10;
 
+#[tactic(auto, unfolding(crate::specs::NearOrthonormal::has_near_orthonormal_columns))]
 pub fn has_near_orthonormal_columns(matrix: Matrix3) -> bool
     ensures { result ≡ (has_near_orthonormal_columns matrix).value }
 {

@@ -1,5 +1,5 @@
-// What the three-point solvers share: their input, the recovery of a rotation from edges and the
-// gates that a pose passes. From pose/p3p/common.rs, document 01, module 5.
+//! What the three-point solvers share: their input, the recovery of a rotation from edges and the
+//! gates that a pose passes. From pose/p3p/common.rs.
 #![tactic(auto)]
 
 pub mod gate;

@@ -1,5 +1,5 @@
-// The zero to four poses of a solve, with the updates that each one's depths took and the mark of
-// document 02, §8: four slots and a count (SolverP3pSolutions of pose/p3p/common.rs).
+//! The zero to four poses of a solve, with the updates that each one's depths took and its mark: four
+//! slots and a count (SolverP3pSolutions of pose/p3p/common.rs).
 ghost use Rattle.std.specs.Prelude.{◌≡◌};
 ghost use Rattle.p3p_common.specs.Slots.{empty, push};
 
@@ -10,24 +10,25 @@ pub struct Solutions {
     pub count: usize,
     pub poses: [Pose; 4],
     pub updates: [u32; 4],
-    // Whether a pair of roots that the pose came from was lifted.
+    /// Whether a pair of roots that the pose came from was lifted.
     pub lifted: [bool; 4],
 }
 
 impl Solutions {
+    #[tactic(auto, unfolding(crate::specs::Slots::empty))]
     pub fn empty() -> Self
         ensures { result ≡ empty }
     {
-        let pose = Pose::zeros();
         Self {
             count: 0,
-            poses: [pose; 4],
+            poses: [Pose::zeros(); 4],
             updates: [0u32; 4],
             lifted: [false; 4],
         }
     }
 
-    // ArrayVec::try_push: a fifth pose is dropped.
+    /// ArrayVec::try_push: a fifth pose is dropped.
+    #[tactic(auto, unfolding(crate::specs::Slots::push))]
     pub fn push(mut self, pose: Pose, updates: u32, lifted: bool) -> Self
         ensures { result ≡ push self pose updates lifted }
     {

@@ -1,5 +1,5 @@
-// The inverse of the matrix whose columns are two edges of the world's triangle and their cross
-// product (world_basis_inverse of pose/p3p/common.rs).
+//! The inverse of the matrix whose columns are two edges of the world's triangle and their cross
+//! product (world_basis_inverse of pose/p3p/common.rs).
 ghost use Rattle.std.specs.Prelude.{◌≡◌};
 ghost use Rattle.p3p_common.specs.WorldBasisInverse.{world_basis_inverse, dual_basis};
 
@@ -8,13 +8,8 @@ use ieee754::max::max;
 use linalg::matrix3::Matrix3;
 use linalg::vector3::Vector3;
 
-#[derive(Clone, Copy)]
-pub enum Basis {
-    Inverse(Matrix3),
-    Singular,
-}
-
-// The rows of the inverse: each edge's dual vector, then the normal's.
+/// The rows of the inverse: each edge's dual vector, then the normal's.
+#[tactic(auto, unfolding(crate::specs::WorldBasisInverse::dual_basis))]
 pub fn dual_basis(
     first_edge: Vector3,
     second_edge: Vector3,
@@ -30,17 +25,18 @@ pub fn dual_basis(
     Matrix3::from_rows(dual_first, dual_second, dual_normal)
 }
 
-pub fn world_basis_inverse(first_edge: Vector3, second_edge: Vector3) -> Basis
+/// Nothing where the edges are near to parallel.
+#[tactic(auto, unfolding(crate::specs::WorldBasisInverse::world_basis_inverse, crate::specs::WorldBasisInverse::is_singular))]
+pub fn world_basis_inverse(first_edge: Vector3, second_edge: Vector3) -> Option<Matrix3>
     ensures { result ≡ (world_basis_inverse first_edge second_edge).value }
 {
     let normal = first_edge.cross(second_edge);
     let determinant = normal.norm_squared();
-    let first_squared = first_edge.norm_squared();
-    let second_squared = second_edge.norm_squared();
-    let geometry_scale_squared = max(first_squared, second_squared);
-    let limit = 64.0 * f64::EPSILON * geometry_scale_squared * geometry_scale_squared;
-    if !is_finite(determinant) | (determinant <= limit) {
-        return Basis::Singular;
+    let geometry_scale_squared = max(first_edge.norm_squared(), second_edge.norm_squared());
+    if !is_finite(determinant)
+        || determinant <= 64.0 * f64::EPSILON * geometry_scale_squared * geometry_scale_squared
+    {
+        return None;
     }
-    Basis::Inverse(dual_basis(first_edge, second_edge, normal, determinant))
+    Some(dual_basis(first_edge, second_edge, normal, determinant))
 }

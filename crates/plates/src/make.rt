@@ -4,13 +4,13 @@ ghost use Rattle.plates.specs.Make as Make;
 
 use crate::outcome::{Outcome, done};
 use crate::plate::zero_plate;
-use frames::world::{World, world_finite};
+use frames::world::World;
 
 // Refused with 1 where a coordinate is not finite: the plate is one of plus zeros then.
 pub fn make(world: World) -> Outcome
     ensures { result ≡ Make.make world }
 {
-    if !world_finite(world) {
+    if !world.is_finite() {
         return Outcome {
             refusal: 1,
             plate: zero_plate(),

@@ -15,7 +15,7 @@ use linalg::matrix3::Matrix3;
 use orderings::basis::Source;
 use orderings::cubic::{Coefficients, is_unusable};
 use orderings::measured::{Measured, measure_with, measured_cubic};
-use p3p_common::input::{P3pInput, input_finite};
+use p3p_common::input::P3pInput;
 
 // The stored inverse, or its lack.
 fn source_of(invertible: bool, inverse: Matrix3) -> Source
@@ -100,7 +100,7 @@ pub fn solve_plate(plate: Plate, bearings: Bearings) -> Answer
     let world = plate.world;
     let edges = plate.edges;
     let input = P3pInput { world, bearings };
-    if !input_finite(input) {
+    if !input.is_finite() {
         return refused(1);
     }
     let measured = measure_plate(plate, bearings);
