@@ -96,16 +96,23 @@ class Trial:
     def call(self, text):
         """The function that a call names, and its arguments."""
         path, rest = text.split("(", 1)
-        f = self.named(path)
-        notation, args = Notation(self.world, rest), []
+        for f in self.named(path):
+            try:
+                return f, self.arguments(f, rest)
+            except (SyntaxError, ValueError):  # an operator's name may be of two functions
+                wrong = f"{path} takes no such arguments"
+        raise Wrong(wrong)
+
+    def arguments(self, f, text):
+        notation, args = Notation(self.world, text), []
         for _, kind in f.params:
             args.append(notation.value(kind))
             notation.passes(",")
         notation.expect(")")
-        return f, args
+        return args
 
     def named(self, path):
-        """A function by its name in the edited file, or with its module, or its crate too."""
+        """The functions of a name in the edited file, or with its module, or its crate too."""
         crate, module = self.edit.crate, os.path.basename(self.edit.changes[0][0]).split(".")[0]
         above, _, name = path.rpartition("::")
         for key in (
@@ -113,8 +120,8 @@ class Trial:
             (crate, above, name),
             (*above.split("::"), name),
         ):
-            if key in self.world.functions:
-                return self.world.functions[key]
+            if key in self.world.overloads:
+                return self.world.overloads[key]
         raise Wrong(f"no function {path}")
 
     def answer(self, text, f):

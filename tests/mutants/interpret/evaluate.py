@@ -1,20 +1,62 @@
 """The value of an expression of trees.py. `on_X` is for the tuples that begin with X; env has the
 values of the locals."""
-from interpret.operations import built_in, cast, operate, root
-from interpret.values import Cell, Outside, Struct, Trap, Variant, held, taken
+from interpret.operations import CONSTANTS, built_in, cast, method, operate
+from interpret.values import NONE, OPTION, RESULT, Cell, Outside, Return, Struct, Trap, Variant
+from interpret.values import held, taken
+
+OPERATORS = {"+": "add", "-": "sub", "*": "mul", "/": "div"}
 
 
 def fits(pattern, value):
     """What a pattern binds in a value, or None where it does not fit."""
     if pattern[0] == "name":
-        return {pattern[1]: value}
-    if pattern[0] == "number":
+        return {} if pattern[1] == "_" else {pattern[1]: value}
+    value = held(value)
+    if pattern[0] == "literal":
         return {} if value == pattern[1] else None
-    if not isinstance(value, Variant) or value.name != pattern[1]:
+    if pattern[0] == "either":
+        found = (fits(p, value) for p in pattern[1])
+        return next((bound for bound in found if bound is not None), None)
+    if pattern[0] == "tuple":
+        return fits_all(pattern[1], value)
+    if isinstance(value, Struct):
+        return fits_fields(pattern[2], value.fields)
+    if value.name != pattern[1]:
         return None
     if isinstance(pattern[2], dict):
-        return {name: value.parts[field] for field, name in pattern[2].items()}
-    return {name: v for name, v in zip(pattern[2], value.parts) if name != "_"}
+        return fits_fields(pattern[2], value.parts)
+    return fits_all(pattern[2], value.parts)
+
+
+def fits_fields(patterns, fields):
+    return fits_all(patterns.values(), [fields[name] for name in patterns])
+
+
+def fits_all(patterns, values):
+    """What patterns bind, each in its value, or None where one does not fit."""
+    out = {}
+    for pattern, value in zip(patterns, values):
+        bound = fits(pattern, value)
+        if bound is None:
+            return None
+        out.update(bound)
+    return out
+
+
+def of_type(key, name):
+    """The name of a type's function."""
+    return (*key[:2], f"{key[2]}::{name}")
+
+
+def is_of(value, kind):
+    """Whether a value is of a type, as far as its functions have to be told apart."""
+    while isinstance(kind, tuple) and kind[0] == "ref":
+        kind = kind[1]
+    if isinstance(value, (Struct, Variant)):
+        return value.key == kind
+    if isinstance(value, list):
+        return isinstance(kind, tuple) and kind[0] == "array"
+    return isinstance(kind, str) and isinstance(value, float) == (kind == "f64")
 
 
 class Evaluate:
@@ -32,15 +74,23 @@ class Evaluate:
     def on_path(self, env, path):
         if len(path) == 1 and path[0] in env:
             return env[path[0]]
+        if path == ["None"]:
+            return NONE
+        if "::".join(path) in CONSTANTS:
+            return CONSTANTS["::".join(path)]
         target = self.named(path)
         if target in self.world.consts:
-            kind, value = self.world.consts[target]
-            return (
-                float(value.replace("_", "")) if kind == "f64" else int(value.replace("_", ""), 0)
-            )
+            return self.constant(target)
         if len(path) == 1:
             raise Outside()  # a constant of a library outside
         return Variant(self.named(path[:-1]), path[-1], [])
+
+    def constant(self, target):
+        if target not in self.constants:
+            kind, text, file = self.world.consts[target]
+            value = self.run(self.parsed(file, text), {})
+            self.constants[target] = float(value) if kind == "f64" else value
+        return self.constants[target]
 
     def on_field(self, env, e, name):
         return held(self.run(e, env)).fields[name]
@@ -58,6 +108,33 @@ class Evaluate:
         if not 0 <= first <= last <= len(xs):
             raise Trap("index")
         return xs[first:last]
+
+    def on_range(self, env, low, high):
+        return range(held(self.run(low, env)), held(self.run(high, env)))
+
+    def on_tuple(self, env, es):
+        return tuple(taken(held(self.run(e, env))) for e in es)
+
+    def on_try(self, env, e):
+        """What is in a Some or an Ok; another one ends the function that runs."""
+        value = held(self.run(e, env))
+        if value.name in ("Some", "Ok"):
+            return value.parts[0]
+        raise Return(value)
+
+    def on_closure(self, env, params, body):
+        f = self.f
+
+        def call(*values):
+            kept, self.f = self.f, f
+            try:
+                return self.run(body, {**env, **fits_all(params, values)})
+            except Return as r:
+                return r.value
+            finally:
+                self.f = kept
+
+        return call
 
     def on_array(self, env, es):
         return [taken(held(self.run(e, env))) for e in es]
@@ -79,11 +156,13 @@ class Evaluate:
 
     def on_match(self, env, e, arms):
         value = held(self.run(e, env))
-        for pattern, arm in arms:
+        for pattern, guard, arm in arms:
             bound = fits(pattern, value)
             if bound is not None:
                 inner = dict(env)
                 inner.update(bound)
+                if guard is not None and not held(self.run(guard, inner)):
+                    continue
                 out = self.run(arm, inner)
                 for name in env:
                     if name not in bound:
@@ -115,32 +194,47 @@ class Evaluate:
             return x and held(self.run(b, env))
         if op == "||":
             return x or held(self.run(b, env))
-        return operate(op, x, held(self.run(b, env)))
+        return self.operated(op, x, held(self.run(b, env)))
+
+    def operated(self, op, x, y):
+        if isinstance(x, Struct) and op in OPERATORS:
+            return self.call(self.chosen(of_type(x.key, OPERATORS[op]), [x, y]), [x, y])
+        return operate(op, x, y)
+
+    def chosen(self, key, values):
+        """Of the functions of a name that which takes these values."""
+        found = self.world.overloads.get(key, [])
+        if len(found) == 1:
+            return found[0]
+        for f in found:
+            if all(is_of(held(v), kind) for v, (_, kind) in zip(values, f.params)):
+                return f
+        raise Outside()
 
     def on_method(self, env, e, name, args):
-        own = held(self.run(e, env))
-        if name == "len":
-            return len(own)
-        if name == "as_slice":
-            return own
-        f = self.world.functions[own.key[:2] + (own.key[2] + "::" + name,)]
-        return self.call(f, [own] + [self.run(a, env) for a in args])
+        own = self.run(e, env)
+        values = [self.run(a, env) for a in args]
+        key = getattr(held(own), "key", None)
+        if key and of_type(key, name) in self.world.overloads:
+            values = [own] + values
+            return self.call(self.chosen(of_type(key, name), values), values)
+        return method(name, held(own), [held(v) for v in values])
 
     def on_call(self, env, path, args):
         values = [self.run(a, env) for a in args]
+        if len(path) == 1 and path[0] in env:
+            return env[path[0]](*values)
+        if path[-1] in ("Some", "Ok", "Err"):
+            return Variant(OPTION if path[-1] == "Some" else RESULT, path[-1], [taken(held(values[0]))])
         if built_in(path):
-            return built_in(path)(*values)
+            return built_in(path)(*map(held, values))
         if len(path) > 1:
             above = self.named(path[:-1])
             if above in self.world.enums:
                 return Variant(above, path[-1], [taken(held(v)) for v in values])
             if above in self.world.structs:
-                return self.call(
-                    self.world.functions[above[:2] + (above[2] + "::" + path[-1],)], values
-                )
+                return self.call(self.chosen(of_type(above, path[-1]), values), values)
         target = self.named(path)
-        if target[2] == "sqrt" and target[0] == "ieee754":
-            return root(values[0])
         if target in self.world.tuples:
             return Struct(target, dict(zip(self.world.parts(target), values)))
         if target not in self.world.functions:

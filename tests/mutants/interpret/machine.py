@@ -1,7 +1,6 @@
 """The interpreter of the part of Rattle that the library crates use: calls and statements. `do_X`
 is for the statements that begin with X."""
 from interpret.evaluate import Evaluate, fits
-from interpret.operations import operate
 from interpret.trees import Parser
 from interpret.values import Break, Return, Trap, held, taken
 
@@ -10,17 +9,23 @@ STEPS = 20000
 
 def binds(statement, name):
     """Whether a statement declares a local of this name."""
-    if statement[0] != "let":
-        return False
-    pattern = statement[1]
-    if pattern[0] == "variant":
-        return name in (pattern[2].values() if isinstance(pattern[2], dict) else pattern[2])
-    return pattern == ("name", name)
+    return statement[0] == "let" and name in bound_names(statement[1])
+
+
+def bound_names(pattern):
+    """The names that a pattern binds."""
+    if pattern[0] == "name":
+        return {pattern[1]}
+    if pattern[0] == "literal":
+        return set()
+    parts = pattern[-1].values() if isinstance(pattern[-1], dict) else pattern[-1]
+    return set().union(*map(bound_names, parts))
 
 
 class Machine(Evaluate):
     def __init__(self, world):
         self.world, self.bodies, self.steps, self.f = world, {}, 0, None
+        self.constants = {}
         self.owners = {f: (file, owner) for file in world.files for f, _, owner in file.bodies}
 
     def body(self, f):
@@ -33,6 +38,10 @@ class Machine(Evaluate):
         file, owner = self.owners[f]
         start = next(file.tokens[b][2] for g, b, _ in file.bodies if g is f)
         return Parser(file, text[start : f.end + len(text) - len(file.text)], owner).block()
+
+    def parsed(self, file, text):
+        """A constant's value as a tree."""
+        return Parser(file, text, None).expression()
 
     def call(self, f, args, body=None):
         env = {}
@@ -90,10 +99,22 @@ class Machine(Evaluate):
         except Break:
             pass
 
+    def do_for(self, env, pattern, over, body):
+        try:
+            for turn, value in enumerate(list(held(self.run(over, env)))):
+                if turn > STEPS:
+                    raise Trap("too many turns")
+                inner = {**env, **fits(pattern, value)}
+                self.run(body, inner)
+                bound = bound_names(pattern)
+                env.update({name: inner[name] for name in env if name not in bound})
+        except Break:
+            pass
+
     def do_assign(self, env, target, op, e):
         value = self.run(e, env)
         if op:
-            value = operate(op, self.run(target, env), held(value))
+            value = self.operated(op, held(self.run(target, env)), held(value))
         self.store(target, taken(held(value)), env)
 
     def do_do(self, env, e):

@@ -4,7 +4,7 @@
   2^52 + 1, 1 - 2^-53     an exact number, for a double or a whole number
   (1, 2, 3)               a struct, its fields in the order in which they are declared
   [1, 2, 0; 46], b"ab"    an array or a slice; `0; 46` is a 0 46 times
-  Best(1, 0.5), Nowhere   a variant; Stop {refusal: 9}, where its parts have names
+  Made((1, 0, 0), zero)   a variant; Stop {refusal: 9}, where its parts have names; Some(1), None
   zero                    a struct or an array of zeros
   frame[17]               what the stored frame 17 (from 0) has of this type
 
@@ -18,7 +18,7 @@ from fractions import Fraction
 
 from interpret.operations import NAN
 from interpret.trees import literal
-from interpret.values import Cell, Struct, Variant, held, plain, taken
+from interpret.values import OPTION, RESULT, Cell, Struct, Variant, held, plain, taken
 from syntax.tokens import Cursor, tokens
 from syntax.types import settled
 
@@ -60,6 +60,10 @@ class Notation(Cursor):
             return inner if isinstance(inner, list) or len(kind) < 3 else Cell(inner)
         if kind[0] == "array":
             return self.array(kind[1])
+        if kind[0] == "tuple":
+            return tuple(self.fields(dict(enumerate(kind[1]))).values())
+        if kind[0] in ("option", "result"):
+            return self.library_variant(kind)
         if kind in self.world.enums:
             return self.variant(kind)
         return Struct(kind, self.fields(self.world.parts(kind)))
@@ -127,6 +131,13 @@ class Notation(Cursor):
         self.expect(")")
         return out
 
+    def library_variant(self, kind):
+        """An Option or a Result."""
+        name = self.take()
+        key = OPTION if kind[0] == "option" else RESULT
+        parts = {"Some": kind[1:2], "Ok": kind[1:2], "Err": kind[2:3], "None": ()}[name]
+        return Variant(key, name, list(self.fields(dict(enumerate(parts))).values()) if parts else [])
+
     def variant(self, kind):
         name = self.take()
         parts = self.world.enums[kind][name]
@@ -171,6 +182,8 @@ def agrees(stated, value):
         return stated.name == value.name and all(
             agrees(stated.parts[i], value.parts[i]) for i in places
         )
+    if isinstance(stated, tuple):
+        return all(map(agrees, stated, value))
     if isinstance(stated, list):
         rest = len(value) - len(stated)
         fits = rest >= 0 if isinstance(stated, Prefix) else rest == 0

@@ -2,8 +2,9 @@
 in."""
 import math
 import struct
+import sys
 
-from interpret.values import Trap
+from interpret.values import NONE, RESULT, Outside, Trap, Variant, some
 
 NAN = float("nan")
 
@@ -70,15 +71,117 @@ def root(x):
     return NAN if x != x or x < 0.0 else math.sqrt(x) if x != 0.0 else x
 
 
-# By the whole path, or by its last name.
+def narrowed(bits):
+    def try_from(n):
+        fits = 0 <= n < 1 << bits
+        return Variant(RESULT, "Ok", [n]) if fits else Variant(RESULT, "Err", [NONE])
+
+    return try_from
+
+
+def signed(n):
+    return n - (1 << 64) if n >= 1 << 63 else n
+
+
+def is_nan(x):
+    return x != x
+
+
+# The functions of the library, by their paths, and the methods, by their names. Whole numbers have
+# 64 bits where a method asks for a width.
 BUILT_IN = {
     "f64::from_bits": from_bits,
     "f64::to_bits": to_bits,
     "u64::leading_zeros": lambda n: 64 - n.bit_length(),
+    "u64::from_be_bytes": lambda s: int.from_bytes(bytes(s), "big"),
+    "u16::from_be_bytes": lambda s: int.from_bytes(bytes(s), "big"),
+    "u32::from_be_bytes": lambda s: int.from_bytes(bytes(s), "big"),
+    "u8::try_from": narrowed(8),
+    "u32::try_from": narrowed(32),
+    "i32::try_from": lambda n: Variant(RESULT, "Ok", [n])
+    if -(1 << 31) <= n < 1 << 31
+    else Variant(RESULT, "Err", [NONE]),
+    "f64::from": float,
     "wrapping_add_u64": lambda a, b: (a + b) % (1 << 64),
     "wrapping_sub_u64": lambda a, b: (a - b) % (1 << 64),
 }
+CONSTANTS = {
+    "f64::EPSILON": 2.0**-52,
+    "f64::MIN_POSITIVE": sys.float_info.min,
+    "f64::NAN": NAN,
+    "f64::INFINITY": math.inf,
+    "f64::NEG_INFINITY": -math.inf,
+    "u32::MAX": (1 << 32) - 1,
+    "u64::MAX": (1 << 64) - 1,
+    "usize::MAX": (1 << 64) - 1,
+}
+METHODS = {
+    # of doubles
+    "is_nan": is_nan,
+    "is_finite": math.isfinite,
+    "to_bits": to_bits,
+    "sqrt": root,
+    # of whole numbers
+    "min": min,
+    "wrapping_add": lambda a, b: (a + b) % (1 << 64),
+    "wrapping_sub": lambda a, b: (a - b) % (1 << 64),
+    "wrapping_mul": lambda a, b: (a * b) % (1 << 64),
+    "saturating_sub": lambda a, b: max(a - b, 0),
+    "leading_zeros": lambda n: 64 - n.bit_length(),
+    "cast_signed": signed,
+    "to_be_bytes": lambda n: list(n.to_bytes(8, "big")),
+    # of truth values, options and results
+    "then_some": lambda b, v: some(v) if b else NONE,
+    "is_some": lambda o: o.name == "Some",
+    "is_none": lambda o: o.name == "None",
+    "is_ok": lambda o: o.name == "Ok",
+    "is_err": lambda o: o.name == "Err",
+    "map": lambda o, f: mapped(o, f),
+    "map_or": lambda o, d, f: f(o.parts[0]) if o.name in ("Some", "Ok") else d,
+    "unwrap_or": lambda o, d: o.parts[0] if o.name in ("Some", "Ok") else d,
+    "and_then": lambda o, f: f(o.parts[0]) if o.name in ("Some", "Ok") else o,
+    "ok_or": lambda o, e: Variant(RESULT, "Ok", o.parts) if o.name == "Some"
+    else Variant(RESULT, "Err", [e]),
+    "ok": lambda o: some(o.parts[0]) if o.name == "Ok" else NONE,
+    # of slices and of what goes through them
+    "len": len,
+    "is_empty": lambda s: not s,
+    "first": lambda s: some(s[0]) if s else NONE,
+    "as_slice": lambda s: s,
+    "iter": lambda s: s,
+    "into_iter": lambda s: s,
+    "copied": lambda s: s,
+    "enumerate": lambda s: list(enumerate(s)),
+    "zip": lambda s, t: list(zip(s, t)),
+    "take": lambda s, n: s[:n],
+    "skip": lambda s, n: s[n:],
+    "rev": lambda s: list(s)[::-1],
+    "all": lambda s, f: all(f(x) for x in s),
+    "any": lambda s, f: any(f(x) for x in s),
+    "fold": lambda s, v, f: folded(s, v, f),
+}
+
+
+def mapped(own, f):
+    if isinstance(own, Variant):
+        return some(f(own.parts[0])) if own.name == "Some" else own
+    return [f(x) for x in own]
+
+
+def folded(s, value, f):
+    for x in s:
+        value = f(value, x)
+    return value
 
 
 def built_in(path):
+    if path[-1] == "from" and path[0] in ("u16", "u32", "u64", "usize", "i64"):
+        return int
     return BUILT_IN.get("::".join(path)) or BUILT_IN.get(path[-1])
+
+
+def method(name, own, values):
+    """A method of the library."""
+    if name not in METHODS:
+        raise Outside()
+    return METHODS[name](own, *values)

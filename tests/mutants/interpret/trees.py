@@ -35,6 +35,13 @@ class Parser(Grammar):
         if self.passes("while"):
             test = self.expression(False)
             return ("while", test, self.block())
+        if self.passes("for"):
+            pattern = self.pattern()
+            self.expect("in")
+            over = self.expression(False)
+            if self.passes(".."):
+                over = ("range", over, self.expression(False))
+            return ("for", pattern, over, self.block())
         if self.passes("break"):
             self.expect(";")
             return ("break",)
@@ -61,20 +68,34 @@ class Parser(Grammar):
         return ("let", pattern, value, other)
 
     def pattern(self):
-        if self.kind() == "num":
-            return ("number", int(self.take(), 0))
-        path = self.names()
-        if len(path) == 1:
-            return ("name", path[0])
-        names = []
+        out = [self.one_pattern()]
+        while self.passes("|"):
+            out.append(self.one_pattern())
+        return out[0] if len(out) == 1 else ("either", out)
+
+    def one_pattern(self):
+        """A name that is bound, a literal, a tuple, or a struct or a variant by its parts."""
+        self.passes("&")
+        self.passes("mut")
+        kind, word = self.tokens[self.at][:2]
+        if kind in ("num", "byte") or word in ("true", "false"):
+            self.next()
+            return ("literal", literal(kind, word))
         if self.passes("("):
-            names = [self.take() for _ in self.each(")")]
-        elif self.passes("{"):
-            names = {}
+            return ("tuple", [self.pattern() for _ in self.each(")")])
+        path = self.names()
+        if self.passes("("):
+            return ("variant", path[-1], [self.pattern() for _ in self.each(")")])
+        if self.passes("{"):
+            fields = {}
             for _ in self.each("}"):
-                field = self.take()
-                names[field] = self.take() if self.passes(":") else field
-        return ("variant", path[-1], names)
+                if not self.passes(".."):
+                    field = self.take()
+                    fields[field] = self.pattern() if self.passes(":") else ("name", field)
+            return ("variant", path[-1], fields)
+        if len(path) == 1 and not path[0][0].isupper():
+            return ("name", path[0])
+        return ("variant", path[-1], [])
 
     def expression(self, structs=True):
         kept, self.structs = self.structs, structs
@@ -107,6 +128,8 @@ class Parser(Grammar):
         while True:
             if self.passes("."):
                 name = self.take()
+                if self.passes("::"):
+                    self.skip("<", ">")
                 out = (
                     ("method", out, name, self.arguments())
                     if self.sees("(")
@@ -119,6 +142,8 @@ class Parser(Grammar):
                 else:
                     out = ("index", out, low)
                 self.expect("]")
+            elif self.passes("?"):
+                out = ("try", out)
             else:
                 return out
 
@@ -130,6 +155,22 @@ class Parser(Grammar):
         kind, word = self.tokens[self.at][:2]
         self.next()
         return ("value", literal(kind, word))
+
+    def tuple(self, first):
+        return ("tuple", [first] + [self.expression() for _ in self.each(")")])
+
+    def closure(self):
+        params = []
+        if not self.passes("||"):
+            self.expect("|")
+            while not self.passes("|"):
+                params.append(self.one_pattern())
+                if self.passes(":"):
+                    self.type(self.owner)
+                self.passes(",")
+        if self.passes("->"):
+            self.type(self.owner)
+        return ("closure", params, self.expression())
 
     def returned(self):
         return ("block", [("return", self.expression())])
@@ -156,7 +197,8 @@ class Parser(Grammar):
         if self.passes("else"):
             other = self.conditional() if self.passes("if") else self.block()
         if pattern:
-            return ("match", test, [(pattern, then), (("name", "_"), other or ("block", []))])
+            empty = ("block", [])
+            return ("match", test, [(pattern, None, then), (("name", "_"), None, other or empty)])
         return ("if", test, then, other)
 
     def match(self):
@@ -166,12 +208,17 @@ class Parser(Grammar):
         arms = []
         for _ in self.each("}"):
             pattern = self.pattern()
+            guard = self.expression() if self.passes("if") else None
             self.expect("=>")
-            arms.append((pattern, self.expression()))
+            arms.append((pattern, guard, self.expression()))
         return ("match", value, arms)
 
     def path_expression(self):
         path = self.names()
+        if self.sees("!"):  # a macro: a proof's or a test's
+            self.next()
+            self.skip("(", ")")
+            return ("tuple", [])
         if self.sees("("):
             return ("call", path, self.arguments())
         if self.sees("{") and self.structs and path[-1][0].isupper() and not path[-1].isupper():

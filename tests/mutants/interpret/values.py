@@ -62,4 +62,12 @@ def held(v):
 
 def taken(v):
     """A copy of what has parts that can be stored to."""
-    return copy.deepcopy(v) if isinstance(v, (Struct, Variant, list)) else v
+    return copy.deepcopy(v) if isinstance(v, (Struct, Variant, list, tuple)) else v
+
+
+def some(v):
+    return Variant(OPTION, "Some", [v])
+
+
+OPTION, RESULT = ("core", "option", "Option"), ("core", "result", "Result")
+NONE = Variant(OPTION, "None", [])

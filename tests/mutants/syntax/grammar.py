@@ -4,8 +4,8 @@ from syntax.types import Types
 
 
 class Grammar(Types):
-    """A reading has `value`, `expression`, `array`, `block`, `conditional`, `match`, `returned` and
-    `path_expression`."""
+    """A reading has `value`, `expression`, `tuple`, `closure`, `array`, `block`, `conditional`,
+    `match`, `returned` and `path_expression`."""
 
     def primary(self):
         kind, word = self.tokens[self.at][:2]
@@ -13,8 +13,12 @@ class Grammar(Types):
             return self.value()
         if self.passes("("):
             inner = self.expression()
+            if self.passes(","):
+                return self.tuple(inner)
             self.expect(")")
             return inner
+        if self.passes("move") or self.sees("|") or self.sees("||"):
+            return self.closure()
         if self.passes("["):
             return self.array()
         if self.sees("{"):

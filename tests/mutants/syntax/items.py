@@ -27,9 +27,13 @@ class Items(Types):
         word = self.word()
         if word == "fn":
             self.function(public, owner)
-        elif word in ("ghost", "mod"):
+        elif word in ("ghost", "mod", "type"):
             self.pass_line()
-        elif word in ("use", "const", "struct", "enum", "impl"):
+        elif word == "trait":
+            while not self.sees("{"):
+                self.next()
+            self.skip("{", "}")
+        elif word in ("use", "const", "static", "struct", "enum", "impl"):
             self.next()
             getattr(self, word + "_item")()
         else:
@@ -53,7 +57,10 @@ class Items(Types):
 
     def pass_line(self):
         while not self.sees(";"):
-            self.next()
+            if self.sees("{"):
+                self.skip("{", "}")
+            else:
+                self.next()
         self.next()
 
     def use_item(self):
@@ -90,7 +97,9 @@ class Items(Types):
         while not self.passes(";"):
             value += self.take()
         self.file.names.setdefault(name, self.file.key(name))
-        self.world.consts[self.file.key(name)] = (kind, value)
+        self.world.consts[self.file.key(name)] = (kind, value, self.file)
+
+    static_item = const_item
 
     def struct_item(self):
         name = self.declared()
@@ -140,6 +149,13 @@ class Items(Types):
         """The names of the fields, up to the brace, and where their types stand."""
         out = {}
         for _ in self.each("}"):
+            if self.passes("ghost"):
+                self.take()
+                self.expect(":")
+                self.pass_type()
+                if self.sees("{"):
+                    self.skip("{", "}")
+                continue
             self.passes("pub")
             field = self.take()
             self.expect(":")
@@ -153,10 +169,28 @@ class Items(Types):
         return [self.type_at(at) for at in parts]
 
     def impl_item(self):
-        name = self.take()
-        self.expect("{")
+        """The functions of a type, or a trait's for it."""
+        if self.sees("<"):
+            self.skip("<", ">")
+        name = self.implemented()
+        if self.passes("for"):
+            name = self.implemented()
+        while not self.passes("{"):
+            self.next()
         while not self.passes("}"):
             self.item(name)
+
+    def implemented(self):
+        """The name of a trait or of a type, or an array's text."""
+        start = self.start()
+        if self.sees("["):
+            self.skip("[", "]")
+            return self.text[start : self.done()]
+        self.passes("&")
+        name = self.names()[-1]
+        if self.sees("<"):
+            self.skip("<", ">")
+        return name
 
     def function(self, public, owner):
         start = self.start()
@@ -172,6 +206,9 @@ class Items(Types):
         if self.passes("->"):
             result = self.at
             self.pass_type()
+        if self.passes("where"):
+            while self.word() not in ("requires", "ensures", "ghost", "{"):
+                self.next()
         while self.word() in ("requires", "ensures", "ghost"):
             f.requires = f.requires or self.word() == "requires"
             while not self.sees("{"):  # a clause may have a name
@@ -181,7 +218,7 @@ class Items(Types):
         self.skip("{", "}")
         f.end = self.done()
         where = self.file.key(owner + "::" + name if owner else name)
-        self.world.functions[where] = f
+        self.world.add(where, f)
         if not owner:
             self.file.names.setdefault(name, where)
         self.file.later.append(lambda: self.sign(f, params, result, owner))
@@ -191,10 +228,13 @@ class Items(Types):
         self.expect("(")
         out = []
         for _ in self.each(")"):
-            self.passes("mut")
+            lent = self.passes("&")
+            if self.kind() == "life":
+                self.next()
+            mutable = self.passes("mut")
             name = self.take()
             if name == "self":
-                out.append((name, ("own", owner)))
+                out.append((name, ("own", owner, lent, mutable)))
             else:
                 self.expect(":")
                 out.append((name, self.at))
@@ -204,7 +244,15 @@ class Items(Types):
     def sign(self, f, params, result, owner):
         """The types of a function's parameters and of its result."""
         f.params = [
-            (n, self.file.key(t[1]) if isinstance(t, tuple) else self.type_at(t, owner))
+            (n, self.own(*t[1:]) if isinstance(t, tuple) else self.type_at(t, owner))
             for n, t in params
         ]
         f.result = self.type_at(result, owner) if result is not None else "()"
+        if owner and owner[0] != "[":
+            kind = self.file.named([owner])
+            self.world.add((*kind[:2], f"{kind[2]}::{f.path.split('::')[-1]}"), f)
+
+    def own(self, owner, lent, mutable):
+        """The type of `self`."""
+        kind = self.file.named([owner])
+        return ("ref", kind, "mut") if lent and mutable else ("ref", kind) if lent else kind

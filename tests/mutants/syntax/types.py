@@ -1,9 +1,10 @@
 """The types of Rattle as the parsers keep them, and the reading of one. A type is the name of a
 built-in one, the crate, module and name of a declared one, ("ref", type) or ("ref", type, "mut"),
-or ("array", type, length)."""
+("array", type, length), ("tuple", types), ("option", type), ("result", type, type) or "closure"."""
 from syntax.tokens import Cursor
 
 INTEGERS = {"u8", "u16", "u32", "u64", "usize", "i8", "i16", "i32", "i64", "isize"}
+TYPE_ENDS = (",", ")", "}", "{", ";", "=", "|", "requires", "ensures", "ghost", "where")
 
 
 class Number:
@@ -57,9 +58,9 @@ class Types(Cursor):
         depth = 0
         while True:
             w = self.word()
-            if depth == 0 and w in (",", ")", "}", "{", ";", "=", "requires", "ensures", "ghost"):
+            if depth == 0 and w in TYPE_ENDS:
                 return
-            depth += {"[": 1, "<": 1, "(": 1, "]": -1, ">": -1, ")": -1}.get(w, 0)
+            depth += {"[": 1, "<": 1, "(": 1, "]": -1, ">": -1, ">>": -2, ")": -1}.get(w, 0)
             self.next()
 
     def type_at(self, at, owner=None):
@@ -81,4 +82,29 @@ class Types(Cursor):
             length = self.take() if self.passes(";") else None
             self.expect("]")
             return ("array", inner, length)
-        return self.file.named(self.names(), owner)
+        if self.passes("("):
+            return ("tuple", [self.type(owner) for _ in self.each(")")])
+        if self.sees("impl"):
+            self.pass_type()
+            return "closure"
+        names = self.names()
+        given = self.given_types(owner) if self.passes("<") else []
+        if names[-1] in ("Option", "Result"):
+            return (names[-1].lower(), *given)
+        return self.file.named(names, owner)
+
+    def given_types(self, owner):
+        """The types that a generic one is given, up to the bracket that closes it."""
+        out = []
+        while True:
+            if self.sees(">>"):  # of two brackets the first
+                kind, _, start, end = self.tokens[self.at]
+                self.tokens[self.at] = (kind, ">", start + 1, end)
+                return out
+            if self.passes(">"):
+                return out
+            if self.kind() == "life":
+                self.next()
+            else:
+                out.append(self.type(owner))
+            self.passes(",")

@@ -11,6 +11,7 @@ class World:
 
     def __init__(self, root, crates):
         self.structs, self.enums, self.functions, self.consts, self.files = {}, {}, {}, {}, []
+        self.overloads = {}  # each name's functions, of which an operator may have two
         self.tuples = {}  # the types of the parts of each struct that has no names for them
         with open(os.path.join(root, "crates.txt"), encoding="utf-8") as f:
             rows = re.findall(r"^(\w+)(?: staticlib)?:(.*)$", f.read(), re.M)
@@ -27,6 +28,14 @@ class World:
             Items(file).declare()
         for file in self.files:
             file.resolve()
+
+    def add(self, key, f):
+        """A function by its name; those of one name are an operator's or a conversion's, told apart
+        by what they are given."""
+        found = self.overloads.setdefault(key, [])
+        if f not in found:
+            found.append(f)
+        self.functions[key] = f
 
     def parts(self, kind):
         """The types of a struct's fields, which are numbers from 0 where they have no names."""
