@@ -1,11 +1,10 @@
 """The body of a function: its blocks, statements and patterns, with the locals that they bind."""
 from change.expressions import Expressions
 from syntax.tokens import ASSIGNMENTS
-from syntax.types import join
+from syntax.types import bare, join
 
 
-# Functions that read or write by forms of std which this reading does not know (`?`, macros,
-# patterns within patterns). They are left out.
+# Functions that read or write by forms of std which this reading does not know. They are left out.
 LEFT_OUT = {
     "failures::say",
     "listing_program::command::is_given",
@@ -94,9 +93,11 @@ class Body(Expressions):
         if word == "while":
             self.expression(False)
         elif word == "for":
-            name = self.take()
+            pattern = self.pattern()
             self.expect("in")
-            bound = {name: self.expression(False)}
+            kind = bare(self.expression(False))
+            of_array = isinstance(kind, tuple) and kind[0] == "array"
+            bound = self.bound(pattern, kind[1] if of_array else kind)
         self.within(bound, self.block)
         return "()"
 
@@ -108,8 +109,7 @@ class Body(Expressions):
         return kind
 
     def let(self):
-        self.passes("mut")
-        bound = self.pattern()
+        pattern = self.pattern()
         given = self.type() if self.passes(":") else None
         self.expect("=")
         kind = self.expression()
@@ -118,42 +118,48 @@ class Body(Expressions):
         if self.passes("else"):
             self.block()
         self.expect(";")
-        if isinstance(bound, str):
-            self.scopes[-1][bound] = given if given is not None else kind
-        else:
-            self.scopes[-1].update(bound)
+        self.scopes[-1].update(self.bound(pattern, given if given is not None else kind))
         return "()"
 
-    def pattern(self):
-        """A name, or the names that an enum's pattern binds, with their types."""
-        if self.kind() != "id":
-            self.next()
+    def bound(self, pattern, kind):
+        """The names that a pattern binds in a value of this type, with their types."""
+        if pattern[0] == "name":
+            return {pattern[1]: kind} if pattern[1] != "_" else {}
+        if pattern[0] == "literal":
             return {}
-        path = self.names()
-        if len(path) == 1 and not self.sees("(") and not self.sees("{"):
-            return path[0] if path[0] != "_" else {}
-        parts = self.world.enums.get(self.file.named(path[:-1], self.owner), {}).get(path[-1], [])
-        if self.passes("("):
-            names = [self.take() for _ in self.each(")")]
-            return {name: kind for name, kind in zip(names, parts) if name != "_"}
-        bound = {}
-        if self.passes("{"):
-            for _ in self.each("}"):
-                field = name = self.take()
-                if self.passes(":"):
-                    name = self.take()
-                if field in parts and name != "_":
-                    bound[name] = parts[field]
-        return bound
+        kind = bare(kind)
+        if pattern[0] == "either":
+            return self.bound(pattern[1][0], kind)
+        parts = pattern[1] if pattern[0] == "tuple" else pattern[2]
+        kinds = self.kinds_of(pattern, kind)
+        if isinstance(parts, dict):
+            found = [(p, kinds.get(field)) for field, p in parts.items()]
+        else:
+            found = [(p, kinds[i] if i < len(kinds) else None) for i, p in enumerate(parts)]
+        return {name: t for p, k in found for name, t in self.bound(p, k).items()}
+
+    def kinds_of(self, pattern, kind):
+        """The types of what a tuple, a struct or a variant holds, as far as they are known."""
+        if pattern[0] == "tuple":
+            return kind[1] if isinstance(kind, tuple) and kind[0] == "tuple" else []
+        name, parts, path = pattern[1:]
+        if name in ("Some", "Ok", "Err"):
+            given = kind[1:] if isinstance(kind, tuple) and kind[0] in ("option", "result") else ()
+            return list(given[1:] if name == "Err" else given[:1])
+        none = {} if isinstance(parts, dict) else []
+        if len(path) > 1:
+            above = self.file.named(path[:-1], self.owner)
+            return self.world.enums.get(above, {}).get(name, none)
+        return self.world.structs.get(self.file.named(path, self.owner), none)
 
     def conditional(self):
         """The rest of an `if`."""
-        bound = {}
+        pattern = None
         if self.passes("let"):
-            bound = self.pattern()
+            pattern = self.pattern()
             self.expect("=")
-        self.expression(False)
-        kind = self.within(bound, self.block)
+        tested = self.expression(False)
+        kind = self.within(self.bound(pattern, tested) if pattern else {}, self.block)
         if self.passes("else"):
             other = self.conditional() if self.passes("if") else self.block()
             if kind == "!":
@@ -163,13 +169,13 @@ class Body(Expressions):
 
     def match(self):
         """The rest of a `match`; its type is that of the first arm that goes on."""
-        self.expression(False)
+        matched = self.expression(False)
         self.expect("{")
         kind = None
         for _ in self.each("}"):
-            bound = self.pattern()
-            while self.passes("|"):
-                self.pattern()
+            bound = self.bound(self.pattern(), matched)
+            if self.passes("if"):
+                self.within(bound, self.expression)
             self.expect("=>")
             arm = self.within(bound, self.expression)
             kind = arm if kind in (None, "!") else kind

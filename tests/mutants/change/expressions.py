@@ -1,16 +1,9 @@
 """The expressions of a body: their types, and the places in them."""
 from change.changes import changed_bytes, near_floats, near_numbers
 from change.places import Marks, signature
+from syntax.library import CONSTANTS, FUNCTIONS, METHODS, OPERATORS
 from syntax.tokens import LEVELS, number_parts
-from syntax.types import Number, bare, join
-
-KNOWN = {
-    "f64::from_bits": (["u64"], "f64"),
-    "f64::to_bits": (["f64"], "u64"),
-    "u64::leading_zeros": (["u64"], "u32"),
-    "u64::trailing_zeros": (["u64"], "u32"),
-    "u64::count_ones": (["u64"], "u32"),
-}
+from syntax.types import INTEGERS, Number, bare, join
 
 
 class Expressions(Marks):
@@ -38,10 +31,19 @@ class Expressions(Marks):
             other = self.binary(level + 1)
             if "<<" not in LEVELS[level]:
                 join(kind, other)
+            if bare(kind) in self.world.structs:
+                kind = self.operated(bare(kind), OPERATORS[op], bare(other))
+                continue
             self.mark_operator(op, start, end, level, kind)
             if "<" in LEVELS[level]:
                 kind = "bool"
         return kind
+
+    def operated(self, owner, name, other):
+        """What an operator of a struct gives."""
+        found = self.world.overloads.get((*owner[:2], f"{owner[2]}::{name}"), [])
+        of_type = [f for f in found if bare(f.params[1][1]) == other]
+        return (of_type or found)[0].result if found else None
 
     def cast(self):
         kind = self.unary()
@@ -74,6 +76,8 @@ class Expressions(Marks):
             if self.passes("."):
                 at, end = self.start(), self.end()
                 name = self.take()
+                if self.passes("::"):
+                    self.skip("<", ">")
                 owner = bare(kind)
                 if self.sees("("):
                     kind = self.method(owner, name, start, at)
@@ -83,6 +87,9 @@ class Expressions(Marks):
                     self.mark_field(fields, name, start, at, end)
             elif self.sees("["):
                 kind = self.index(bare(kind))
+            elif self.passes("?"):
+                kind = bare(kind)
+                kind = kind[1] if isinstance(kind, tuple) and len(kind) > 1 else None
             else:
                 return kind
 
@@ -114,7 +121,24 @@ class Expressions(Marks):
             self.mark_method(f, owner, name, at)
             self.mark_receiver(owner, name, start, at, spans, kinds)
             return f.result
-        return "usize" if name == "len" else None
+        known = METHODS.get(name)
+        return owner if known == "own" else known
+
+    def tuple(self, first):
+        return ("tuple", [first] + [self.expression() for _ in self.each(")")])
+
+    def closure(self):
+        bound = {}
+        if not self.passes("||"):
+            self.expect("|")
+            while not self.passes("|"):
+                pattern = self.one_pattern()
+                bound.update(self.bound(pattern, self.type() if self.passes(":") else None))
+                self.passes(",")
+        if self.passes("->"):
+            self.type()
+        self.within(bound, self.expression)
+        return "closure"
 
     def arguments(self, params):
         """The spans and the types of a call's arguments; params are the types that the callee asks
@@ -178,6 +202,15 @@ class Expressions(Marks):
         path = self.names()
         end = self.done()
         visible = self.visible()
+        if self.passes("!"):  # a macro: a proof's or a test's
+            self.skip("(", ")")
+            return "()"
+        if path == ["Some"]:
+            return ("option", self.arguments([])[1][0])
+        if "::".join(path) in CONSTANTS:
+            return path[0]
+        if path[-1] == "from" and path[0] in INTEGERS | {"f64"}:
+            return self.given([], path[0])
         if len(path) == 1 and path[0] in visible and not self.sees("("):
             self.mark_operand(visible[path[0]], path[0], start, end)
             return visible[path[0]]
@@ -192,8 +225,8 @@ class Expressions(Marks):
             )
             if method:
                 return self.given(*signature(method))
-            if "::".join(path) in KNOWN:
-                return self.given(*KNOWN["::".join(path)])
+            if "::".join(path) in FUNCTIONS:
+                return self.given(*FUNCTIONS["::".join(path)])
         target = self.file.named(path, self.owner)
         if self.sees("("):
             return self.call(target, path[-1], start, end)

@@ -1,10 +1,9 @@
 """The value of an expression of trees.py. `on_X` is for the tuples that begin with X; env has the
 values of the locals."""
-from interpret.operations import CONSTANTS, built_in, cast, method, operate
+from interpret.operations import built_in, cast, method, operate
 from interpret.values import NONE, OPTION, RESULT, Cell, Outside, Return, Struct, Trap, Variant
 from interpret.values import held, taken
-
-OPERATORS = {"+": "add", "-": "sub", "*": "mul", "/": "div"}
+from syntax.library import CONSTANTS, OPERATORS
 
 
 def fits(pattern, value):
@@ -87,8 +86,8 @@ class Evaluate:
 
     def constant(self, target):
         if target not in self.constants:
-            kind, text, file = self.world.consts[target]
-            value = self.run(self.parsed(file, text), {})
+            kind, text = self.world.consts[target]
+            value = self.run(self.parsed(self.world.homes[target], text), {})
             self.constants[target] = float(value) if kind == "f64" else value
         return self.constants[target]
 

@@ -18,8 +18,8 @@ def bound_names(pattern):
         return {pattern[1]}
     if pattern[0] == "literal":
         return set()
-    parts = pattern[-1].values() if isinstance(pattern[-1], dict) else pattern[-1]
-    return set().union(*map(bound_names, parts))
+    parts = pattern[2] if pattern[0] == "variant" else pattern[1]
+    return set().union(*map(bound_names, parts.values() if isinstance(parts, dict) else parts))
 
 
 class Machine(Evaluate):

@@ -17,9 +17,8 @@ import struct
 from fractions import Fraction
 
 from interpret.operations import NAN
-from interpret.trees import literal
 from interpret.values import OPTION, RESULT, Cell, Struct, Variant, held, plain, taken
-from syntax.tokens import Cursor, tokens
+from syntax.tokens import Cursor, literal, tokens
 from syntax.types import settled
 
 FRAMES, WORDS = os.path.join("crates", "replay", "data", "rust", "frame.bin"), 83

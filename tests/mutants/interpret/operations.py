@@ -2,7 +2,6 @@
 in."""
 import math
 import struct
-import sys
 
 from interpret.values import NONE, RESULT, Outside, Trap, Variant, some
 
@@ -104,16 +103,6 @@ BUILT_IN = {
     "f64::from": float,
     "wrapping_add_u64": lambda a, b: (a + b) % (1 << 64),
     "wrapping_sub_u64": lambda a, b: (a - b) % (1 << 64),
-}
-CONSTANTS = {
-    "f64::EPSILON": 2.0**-52,
-    "f64::MIN_POSITIVE": sys.float_info.min,
-    "f64::NAN": NAN,
-    "f64::INFINITY": math.inf,
-    "f64::NEG_INFINITY": -math.inf,
-    "u32::MAX": (1 << 32) - 1,
-    "u64::MAX": (1 << 64) - 1,
-    "usize::MAX": (1 << 64) - 1,
 }
 METHODS = {
     # of doubles

@@ -1,7 +1,7 @@
 """The body of a function as nested tuples, for the interpreter: the first entry says what it is,
 and the rest are its parts."""
 from syntax.grammar import Grammar
-from syntax.tokens import ASSIGNMENTS, LEVELS, number_parts, tokens
+from syntax.tokens import ASSIGNMENTS, LEVELS, literal, tokens
 
 
 class Parser(Grammar):
@@ -66,36 +66,6 @@ class Parser(Grammar):
         other = self.block() if self.passes("else") else None
         self.expect(";")
         return ("let", pattern, value, other)
-
-    def pattern(self):
-        out = [self.one_pattern()]
-        while self.passes("|"):
-            out.append(self.one_pattern())
-        return out[0] if len(out) == 1 else ("either", out)
-
-    def one_pattern(self):
-        """A name that is bound, a literal, a tuple, or a struct or a variant by its parts."""
-        self.passes("&")
-        self.passes("mut")
-        kind, word = self.tokens[self.at][:2]
-        if kind in ("num", "byte") or word in ("true", "false"):
-            self.next()
-            return ("literal", literal(kind, word))
-        if self.passes("("):
-            return ("tuple", [self.pattern() for _ in self.each(")")])
-        path = self.names()
-        if self.passes("("):
-            return ("variant", path[-1], [self.pattern() for _ in self.each(")")])
-        if self.passes("{"):
-            fields = {}
-            for _ in self.each("}"):
-                if not self.passes(".."):
-                    field = self.take()
-                    fields[field] = self.pattern() if self.passes(":") else ("name", field)
-            return ("variant", path[-1], fields)
-        if len(path) == 1 and not path[0][0].isupper():
-            return ("name", path[0])
-        return ("variant", path[-1], [])
 
     def expression(self, structs=True):
         kept, self.structs = self.structs, structs
@@ -229,14 +199,3 @@ class Parser(Grammar):
                 fields[field] = self.expression() if self.passes(":") else ("path", [field])
             return ("struct", path, fields)
         return ("path", path)
-
-
-def literal(kind, word):
-    """The value of a number, a byte, a byte string or a truth value."""
-    if kind == "num":
-        digits, _, double = number_parts(word)
-        return float(digits.replace("_", "")) if double else int(digits.replace("_", ""), 0)
-    if kind in ("bytes", "byte"):
-        text = word[2:-1].encode().decode("unicode_escape").encode("latin1")
-        return list(text) if kind == "bytes" else text[0]
-    return word == "true"

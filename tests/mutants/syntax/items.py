@@ -97,7 +97,8 @@ class Items(Types):
         while not self.passes(";"):
             value += self.take()
         self.file.names.setdefault(name, self.file.key(name))
-        self.world.consts[self.file.key(name)] = (kind, value, self.file)
+        self.world.consts[self.file.key(name)] = (kind, value)
+        self.world.homes[self.file.key(name)] = self.file
 
     static_item = const_item
 

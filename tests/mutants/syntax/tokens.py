@@ -41,6 +41,17 @@ def number_parts(word):
     return digits, suffix, not digits.startswith("0x") and re.search(r"[.eE]", digits) is not None
 
 
+def literal(kind, word):
+    """The value of a number, a byte, a byte string or a truth value."""
+    if kind == "num":
+        digits, _, double = number_parts(word)
+        return float(digits.replace("_", "")) if double else int(digits.replace("_", ""), 0)
+    if kind in ("bytes", "byte"):
+        text = word[2:-1].encode().decode("unicode_escape").encode("latin1")
+        return list(text) if kind == "bytes" else text[0]
+    return word == "true"
+
+
 class Cursor:
     def __init__(self, path, text, found, at):
         self.path, self.text, self.tokens, self.at = path, text, found, at
