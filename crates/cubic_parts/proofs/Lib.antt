@@ -1,2 +1,3 @@
--- What opens every definition.
+-- The loop of Newton's steps, and what opens every definition.
+pub mod NewtonTurns
 pub mod Evaluated

@@ -1,5 +1,5 @@
 -- `cardano_single_real` of polynomial.rs: the root of x^3 + p*x + 2*half_q by Cardano's formula,
--- where it is the only real one. Document 01, module 3.
+-- where it is the only real one.
 use Rattle.std.specs.Prelude.{Float}
 use Rattle.ieee754.specs.CopySign.{copysign}
 use Rattle.ieee754.specs.Traced.{Traced, ◌>>=◌, !◌, ⊝◌, √◌, ◌⊗◌, ◌⊘◌, ◌⊖◌}

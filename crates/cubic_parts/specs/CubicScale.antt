@@ -1,5 +1,5 @@
 -- `cubic_variable_scale` of polynomial.rs, and the coefficients over that scale, with which
--- `polished_cubic_root` goes on. Document 01, module 3.
+-- `polished_cubic_root` goes on.
 use Rattle.std.specs.Prelude.{Bool, ◌&&◌, ◌||◌, Float, if◌then◌else◌}
 use Rattle.std.specs.Float.Ieee.{lt, eq}
 use Rattle.ieee754.specs.Literal.{plus_zero, one}

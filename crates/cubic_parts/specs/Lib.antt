@@ -1,7 +1,6 @@
 -- The definitions that the contracts of this crate cite, in reading order.
 pub mod Types
 pub mod Literal
-pub mod Steps
 pub mod FastCbrt
 pub mod Cardano
 pub mod CubicScale
