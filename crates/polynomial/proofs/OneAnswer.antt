@@ -1,8 +1,8 @@
--- Demand 1 of the mission for the root finders, as specs/OneAnswer.antt states it: the quadratic
+-- One answer of the root finders to every input, as specs/OneAnswer.antt states it: the quadratic
 -- answers with two roots of their kind, 4 or 5 (`quadratic-answer`), the cubic with one root, 4 or
 -- 6 (`cubic-answer`). So a quadratic that is not refused has two roots (`quadratic-two`), and such
 -- a cubic has one (`cubic-one`). Assumes nothing.
-use Rattle.std.specs.Prelude.{if◌then◌else◌}
+use Rattle.std.specs.Prelude.{if◌then◌else◌, Option, Some, None}
 use mathlib.Core.Path.{◌≡◌, refl, ap, subst}
 use mathlib.Core.Bool.{Bool, true, false, not, ◌&&◌, ◌||◌}
 use Prim.Native.Nat.{ℕ}
@@ -15,12 +15,11 @@ use lib.ListN.{length}
 use mir.Facts.{T_not-not}
 use Rattle.ieee754.specs.Literal.{plus_zero}
 use Rattle.ieee754.specs.Maximum.{max}
-use Rattle.ieee754.specs.Traced.{Traced, pure}
+use Rattle.ieee754.specs.Traced.{Traced, pure, with_some}
 use Rattle.ieee754.proofs.Tests.{either_way, not-both-left, not-both-right}
 use Rattle.cubic_parts.specs.CubicScale.{all_zero, cubic_variable_scale, normalised}
 use Rattle.cubic_parts.specs.CubicStart.{start_root}
 use Rattle.cubic_parts.specs.Newton.{newton_steps}
-use Rattle.cubic_parts.specs.Steps.{after}
 use Rattle.polynomial.specs.Answer.{no_root, number, values, kind}
 use Rattle.polynomial.specs.Quadratic.{discriminant_of, double_root, quadratic_pair}
 use Rattle.polynomial.specs.Quadratic.{quadratic_real_monic_computed, quadratic_real_monic}
@@ -30,8 +29,7 @@ use Rattle.polynomial.specs.OneAnswer.{below-zero, OneRoot, no_real_pair, nothin
 use Rattle.polynomial.specs.OneAnswer.{no_cubic_root, QuadraticAnswer, quadratic-4, quadratic-5}
 use Rattle.polynomial.specs.OneAnswer.{quadratic-roots, CubicAnswer, cubic-4, cubic-6}
 use Rattle.polynomial.specs.OneAnswer.{cubic-root}
-use Rattle.polynomial.specs.Types.{Monic, Roots, Two, Double, Lifted, One, Refused}
-use Rattle.polynomial.specs.Types.{Step, Next, Stop}
+use Rattle.polynomial.specs.Types.{Monic, Roots, Two, One, Refused}
 use Rattle.polynomial.proofs.CutToZero.{cut-zero, uncut-above}
 
 refused : (n : ℕ) → NoRoots n (Refused n)
@@ -124,13 +122,13 @@ unfolding of_bits
 zero-finite = tt
 
 -- from the start on
-started : (P : Roots → Type 0) (m : Monic) (scale : Float) (start : Step)
+started : (P : Roots → Type 0) (m : Monic) (scale : Float) (start : Option Float)
     → (T (nothing_from m scale start) → P no_root)
     → (T (not (nothing_from m scale start)) → (r : Roots) → OneRoot r → P r)
-    → P (after start (pure no_root) (rescaled_root m scale)).value
+    → P (with_some start (pure no_root) (rescaled_root m scale)).value
 unfolding nothing_from rescaled_root
-started P m scale Stop none some = none tt
-started P m scale (Next start) none some =
+started P m scale None none some = none tt
+started P m scale (Some start) none some =
     let root = mul binary64 (newton_steps 4 m start).value scale in
     either_way (λ (m : Traced Roots). P m.value) (finite root)
     (λ h. some (twice (finite root) h) (One root) (one root h))

@@ -1,18 +1,19 @@
--- What follows a root finder scales: from answers at the degree n, with what is made of the roots,
--- and of an answer without them, in a relation R of the two runs (`with_root-scales`,
--- `with_pair-scales`). Assumes nothing.
-use mathlib.Core.Bool.{Bool, true, false}
+-- What follows a root finder scales: from answers at the degree n, with what is made of the one
+-- root, and of an answer without it, in a relation R of the two runs (`with_root-scales`); a
+-- quadratic's pairs are at the degree n too (`pair_of-at`). Assumes nothing.
+use mathlib.Core.Bool.{true, false}
 use lib.IntN.{ℤ}
 use lib.Ieee.{Float}
 use Rattle.ieee754.specs.Traced.{Traced}
-use Rattle.ieee754.specs.Scaling.{Both, At}
-use Rattle.polynomial.specs.Answer.{pair_of, with_root, with_pair}
+use Rattle.ieee754.specs.Scaling.{Both, At, AtOption, some-at, none-at}
+use Rattle.polynomial.specs.Answer.{pair_of, with_root}
 use Rattle.polynomial.specs.RootScaling.{AtRoots, two_at, double-at, lifted-at}
-use Rattle.polynomial.specs.RootScaling.{one_at, refused-at}
+use Rattle.polynomial.specs.RootScaling.{one_at, refused-at, AtPair, pair-at}
 use Rattle.polynomial.specs.Types.{Roots}
 
-module _ {A : Type 0} {R : A → A → Type 0} {k n : ℤ} {none none' : Traced A} where
-  pub with_root-scales : {r r' : Roots} {f f' : Float → Traced A}
+module _ {k n : ℤ} where
+  pub with_root-scales : {A : Type 0} {R : A → A → Type 0} {none none' : Traced A} {r r' : Roots}
+      {f f' : Float → Traced A}
       → AtRoots k n r r'
       → Both R none none'
       → ((x x' : Float) → At k n x x' → Both R (f x) (f' x'))
@@ -23,14 +24,11 @@ module _ {A : Type 0} {R : A → A → Type 0} {k n : ℤ} {none none' : Traced 
   with_root-scales (one_at {x} {x'} h) none next = next x x' h
   with_root-scales (refused-at c) none next = none
 
-  pub with_pair-scales : {r r' : Roots} {f f' : Float → Float → Bool → Traced A}
+  pub pair_of-at : {r r' : Roots}
       → AtRoots k n r r'
-      → Both R none none'
-      → ((x x' y y' : Float) (lifted : Bool) → At k n x x' → At k n y y' →
-      Both R (f x y lifted) (f' x' y' lifted))
-      → Both R (with_pair (pair_of r) none f) (with_pair (pair_of r') none' f')
-  with_pair-scales (two_at {x} {x'} {y} {y'} h g) none next = next x x' y y' false h g
-  with_pair-scales (double-at {x} {x'} h) none next = next x x' x x' false h h
-  with_pair-scales (lifted-at {x} {x'} h) none next = next x x' x x' true h h
-  with_pair-scales (one_at x) none next = none
-  with_pair-scales (refused-at c) none next = none
+      → AtOption (AtPair k n) (pair_of r) (pair_of r')
+  pair_of-at (two_at x y) = some-at (pair-at false x y)
+  pair_of-at (double-at x) = some-at (pair-at false x x)
+  pair_of-at (lifted-at x) = some-at (pair-at true x x)
+  pair_of-at (one_at x) = none-at
+  pair_of-at (refused-at c) = none-at

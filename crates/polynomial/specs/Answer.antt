@@ -1,10 +1,9 @@
 -- What the answers of the root finders stand for, and what is made of them. An answer, `Roots`,
--- holds a quadratic's pair of roots, told apart by the discriminant (document 02, §8), one root of
--- a cubic, or the number by which document 01 names a refusal ("Questions, in order").
-use Rattle.std.specs.Prelude.{ℕ, Bool, true, false, List, [], ◌∷◌, Float}
+-- holds a quadratic's pair of roots, told apart by the discriminant, one root of a cubic, or the
+-- number of a refusal.
+use Rattle.std.specs.Prelude.{ℕ, true, false, List, [], ◌∷◌, Float, Option, Some, None}
 use Rattle.ieee754.specs.Traced.{Traced}
-use Rattle.polynomial.specs.Types.{Roots, Two, Double, Lifted, One, Refused}
-use Rattle.polynomial.specs.Types.{RootPair, Present, Absent}
+use Rattle.polynomial.specs.Types.{Roots, Two, Double, Lifted, One, Refused, RootPair}
 
 -- ---- the refusals of the root finders
 
@@ -45,26 +44,17 @@ kind (One x) = 0
 kind (Refused n) = 0
 
 -- ---- the pair, and whether it was lifted
-abbrev pub pair_of : Roots → RootPair
-pair_of (Two x y) = Present x y false
-pair_of (Double x) = Present x x false
-pair_of (Lifted x) = Present x x true
-pair_of (One x) = Absent
-pair_of (Refused n) = Absent
+abbrev pub pair_of : Roots → Option RootPair
+pair_of (Two x y) = Some (record { first = x; second = y; lifted = false })
+pair_of (Double x) = Some (record { first = x; second = x; lifted = false })
+pair_of (Lifted x) = Some (record { first = x; second = x; lifted = true })
+pair_of (One x) = None
+pair_of (Refused n) = None
 
--- ---- what follows a root finder: what `k` makes of the one root, or of a pair's two in their
---      order and whether they were lifted, and `none` for any other answer
+-- ---- what follows the cubic's: what `k` makes of the one root, and `none` for any other answer
 abbrev pub with_root : {A : Type 0} → Roots → Traced A → (Float → Traced A) → Traced A
 with_root (Two x y) none k = none
 with_root (Double x) none k = none
 with_root (Lifted x) none k = none
 with_root (One x) none k = k x
 with_root (Refused n) none k = none
-
-abbrev pub with_pair : {A : Type 0}
-    → RootPair
-    → Traced A
-    → (Float → Float → Bool → Traced A)
-    → Traced A
-with_pair (Present x y lifted) none k = k x y lifted
-with_pair Absent none k = none

@@ -1,8 +1,9 @@
--- Demand 1 of the mission, for the root finders: the quadratic answers with two roots, 4 or 5, the
--- cubic with one root, 4 or 6, each exactly where document 01 ("Questions, in order") says; the
--- quadratic's two are told apart as document 02, §8 says. That it holds of every input is
+-- One answer to every input, for the root finders: the quadratic answers with two roots, 4 or 5, the
+-- cubic with one root, 4 or 6, each exactly where `QuadraticAnswer` and `CubicAnswer` say; the
+-- quadratic's two are told apart by the discriminant. That it holds of every input is
 -- `quadratic-answer` and `cubic-answer` in the proofs.
 use Rattle.std.specs.Prelude.{◌≡◌, Bool, true, not, ◌&&◌, ◌||◌, [], ◌∷◌, ℕ, T, Float}
+use Rattle.std.specs.Prelude.{Option, Some, None}
 use Rattle.std.specs.Float.{binary64}
 use Rattle.std.specs.Float.Ieee.{mul, neg, lt, eq}
 use Rattle.std.specs.Float.Ieee.Scale.{finite}
@@ -13,7 +14,7 @@ use Rattle.cubic_parts.specs.CubicStart.{start_root}
 use Rattle.cubic_parts.specs.Newton.{newton_steps}
 use Rattle.polynomial.specs.Answer.{number, values, kind}
 use Rattle.polynomial.specs.Quadratic.{discriminant_of, band_of}
-use Rattle.polynomial.specs.Types.{Monic, Roots, Step, Next, Stop}
+use Rattle.polynomial.specs.Types.{Monic, Roots}
 
 -- ---- the kinds of answer
 -- refused with a number: there are no roots
@@ -49,9 +50,9 @@ no_real_pair b c =
 
 -- no start was found, or the root that the Newton steps lead to, at the scale of the coefficients,
 -- is not finite
-unfoldable pub nothing_from : Monic → Float → Step → Bool
-nothing_from m variable_scale Stop = true
-nothing_from m variable_scale (Next start) =
+unfoldable pub nothing_from : Monic → Float → Option Float → Bool
+nothing_from m variable_scale None = true
+nothing_from m variable_scale (Some start) =
     not (finite (mul binary64 (newton_steps 4 m start).value variable_scale))
 
 -- `polished_cubic_root` gives no root: not for three zeros, whose root is plus zero

@@ -1,11 +1,9 @@
--- `polished_cubic_root` of polynomial.rs: one real root of x^3 + b*x^2 + c*x + d. Document 01,
--- module 3.
+-- `polished_cubic_root` of polynomial.rs: one real root of x^3 + b*x^2 + c*x + d.
 use Rattle.std.specs.Prelude.{not, ◌||◌, Float, if◌then◌else◌}
 use Rattle.std.specs.Float.Ieee.Scale.{finite}
 use Rattle.ieee754.specs.Literal.{plus_zero}
-use Rattle.ieee754.specs.Traced.{Traced, pure, ◌>>=◌, !◌, ◌⊗◌}
+use Rattle.ieee754.specs.Traced.{Traced, pure, ◌>>=◌, with_some, !◌, ◌⊗◌}
 use Rattle.polynomial.specs.Answer.{not_finite, no_root}
-use Rattle.cubic_parts.specs.Steps.{after}
 use Rattle.cubic_parts.specs.CubicScale.{all_zero, cubic_variable_scale, normalised}
 use Rattle.cubic_parts.specs.CubicStart.{start_root}
 use Rattle.cubic_parts.specs.Newton.{newton_steps}
@@ -26,7 +24,7 @@ polished_root b c d = do
   variable_scale ← cubic_variable_scale b c d
   m ← normalised b c d variable_scale
   start ← start_root m
-  after start (pure no_root) (λ root. rescaled_root m variable_scale root)
+  with_some start (pure no_root) (λ root. rescaled_root m variable_scale root)
 
 unfoldable pub polished_cubic_root : Float → Float → Float → Traced Roots
 polished_cubic_root b c d =
