@@ -1,7 +1,9 @@
 //! A pose: nine rotation entries and three translation entries, from the world to the camera.
 ghost use Rattle.std.specs.Prelude.{◌≡◌};
+ghost use Rattle.frames.specs.Lent.{pose_at, entries};
 ghost use Rattle.frames.specs.Poses.{zero_pose, camera_point};
 
+use crate::lent::pose_at;
 use linalg::matrix3::Matrix3;
 use linalg::vector3::Vector3;
 
@@ -29,5 +31,29 @@ impl Pose {
         ensures { result ≡ (camera_point self world).value }
     {
         self.rotation * world + self.translation
+    }
+}
+
+/// The twelve numbers of a pose: the rotation by columns, then the translation.
+impl From<Pose> for [f64; 12] {
+    ghost from_gives = { λ pose numbers. numbers ≡ entries pose };
+
+    #[tactic(auto, unfolding(crate::specs::Lent::entries))]
+    fn from(pose: Pose) -> [f64; 12] {
+        let Pose {
+            rotation: r,
+            translation: t,
+        } = pose;
+        [
+            r.m00, r.m10, r.m20, r.m01, r.m11, r.m21, r.m02, r.m12, r.m22, t.x, t.y, t.z,
+        ]
+    }
+}
+
+impl From<[f64; 12]> for Pose {
+    ghost from_gives = { λ numbers pose. pose ≡ pose_at numbers 0 };
+
+    fn from(numbers: [f64; 12]) -> Self {
+        pose_at(&numbers, 0)
     }
 }
