@@ -152,7 +152,11 @@ NAMES = {
         "true": (0, True), "false": (0, False), "not": (1, lambda a: not a),
         "◌&&◌": (2, both), "◌||◌": (2, lambda a, b: bool(a) or bool(b)),
         "[]": (0, ()), "◌∷◌": (2, lambda x, xs: (x, *xs)),
+        "Some": (1, lambda x: ("Some", x)), "None": (0, ("None",)),
         **NATURAL,
+    },
+    "Rattle.std.specs.declared.cmp.Ordering.TheVariants": {
+        "Less": (0, -1), "Equal": (0, 0), "Greater": (0, 1),
     },
     "Prim.Native.Nat": NATURAL,
 }  # fmt: skip
