@@ -6,29 +6,29 @@ READINGS = {
     "the division of eigenvector_from_row_crosses under its test": (
         "crates/eigen/specs/RowCrosses.antt",
         """  unit ← vec_div v vector_norm
-  pure (if lt min_positive vector_norm && finite vector_norm then Normalised unit else Missing)
+  pure (if lt min_positive vector_norm && finite vector_norm then Some unit else None)
 """,
         """  if lt min_positive vector_norm && finite vector_norm then (do
     unit ← vec_div v vector_norm
-    pure (Normalised unit))
-      else pure Missing
+    pure (Some unit))
+      else pure None
 """,
     ),
     "the radicand's division under its test": (
         "crates/cubic_parts/specs/CubicStart.antt",
         """  radicand ← ⊝ ! value ⊘ ! denominator
-  if eq denominator plus_zero || lt radicand plus_zero then pure Stop
+  if eq denominator plus_zero || lt radicand plus_zero then pure None
       else do
         offset ← √ ! radicand
-        pure (Next offset)
+        pure (Some offset)
 """,
-        """  if eq denominator plus_zero then pure Stop
+        """  if eq denominator plus_zero then pure None
       else do
         radicand ← ⊝ ! value ⊘ ! denominator
-        if lt radicand plus_zero then pure Stop
+        if lt radicand plus_zero then pure None
             else do
               offset ← √ ! radicand
-              pure (Next offset)
+              pure (Some offset)
 """,
     ),
     "the leading share divided before its test": (
