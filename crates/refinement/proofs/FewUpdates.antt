@@ -2,9 +2,9 @@
 use Prim.Native.Nat.{ℕ, zero, suc, ◌+◌, ◌≤◌}
 use native.Mathlib.Omega.{arith}
 use lib.Ieee.{Float}
-use Rattle.ieee754.specs.Traced.{Traced, pure}
-use Rattle.refinement.specs.RefineDepths.{depth_step, after_step, refine_turns, refine_depths}
-use Rattle.refinement.specs.Types.{Vector3, SquaredEdges, Cosines, Refined, Step, Next, Stop}
+use Rattle.ieee754.specs.Traced.{Traced, pure, with_some}
+use Rattle.refinement.specs.RefineDepths.{depth_step, refine_turns, refine_depths}
+use Rattle.refinement.specs.Types.{Vector3, SquaredEdges, Cosines, Refined, Option, Some, None}
 
 -- ---- the updates of a refinement
 module _ (squares : SquaredEdges) (cosines : Cosines) where
@@ -18,12 +18,12 @@ module _ (squares : SquaredEdges) (cosines : Cosines) where
       rest_from : Vector3 → Traced Refined
       rest_from v = refine_turns n v squares cosines tolerance (u + 1)
 
-      go : (step : Step)
+      go : (step : Option Vector3)
           → ((v : Vector3) → (rest_from v).value.updates ≤ u + 1 + n)
-          → (after_step step (pure (record { depths = d; updates = u })) rest_from).value.updates
+          → (with_some step (pure (record { depths = d; updates = u })) rest_from).value.updates
           ≤ u + suc n
-      go Stop rest = omega arith
-      go (Next v) rest = let r = rest v in omega arith
+      go None rest = omega arith
+      go (Some v) rest = let r = rest v in omega arith
 
   pub updates-few : (d : Vector3) (n : ℕ) → (refine_depths d squares cosines n).value.updates ≤ n
   unfolding refine_depths

@@ -6,33 +6,17 @@ use Prim.Native.Nat.{ℕ, zero, suc, ◌+◌}
 use lib.IntN.{ℤ, pos}
 use lib.Ieee.{Float}
 use Rattle.ieee754.specs.Literal.{half, two, ten⁻¹⁰}
-use Rattle.ieee754.specs.Traced.{Traced}
-use Rattle.ieee754.specs.Scaling.{Both, At}
+use Rattle.ieee754.specs.Scaling.{Both, At, AtOption, some-at, none-at}
 use Rattle.ieee754_laws.proofs.Degrees.{same, null, !◌, ⊝◌, ◌⊗◌, ◌⊘◌, ◌⊕◌, ◌⊖◌, pure, if◌then◌else◌}
 use Rattle.ieee754_laws.proofs.Degrees.{◌>>=◌, choose, max-at, lt_same, eq-same, finite-same}
+use Rattle.ieee754_laws.proofs.Degrees.{with_some}
 use Rattle.linalg.specs.VectorScaling.{AtVector}
 use Rattle.linalg.proofs.VectorDegrees.{abs_sum-scales, all_finite-same}
-use Rattle.refinement.specs.Types.{Vector3, SquaredEdges, Cosines, Step, Next, Stop}
+use Rattle.refinement.specs.Types.{Vector3, SquaredEdges, Cosines}
 use Rattle.refinement.specs.RefineDepths.{depth_residual, if_finite, depth_update, depth_step}
-use Rattle.refinement.specs.RefineDepths.{after_step, refine_turns, refine_depths}
+use Rattle.refinement.specs.RefineDepths.{refine_turns, refine_depths}
 use Rattle.frames.specs.FrameScaling.{AtSquaredEdges}
 use Rattle.refinement.specs.RefinedScaling.{AtRefined}
-
--- both stop, or both go on
-pub data AtStep (k : ℤ) : Step → Step → Type 0 where
-  next-at : {v v' : Vector3} → AtVector k (pos 1) v v' → AtStep k (Next v) (Next v')
-  stop-at : AtStep k Stop Stop
-
--- what follows a turn, in any relation of the two runs
-module _ {A : Type 0} {R : A → A → Type 0} {k : ℤ} {none none' : Traced A}
-    {f f' : Vector3 → Traced A} where
-  pub after_step-scales : {s s' : Step}
-      → AtStep k s s'
-      → Both R none none'
-      → ((v v' : Vector3) → AtVector k (pos 1) v v' → Both R (f v) (f' v'))
-      → Both R (after_step s none f) (after_step s' none' f')
-  after_step-scales (next-at {v} {v'} h) none next = next v v' h
-  after_step-scales stop-at none next = none
 
 module _ {k : ℤ} (cosines : Cosines) where
   depth_residual-scales : {depths depths' : Vector3} {squares squares' : SquaredEdges}
@@ -54,14 +38,16 @@ module _ {k : ℤ} (cosines : Cosines) where
       ! d1 ⊗ ! d1 ⊖ ! same two ⊗ ! d1 ⊗ ! d2 ⊗ ! m12 ⊕ ! d2 ⊗ ! d2 ⊖ ! squares.a12 >>= λ _ _ r2.
       pure (record { x = r0; y = r1; z = r2 })
 
-  if_finite-scales : {v v' : Vector3} → AtVector k (pos 1) v v' → AtStep k (if_finite v) (if_finite v')
+  if_finite-scales : {v v' : Vector3}
+      → AtVector k (pos 1) v v'
+      → AtOption (AtVector k (pos 1)) (if_finite v) (if_finite v')
   unfolding if_finite
-  if_finite-scales v = choose (AtStep k) (ap not (all_finite-same v)) stop-at (next-at v)
+  if_finite-scales v = choose (AtOption (AtVector k (pos 1))) (ap not (all_finite-same v)) none-at (some-at v)
 
   depth_update-scales : {depths depths' residual residual' : Vector3}
       → AtVector k (pos 1) depths depths'
       → AtVector k (pos 2) residual residual'
-      → Both (AtStep k)
+      → Both (AtOption (AtVector k (pos 1)))
       (depth_update depths cosines residual)
       (depth_update depths' cosines residual')
   unfolding depth_update
@@ -82,7 +68,7 @@ module _ {k : ℤ} (cosines : Cosines) where
       ! d1 ⊖ ! d2 ⊗ ! m12 >>= λ _ _ x32.
       ! d2 ⊖ ! d1 ⊗ ! m12 >>= λ _ _ x33.
       ! x11 ⊗ ! x23 ⊗ ! x32 ⊕ ! x12 ⊗ ! x21 ⊗ ! x33 >>= λ _ _ denominator.
-      if ap₂ ◌||◌ (ap not (finite-same denominator)) (eq-same denominator null) then pure stop-at
+      if ap₂ ◌||◌ (ap not (finite-same denominator)) (eq-same denominator null) then pure none-at
       else (
       ! same half ⊘ ! denominator >>= λ _ _ inverse.
       ! d0 ⊕ (⊝ ! x23 ⊗ ! x32 ⊗ ! r0 ⊖ ! x12 ⊗ ! x33 ⊗ ! r1 ⊕ ! x12 ⊗ ! x23 ⊗ ! r2) ⊗ ! inverse >>=
@@ -99,14 +85,14 @@ module _ {k : ℤ} (cosines : Cosines) where
       (tolerance-at : At k (pos 2) tolerance tolerance') where
     depth_step-scales : {depths depths' : Vector3}
         → AtVector k (pos 1) depths depths'
-        → Both (AtStep k)
+        → Both (AtOption (AtVector k (pos 1)))
         (depth_step depths squares cosines tolerance)
         (depth_step depths' squares' cosines tolerance')
     unfolding depth_step
     depth_step-scales depths =
         depth_residual-scales depths squares-at >>= λ _ _ residual.
         abs_sum-scales residual >>= λ _ _ residual_norm.
-        if lt_same residual_norm tolerance-at then pure stop-at
+        if lt_same residual_norm tolerance-at then pure none-at
         else depth_update-scales depths residual
 
     refine_turns-scales : (n u : ℕ) {depths depths' : Vector3}
@@ -122,7 +108,7 @@ module _ {k : ℤ} (cosines : Cosines) where
         (record { depths = depths'; updates = u }) =
         record { depths = h; updates = refl } in
         depth_step-scales h >>= λ _ _ step.
-        after_step-scales step (pure now) (λ _ _ next. refine_turns-scales n (u + 1) next)
+        with_some step (pure now) (λ _ _ next. refine_turns-scales n (u + 1) next)
 
   pub refine_depths-scales : {depths depths' : Vector3} {squares squares' : SquaredEdges}
       (iterations : ℕ)

@@ -4,28 +4,28 @@ use Prim.Native.Nat.{ℕ, suc, ◌-◌, ◌+◌, ◌≤◌, ◌<◌}
 use native.Mathlib.Omega.{arith}
 use mathlib.Core.Path.{◌≡◌}
 use lib.Ieee.{Float}
-use Rattle.refinement.specs.Types.{Vector3, SquaredEdges, Cosines, Next, Stop}
+use Rattle.refinement.specs.Types.{Vector3, SquaredEdges, Cosines, Some, None}
 use Rattle.refinement.specs.RefineDepths.{depth_step, refine_turns}
 
 module _ (depths : Vector3) (squares : SquaredEdges) (cosines : Cosines) (tolerance : Float)
     (n u : ℕ) where
-  pub turns-stop : u < n
-      → (depth_step depths squares cosines tolerance).value ≡ Stop
-      → record { depths = depths; updates = u }
-      ≡ (refine_turns (n - u) depths squares cosines tolerance u).value
+  pub turns_stop : u < n
+      → (depth_step depths squares cosines tolerance).value ≡ None
+      → (refine_turns (n - u) depths squares cosines tolerance u).value
+      ≡ record { depths = depths; updates = u }
   unfolding refine_turns
-  turns-stop h e = let left : n - u ≡ suc (n - (u + 1)) = omega arith in rw (left, e)
+  turns_stop h e = let left : n - u ≡ suc (n - (u + 1)) = omega arith in rw (left, e)
 
   pub turns_go : (next : Vector3)
       → u < n
-      → (depth_step depths squares cosines tolerance).value ≡ Next next
-      → (refine_turns (n - (u + 1)) next squares cosines tolerance (u + 1)).value
-      ≡ (refine_turns (n - u) depths squares cosines tolerance u).value
+      → (depth_step depths squares cosines tolerance).value ≡ Some next
+      → (refine_turns (n - u) depths squares cosines tolerance u).value
+      ≡ (refine_turns (n - (u + 1)) next squares cosines tolerance (u + 1)).value
   unfolding refine_turns
   turns_go next h e = let left : n - u ≡ suc (n - (u + 1)) = omega arith in rw (left, e)
 
-  pub turns-end : n ≤ u
-      → record { depths = depths; updates = u }
-      ≡ (refine_turns (n - u) depths squares cosines tolerance u).value
+  pub turns_end : n ≤ u
+      → (refine_turns (n - u) depths squares cosines tolerance u).value
+      ≡ record { depths = depths; updates = u }
   unfolding refine_turns
-  turns-end h = let left : n - u ≡ 0 = omega arith in rw left
+  turns_end h = let left : n - u ≡ 0 = omega arith in rw left

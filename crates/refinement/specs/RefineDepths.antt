@@ -1,18 +1,13 @@
--- refine_depths of pose/p3p/common.rs; document 01, module 4. The test of the residual comes before
--- each update, and none follows the last. The updates are counted.
+-- refine_depths of pose/p3p/common.rs. The test of the residual comes before each update, and none
+-- follows the last. The updates are counted.
 use Rattle.std.specs.Prelude.{ℕ, zero, suc, ◌+◌, not, ◌||◌, Float, if◌then◌else◌}
 use Rattle.std.specs.Float.Ieee.{lt, eq}
 use Rattle.std.specs.Float.Ieee.Scale.{finite}
 use Rattle.ieee754.specs.Literal.{plus_zero, half, two, ten⁻¹⁰}
 use Rattle.ieee754.specs.Maximum.{max}
-use Rattle.ieee754.specs.Traced.{Traced, pure, ◌>>=◌, ◌⊗◌, ◌⊕◌, ◌⊖◌, ◌⊘◌, !◌, ⊝◌}
+use Rattle.ieee754.specs.Traced.{Traced, pure, ◌>>=◌, ◌⊗◌, ◌⊕◌, ◌⊖◌, ◌⊘◌, !◌, ⊝◌, with_some}
 use Rattle.linalg.specs.Vectors.{vector, abs_sum, all_finite}
-use Rattle.refinement.specs.Types.{Vector3, SquaredEdges, Cosines, Refined, Step, Next, Stop}
-
--- ---- what follows a turn: `none` where it stops, and else what `k` makes of the new depths
-abbrev pub after_step : {A : Type 0} → Step → Traced A → (Vector3 → Traced A) → Traced A
-after_step Stop none k = none
-after_step (Next depths) none k = k depths
+use Rattle.refinement.specs.Types.{Vector3, SquaredEdges, Cosines, Refined, Option, Some, None}
 
 -- d0 * d0 - 2.0 * d0 * d1 * m01 + d1 * d1 - a01,
 -- d0 * d0 - 2.0 * d0 * d2 * m02 + d2 * d2 - a02,
@@ -29,11 +24,11 @@ depth_residual depths squared_edges bearing_cosines =
       pure (vector r0 r1 r2)
 
 -- if candidate.iter().any(|value| !value.is_finite()) { break; } *depths = candidate;
-unfoldable pub if_finite : Vector3 → Step
-if_finite candidate = if not (all_finite candidate) then Stop else Next candidate
+unfoldable pub if_finite : Vector3 → Option Vector3
+if_finite candidate = if not (all_finite candidate) then None else Some candidate
 
 -- from `let x11 = d0 - d1 * m01;` to the new depths
-unfoldable pub depth_update : Vector3 → Cosines → Vector3 → Traced Step
+unfoldable pub depth_update : Vector3 → Cosines → Vector3 → Traced (Option Vector3)
 depth_update depths bearing_cosines residual =
     let record { x = d0; y = d1; z = d2 } = depths in
     let record { m01 = m01; m02 = m02; m12 = m12 } = bearing_cosines in
@@ -46,7 +41,7 @@ depth_update depths bearing_cosines residual =
       x32 ← ! d1 ⊖ ! d2 ⊗ ! m12
       x33 ← ! d2 ⊖ ! d1 ⊗ ! m12
       denominator ← ! x11 ⊗ ! x23 ⊗ ! x32 ⊕ ! x12 ⊗ ! x21 ⊗ ! x33
-      if not (finite denominator) || eq denominator plus_zero then pure Stop
+      if not (finite denominator) || eq denominator plus_zero then pure None
           else do
             inverse ← ! half ⊘ ! denominator
             c0 ← ! d0
@@ -58,11 +53,11 @@ depth_update depths bearing_cosines residual =
             pure (if_finite (vector c0 c1 c2))
 
 -- one turn of the loop
-unfoldable pub depth_step : Vector3 → SquaredEdges → Cosines → Float → Traced Step
+unfoldable pub depth_step : Vector3 → SquaredEdges → Cosines → Float → Traced (Option Vector3)
 depth_step depths squared_edges bearing_cosines residual_tolerance = do
   residual ← depth_residual depths squared_edges bearing_cosines
   residual_norm ← abs_sum residual
-  if lt residual_norm residual_tolerance then pure Stop
+  if lt residual_norm residual_tolerance then pure None
       else depth_update depths bearing_cosines residual
 
 -- the loop: at most n turns more, after `updates`
@@ -71,7 +66,7 @@ refine_turns zero depths squared_edges bearing_cosines residual_tolerance update
     pure (record { depths = depths; updates = updates })
 refine_turns (suc n) depths squared_edges bearing_cosines residual_tolerance updates = do
   step ← depth_step depths squared_edges bearing_cosines residual_tolerance
-  after_step step (pure (record { depths = depths; updates = updates })) (λ candidate.
+  with_some step (pure (record { depths = depths; updates = updates })) (λ candidate.
       refine_turns n candidate squared_edges bearing_cosines residual_tolerance (updates + 1))
 
 unfoldable pub refine_depths : Vector3 → SquaredEdges → Cosines → ℕ → Traced Refined

@@ -1,4 +1,4 @@
-// The refinement of three depths: from pose/p3p/common.rs, document 01, module 4.
+//! The refinement of three depths: from pose/p3p/common.rs.
 #![tactic(auto)]
 
 pub mod refine_depths;
