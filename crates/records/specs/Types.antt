@@ -4,3 +4,5 @@ pub use Rattle.linalg.specs.declared.vector3.Vector3.{Vector3}
 pub use Rattle.frames.specs.declared.frame.Frame.{Frame}
 pub use Rattle.records.specs.declared.record.Record.{Record}
 pub use Rattle.records.specs.declared.record.Record.TheVariants.{End, Stop, Skip, Accepted}
+pub use Rattle.records.specs.declared.refusal.RecordRefusal.{RecordRefusal}
+pub use Rattle.records.specs.declared.refusal.RecordRefusal.TheVariants.{Length, Version, Short}

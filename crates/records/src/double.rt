@@ -1,8 +1,8 @@
-// A double by the eight bytes of its bit pattern.
+//! A double by the eight bytes of its bit pattern.
 ghost use Rattle.std.specs.Prelude.{◌≡◌, ◌+◌, ◌≤◌, length};
 ghost use Rattle.records.specs.Format.{double_at};
 
-use crate::big_endian::number;
+use byteorder::{BigEndian, ByteOrder};
 use ieee754::bits::from_bits;
 
 // The double whose eight bytes begin at `at`.
@@ -10,5 +10,5 @@ pub(crate) fn double_at(s: &[u8], at: usize) -> f64
     requires { at + 8 ≤ length s.now }
     ensures { result ≡ double_at s.now at }
 {
-    from_bits(number(s, at, 8))
+    from_bits(BigEndian::read_u64(&s[at..]))
 }

@@ -1,4 +1,4 @@
-// A frame out of the bytes of its record.
+//! A frame out of the bytes of its record.
 ghost use Rattle.std.specs.Prelude.{◌≡◌, ◌+◌, ◌*◌, ◌≤◌, length};
 ghost use Rattle.records.specs.Format.{vector_at, frame_at};
 
@@ -9,6 +9,7 @@ use frames::world::World;
 use linalg::vector3::Vector3;
 
 // The vector at place `k` of those that begin at `at`.
+#[tactic(auto, unfolding(crate::specs::Format::vector_at))]
 fn vector_at(s: &[u8], at: usize, k: usize) -> Vector3
     requires { at + 24 * k + 24 ≤ length s.now }
     ensures { result ≡ vector_at s.now at k }
@@ -22,24 +23,23 @@ fn vector_at(s: &[u8], at: usize, k: usize) -> Vector3
 }
 
 // The frame whose eight vectors begin at `at`.
+#[tactic(auto, unfolding(crate::specs::Format::frame_at))]
 pub(crate) fn frame_at(s: &[u8], at: usize) -> Frame
     requires { at + 192 ≤ length s.now }
     ensures { result ≡ frame_at s.now at }
 {
-    let p0 = vector_at(s, at, 0);
-    let p1 = vector_at(s, at, 1);
-    let p2 = vector_at(s, at, 2);
-    let f0 = vector_at(s, at, 3);
-    let f1 = vector_at(s, at, 4);
-    let f2 = vector_at(s, at, 5);
-    let target = vector_at(s, at, 6);
-    let bearing = vector_at(s, at, 7);
-    let world = World { p0, p1, p2 };
-    let bearings = Bearings { f0, f1, f2 };
     Frame {
-        world,
-        bearings,
-        target,
-        bearing,
+        world: World {
+            p0: vector_at(s, at, 0),
+            p1: vector_at(s, at, 1),
+            p2: vector_at(s, at, 2),
+        },
+        bearings: Bearings {
+            f0: vector_at(s, at, 3),
+            f1: vector_at(s, at, 4),
+            f2: vector_at(s, at, 5),
+        },
+        target: vector_at(s, at, 6),
+        bearing: vector_at(s, at, 7),
     }
 }
