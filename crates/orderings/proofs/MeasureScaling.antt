@@ -3,12 +3,11 @@
 -- basis has its rows at -1, -1 and -2, wherever it comes from. Assumes nothing.
 use mathlib.Core.Path.{◌≡◌, refl}
 use lib.IntN.{ℤ, pos, negsuc}
-use Rattle.ieee754.specs.Scaling.{Both}
+use Rattle.ieee754.specs.Scaling.{Both, AtOption, some-at, none-at}
 use Rattle.ieee754_laws.proofs.Degrees.{pure, ◌>>=◌, ◌>>≡◌, alike}
 use Rattle.linalg.specs.VectorScaling.{AtVector, AtRows}
 use Rattle.frames.specs.FrameScaling.{AtWorld, AtSquaredEdges}
 use Rattle.orderings.specs.Angles.{cosines, squared_sines, bearing_factors}
-use Rattle.p3p_common.specs.PoseScaling.{AtBasis, inverse-at, singular-at}
 use Rattle.p3p_common.proofs.BasisScaling.{world_basis_inverse-scales}
 use Rattle.orderings.specs.Basis.{basis_of}
 use Rattle.orderings.specs.Measure.{measure_with, measure, measured_cubic}
@@ -29,11 +28,11 @@ pub data AtSource (k : ℤ) : Source → Source → Type 0 where
 
 pub basis_of-scales : {k : ℤ} {s s' : Source}
     → AtSource k s s'
-    → Both (AtBasis k) (basis_of s) (basis_of s')
+    → Both (AtOption (AtRows k (negsuc 0) (negsuc 0) (negsuc 1))) (basis_of s) (basis_of s')
 unfolding basis_of
 basis_of-scales (made_at d e) = world_basis_inverse-scales d e
-basis_of-scales (stored_at m) = pure (inverse-at m)
-basis_of-scales lacking-at = pure singular-at
+basis_of-scales (stored_at m) = pure (some-at m)
+basis_of-scales lacking-at = pure none-at
 
 pub record AtMeasured (k : ℤ) (m m' : Measured) : Type 0 where
   pub p0 : AtVector k (pos 1) m.p0 m'.p0

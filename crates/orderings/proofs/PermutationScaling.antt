@@ -2,7 +2,7 @@
 use mathlib.Core.Path.{◌≡◌, refl}
 use mathlib.Core.List.{List, Forall₂}
 use lib.IntN.{ℤ, pos}
-use lib.Ieee.{lt}
+use lib.Ieee.{Float, lt}
 use Rattle.ieee754.specs.Scaling.{Both}
 use Rattle.ieee754_laws.proofs.Degrees.{pure, ◌>>=◌, choose}
 use Rattle.linalg.specs.VectorScaling.{AtVector}
@@ -15,6 +15,9 @@ pub record AtConditioned (k : ℤ) (c c' : Conditioned) : Type 0 where
   pub condition : c.condition ≡ c'.condition
   pub world : AtWorld k c.world c'.world
   pub bearings : c.bearings ≡ c'.bearings
+
+abbrev condition : Conditioned → Float
+condition c = c.condition
 
 module _ {k : ℤ} where
   with_condition-scales : {p p' q q' r r' : Vector3}
@@ -33,7 +36,7 @@ module _ {k : ℤ} where
   better-scales : {b b' c c' : Conditioned}
       → AtConditioned k b b'
       → AtConditioned k c c'
-      → AtConditioned k (better b c) (better b' c')
+      → AtConditioned k (better condition b c) (better condition b' c')
   unfolding better
   better-scales best next =
       choose (AtConditioned k) (λ i. lt (best.condition i) (next.condition i)) next best
@@ -41,11 +44,12 @@ module _ {k : ℤ} where
   best_of-scales : {b b' : Conditioned} {cs cs' : List Conditioned}
       → AtConditioned k b b'
       → Forall₂ (AtConditioned k) cs cs'
-      → AtConditioned k (best_of b cs) (best_of b' cs')
+      → AtConditioned k (best_of condition b cs) (best_of condition b' cs')
   unfolding best_of
   best_of-scales best Forall₂.nil = best
   best_of-scales {b = b} {b' = b'} best (Forall₂.cons {a = a} {b = a'} next rest) =
-      best_of-scales {b = better b a} {b' = better b' a'} (better-scales best next) rest
+      best_of-scales {b = better condition b a} {b' = better condition b' a'}
+      (better-scales best next) rest
 
   pub best_permutation-scales : {w w' : World} (bearings : Bearings)
       → AtWorld k w w'

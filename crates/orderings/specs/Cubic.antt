@@ -1,6 +1,6 @@
 -- The coefficients of the cubic whose root gives the singular matrix (`solve_ordered` and
 -- `leading_cubic_condition` of lambdatwist.rs), and the test by which an ordering of the points is
--- unusable: `solve_ordered`, up to the retry, and document 01, question 2.
+-- unusable: `solve_ordered`, up to the retry.
 use Rattle.std.specs.Prelude.{Bool, true, not, Float, if◌then◌else◌}
 use Rattle.std.specs.Float.Ieee.{le}
 use Rattle.std.specs.Float.Ieee.Scale.{finite}

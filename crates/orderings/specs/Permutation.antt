@@ -1,7 +1,7 @@
 -- The choice of `solve_best_conditioned_permutation` (lambdatwist.rs): of the five other orderings
 -- of the points, the one whose leading coefficient is the largest beside the others. A later one
 -- replaces the best only if its condition is greater, so a NaN in the first stays.
-use Rattle.std.specs.Prelude.{List, [], ◌∷◌, if◌then◌else◌}
+use Rattle.std.specs.Prelude.{List, [], ◌∷◌, Float, if◌then◌else◌}
 use Rattle.std.specs.Float.Ieee.{lt}
 use Rattle.ieee754.specs.Traced.{Traced, pure, ◌>>=◌}
 use Rattle.frames.specs.Points.{points, rays}
@@ -19,14 +19,14 @@ with_condition p0 p1 p2 f0 f1 f2 =
       condition ← leading_cubic_condition world bearings
       pure (record { condition = condition; world = world; bearings = bearings })
 
--- condition > *best_condition
-unfoldable pub better : Conditioned → Conditioned → Conditioned
-better best next = if lt best.condition next.condition then next else best
+-- condition > *best_condition, of two that have a condition
+unfoldable pub better : {A : Type 0} → (A → Float) → A → A → A
+better condition best next = if lt (condition best) (condition next) then next else best
 
 -- the best of a first and those that follow it
-unfoldable pub best_of : Conditioned → List Conditioned → Conditioned
-best_of best [] = best
-best_of best (next ∷ rest) = best_of (better best next) rest
+unfoldable pub best_of : {A : Type 0} → (A → Float) → A → List A → A
+best_of condition best [] = best
+best_of condition best (next ∷ rest) = best_of condition (better condition best next) rest
 
 -- for permutation in [[0, 2, 1], [1, 0, 2], [1, 2, 0], [2, 0, 1], [2, 1, 0]] { .. }
 unfoldable pub best_permutation : P3pInput → Traced Conditioned
@@ -39,4 +39,4 @@ best_permutation input =
       c120 ← with_condition p1 p2 p0 f1 f2 f0
       c201 ← with_condition p2 p0 p1 f2 f0 f1
       c210 ← with_condition p2 p1 p0 f2 f1 f0
-      pure (best_of c021 (c102 ∷ c120 ∷ c201 ∷ c210 ∷ []))
+      pure (best_of (λ c. c.condition) c021 (c102 ∷ c120 ∷ c201 ∷ c210 ∷ []))

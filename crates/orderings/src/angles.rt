@@ -1,6 +1,6 @@
-// What solve_ordered and leading_cubic_condition (lambdatwist.rs) take from the bearings: the
-// cosines of the angles between them, what the cubic's coefficients need of those, and the factors
-// b01, b02 and b12 of the matrix and the charts.
+//! What solve_ordered and leading_cubic_condition (lambdatwist.rs) take from the bearings: the
+//! cosines of the angles between them, what the cubic's coefficients need of those, and the factors
+//! b01, b02 and b12 of the matrix and the charts.
 ghost use Rattle.std.specs.Prelude.{◌≡◌};
 ghost use Rattle.orderings.specs.Angles.{cosine, cosines, squared_sines, bearing_factors};
 
@@ -9,7 +9,7 @@ use frames::cosines::Cosines;
 use ieee754::clamp::clamp;
 use linalg::vector3::Vector3;
 
-// s20, s12 and s01 are squared sines.
+/// s20, s12 and s01 are squared sines.
 #[derive(Clone, Copy)]
 pub struct SquaredSines {
     pub triple: f64,
@@ -25,34 +25,34 @@ pub struct Factors {
     pub b12: f64,
 }
 
+#[tactic(auto, unfolding(crate::specs::Angles::cosine))]
 pub fn cosine(f: Vector3, g: Vector3) -> f64
     ensures { result ≡ (cosine f g).value }
 {
     clamp(f.dot(g), -1.0, 1.0)
 }
 
+#[tactic(auto, unfolding(crate::specs::Angles::cosines))]
 pub fn cosines(bearings: Bearings) -> Cosines
     ensures { result ≡ (cosines bearings).value }
 {
-    let f0 = bearings.f0;
-    let f1 = bearings.f1;
-    let f2 = bearings.f2;
-    let c01 = cosine(f0, f1);
-    let c12 = cosine(f1, f2);
-    let c20 = cosine(f2, f0);
+    let Bearings { f0, f1, f2 } = bearings;
     Cosines {
-        m01: c01,
-        m02: c20,
-        m12: c12,
+        m01: cosine(f0, f1),
+        m12: cosine(f1, f2),
+        m02: cosine(f2, f0),
     }
 }
 
+#[tactic(auto, unfolding(crate::specs::Angles::squared_sines))]
 pub fn squared_sines(cosines: Cosines) -> SquaredSines
     ensures { result ≡ (squared_sines cosines).value }
 {
-    let c01 = cosines.m01;
-    let c20 = cosines.m02;
-    let c12 = cosines.m12;
+    let Cosines {
+        m01: c01,
+        m02: c20,
+        m12: c12,
+    } = cosines;
     SquaredSines {
         triple: c01 * c12 * c20 - 1.0,
         s20: 1.0 - c20 * c20,
@@ -61,6 +61,7 @@ pub fn squared_sines(cosines: Cosines) -> SquaredSines
     }
 }
 
+#[tactic(auto, unfolding(crate::specs::Angles::bearing_factors))]
 pub fn bearing_factors(cosines: Cosines) -> Factors
     ensures { result ≡ (bearing_factors cosines).value }
 {

@@ -1,6 +1,10 @@
-// How large the leading coefficient of the cubic is beside the largest: leading_cubic_condition of
-// lambdatwist.rs.
+//! How large the leading coefficient of the cubic is beside the largest: leading_cubic_condition of
+//! lambdatwist.rs.
 ghost use Rattle.std.specs.Prelude.{◌≡◌};
+ghost use Rattle.std.specs.List.{fold};
+ghost use Rattle.ieee754.specs.Literal.{plus_zero};
+ghost use Rattle.ieee754.specs.Magnitude.{abs};
+ghost use Rattle.ieee754.specs.Maximum.{max};
 ghost use Rattle.orderings.specs.Condition.{folded_scale, leading_share, condition_of_edges};
 ghost use Rattle.orderings.specs.Condition.{leading_cubic_condition};
 
@@ -14,27 +18,36 @@ use ieee754::abs::abs;
 use ieee754::is_finite::is_finite;
 use ieee754::max::max;
 
+/// The largest magnitude, from plus zero on.
+fn largest(values: &[f64]) -> f64
+    ensures { result ≡ fold (λ scale value. max scale (abs value)) plus_zero values.now }
+{
+    values
+        .iter()
+        .fold(0.0, |scale, value| max(scale, abs(*value)))
+}
+
+#[tactic(auto, unfolding(crate::specs::Condition::folded_scale))]
 pub fn folded_scale(c: Coefficients) -> f64
     ensures { result ≡ folded_scale c }
 {
-    let m3 = abs(c.cubic3);
-    let m2 = abs(c.cubic2);
-    let m1 = abs(c.cubic1);
-    let m0 = abs(c.cubic0);
-    max(max(max(max(0.0, m3), m2), m1), m0)
+    largest(&[c.cubic3, c.cubic2, c.cubic1, c.cubic0])
 }
 
+#[tactic(auto, unfolding(crate::specs::Condition::leading_share))]
 pub fn leading_share(c: Coefficients) -> f64
     ensures { result ≡ (leading_share c).value }
 {
     let scale = folded_scale(c);
-    if (scale == 0.0) | !is_finite(scale) {
-        return 0.0;
+    if scale == 0.0 || !is_finite(scale) {
+        0.0
+    } else {
+        abs(c.cubic3) / scale
     }
-    abs(c.cubic3) / scale
 }
 
-// By squared edges that are at hand.
+/// By squared edges that are at hand.
+#[tactic(auto, unfolding(crate::specs::Condition::condition_of_edges))]
 pub fn condition_of_edges(squares: SquaredEdges, bearings: Bearings) -> f64
     ensures { result ≡ (condition_of_edges squares bearings).value }
 {
@@ -42,6 +55,7 @@ pub fn condition_of_edges(squares: SquaredEdges, bearings: Bearings) -> f64
     leading_share(cubic_coefficients(squares, sines))
 }
 
+#[tactic(auto, unfolding(crate::specs::Condition::leading_cubic_condition))]
 pub fn leading_cubic_condition(world: World, bearings: Bearings) -> f64
     ensures { result ≡ (leading_cubic_condition world bearings).value }
 {

@@ -1,6 +1,6 @@
-// The coefficients of the cubic whose root gives the singular matrix (solve_ordered and
-// leading_cubic_condition of lambdatwist.rs), and the test by which an ordering of the points is
-// unusable: solve_ordered, up to the retry, and document 01, question 2.
+//! The coefficients of the cubic whose root gives the singular matrix (solve_ordered and
+//! leading_cubic_condition of lambdatwist.rs), and the test by which an ordering of the points is
+//! unusable: solve_ordered, up to the retry.
 ghost use Rattle.std.specs.Prelude.{◌≡◌};
 ghost use Rattle.orderings.specs.Cubic.{cubic_coefficients, coefficient_scale, is_unusable};
 
@@ -18,16 +18,17 @@ pub struct Coefficients {
     pub cubic0: f64,
 }
 
+#[tactic(auto, unfolding(crate::specs::Cubic::cubic_coefficients))]
 pub fn cubic_coefficients(squares: SquaredEdges, sines: SquaredSines) -> Coefficients
     ensures { result ≡ (cubic_coefficients squares sines).value }
 {
-    let a01 = squares.a01;
-    let a02 = squares.a02;
-    let a12 = squares.a12;
-    let triple = sines.triple;
-    let s20 = sines.s20;
-    let s12 = sines.s12;
-    let s01 = sines.s01;
+    let SquaredEdges { a01, a02, a12 } = squares;
+    let SquaredSines {
+        triple,
+        s20,
+        s12,
+        s01,
+    } = sines;
     Coefficients {
         cubic3: a02 * (a12 * s20 - a02 * s12),
         cubic2: 2.0 * triple * a12 * a02 + a02 * (2.0 * a01 + a02) * s12 + a12 * (a12 - a01) * s20,
@@ -36,19 +37,18 @@ pub fn cubic_coefficients(squares: SquaredEdges, sines: SquaredSines) -> Coeffic
     }
 }
 
+#[tactic(auto, unfolding(crate::specs::Cubic::coefficient_scale))]
 pub fn coefficient_scale(c: Coefficients) -> f64
     ensures { result ≡ coefficient_scale c }
 {
-    let m3 = abs(c.cubic3);
-    let m2 = abs(c.cubic2);
-    let m1 = abs(c.cubic1);
-    let m0 = abs(c.cubic0);
-    max(max(max(m3, m2), m1), m0)
+    let scale = max(abs(c.cubic3), abs(c.cubic2));
+    max(max(scale, abs(c.cubic1)), abs(c.cubic0))
 }
 
+#[tactic(auto, unfolding(crate::specs::Cubic::is_unusable))]
 pub fn is_unusable(c: Coefficients) -> bool
     ensures { result ≡ (is_unusable c).value }
 {
     let scale = coefficient_scale(c);
-    !is_finite(scale) | (abs(c.cubic3) <= scale * f64::EPSILON * 64.0)
+    !is_finite(scale) || abs(c.cubic3) <= scale * f64::EPSILON * 64.0
 }

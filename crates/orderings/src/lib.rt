@@ -1,6 +1,5 @@
-// What is measured of the points and bearings in one order, the cubic of that and its condition,
-// and the best conditioned of the other orders: from pose/p3p/lambdatwist.rs, document 01, module
-// 7.
+//! What is measured of the points and bearings in one order, the cubic of that and its condition,
+//! and the best conditioned of the other orders: from pose/p3p/lambdatwist.rs.
 #![tactic(auto)]
 
 pub mod angles;

@@ -1,5 +1,5 @@
-// What solve_ordered (lambdatwist.rs) measures of the points and bearings in the order in which
-// they are solved, and the cubic's coefficients of that.
+//! What solve_ordered (lambdatwist.rs) measures of the points and bearings in the order in which
+//! they are solved, and the cubic's coefficients of that.
 ghost use Rattle.std.specs.Prelude.{◌≡◌};
 ghost use Rattle.orderings.specs.Measure.{measure_with, measure, measured_cubic};
 
@@ -13,8 +13,8 @@ use frames::squared_edges::SquaredEdges;
 use frames::world::World;
 use linalg::vector3::Vector3;
 
-// The first point, where the inverse basis comes from, the squared edges, the bearings, their
-// cosines and the factors of these.
+/// The first point, where the inverse basis comes from, the squared edges, the bearings, their
+/// cosines and the factors of these.
 #[derive(Clone, Copy)]
 pub struct Measured {
     pub p0: Vector3,
@@ -25,7 +25,8 @@ pub struct Measured {
     pub factors: Factors,
 }
 
-// By squared edges that are at hand.
+/// By squared edges that are at hand.
+#[tactic(auto, unfolding(crate::specs::Measure::measure_with))]
 pub fn measure_with(
     p0: Vector3,
     source: Source,
@@ -35,33 +36,28 @@ pub fn measure_with(
     ensures { result ≡ (measure_with p0 source squares bearings).value }
 {
     let cosines = cosines(bearings);
-    let factors = bearing_factors(cosines);
     Measured {
         p0,
         source,
         squares,
         bearings,
         cosines,
-        factors,
+        factors: bearing_factors(cosines),
     }
 }
 
+#[tactic(auto, unfolding(crate::specs::Measure::measure))]
 pub fn measure(world: World, bearings: Bearings) -> Measured
     ensures { result ≡ (measure world bearings).value }
 {
-    let p0 = world.p0;
     let edges = edge_vectors(world);
-    let d01 = edges.d01;
-    let d02 = edges.d02;
-    let squares = squared_edges(edges);
-    measure_with(p0, Source::Made(d01, d02), squares, bearings)
+    let source = Source::Made(edges.d01, edges.d02);
+    measure_with(world.p0, source, squared_edges(edges), bearings)
 }
 
+#[tactic(auto, unfolding(crate::specs::Measure::measured_cubic))]
 pub fn measured_cubic(measured: Measured) -> Coefficients
     ensures { result ≡ (measured_cubic measured).value }
 {
-    let cosines = measured.cosines;
-    let squares = measured.squares;
-    let sines = squared_sines(cosines);
-    cubic_coefficients(squares, sines)
+    cubic_coefficients(measured.squares, squared_sines(measured.cosines))
 }
