@@ -168,6 +168,8 @@ class Expressions(Marks):
         if kind == "bytes":
             self.mark("constant", start, end, changed_bytes(word))
             return ("ref", ("array", "u8", None))
+        if kind == "str":
+            return None
         if kind == "byte":
             self.mark("constant", start, end, ["b' '"] if word != "b' '" else ["b','"])
             return "u8"

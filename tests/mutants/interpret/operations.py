@@ -95,6 +95,8 @@ BUILT_IN = {
     "u64::from_be_bytes": lambda s: int.from_bytes(bytes(s), "big"),
     "u16::from_be_bytes": lambda s: int.from_bytes(bytes(s), "big"),
     "u32::from_be_bytes": lambda s: int.from_bytes(bytes(s), "big"),
+    "BigEndian::read_u64": lambda s: int.from_bytes(bytes(s[:8]), "big"),
+    "BigEndian::read_u16": lambda s: int.from_bytes(bytes(s[:2]), "big"),
     "u8::try_from": narrowed(8),
     "u32::try_from": narrowed(32),
     "i32::try_from": lambda n: Variant(RESULT, "Ok", [n])

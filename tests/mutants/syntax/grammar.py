@@ -10,7 +10,7 @@ class Grammar(Types):
 
     def primary(self):
         kind, word = self.tokens[self.at][:2]
-        if kind in ("num", "bytes", "byte") or word in ("true", "false"):
+        if kind in ("num", "bytes", "byte", "str") or word in ("true", "false"):
             return self.value()
         if self.passes("("):
             inner = self.expression()

@@ -19,6 +19,8 @@ FUNCTIONS = {
     "u64::leading_zeros": (["u64"], "u32"),
     "u64::trailing_zeros": (["u64"], "u32"),
     "u64::count_ones": (["u64"], "u32"),
+    "BigEndian::read_u64": ([("ref", ("array", "u8", None))], "u64"),
+    "BigEndian::read_u16": ([("ref", ("array", "u8", None))], "u16"),
 }
 # The result of a method; "own" is the type of what it is called of.
 METHODS = {

@@ -46,6 +46,8 @@ def literal(kind, word):
     if kind == "num":
         digits, _, double = number_parts(word)
         return float(digits.replace("_", "")) if double else int(digits.replace("_", ""), 0)
+    if kind == "str":
+        return word
     if kind in ("bytes", "byte"):
         text = word[2:-1].encode().decode("unicode_escape").encode("latin1")
         return list(text) if kind == "bytes" else text[0]
