@@ -4,7 +4,7 @@
 // numbers so near to it round alike, that is the answer; elsewhere all digits are added
 // (`add_scaled`). Nothing here branches on the signs or on the order of the exponents, which no
 // predictor foresees.
-ghost use Rattle.std.specs.Prelude.{◌≡◌, ◌+◌, ◌*◌, ◌/◌, ◌^◌, ◌<◌, if◌then◌else◌};
+ghost use Rattle.std.specs.Prelude.{◌≡◌, ◌+◌, ◌*◌, ◌/◌, ◌^◌, ◌<◌, IfSome, if◌then◌else◌};
 ghost use Rattle.ieee754_parts.specs.Leading.{Settles};
 ghost use Rattle.ieee754_parts.specs.Rounded.{summed, IsProduct};
 ghost use Rattle.ieee754_parts.specs.Unpacked.{IsSignificand};
@@ -16,7 +16,6 @@ use crate::pack::pack;
 use crate::sum::add_scaled;
 use crate::unpack::Unpacked;
 use crate::wide::{Wide, shift_right};
-use std::num::wrapping_sub_u64;
 
 // 2^60: a word above it has 61 digits or more.
 const LEAST: u64 = 0x1000_0000_0000_0000;
@@ -24,15 +23,8 @@ const LEAST: u64 = 0x1000_0000_0000_0000;
 // 2^53: past the numbers of 53 digits.
 const PAST: u64 = 0x20_0000_0000_0000;
 
-// One of two words.
-fn choose(first: bool, a: u64, b: u64) -> u64
-    ensures { result ≡ (if first then a else b) }
-{
-    if first { a } else { b }
-}
-
-// One of two signs.
-fn choose_sign(first: bool, a: bool, b: bool) -> bool
+// One of two words or signs.
+fn choose<T: Copy>(first: bool, a: T, b: T) -> T
     ensures { result ≡ (if first then a else b) }
 {
     if first { a } else { b }
@@ -51,39 +43,37 @@ fn signed_sum(same: bool, a: u64, b: u64) -> u64
     requires { (a < 2 ^ 62) × (b < 2 ^ 62) }
     ensures { result < 2 ^ 63 → result + (if same then 0 else b) ≡ a + (if same then b else 0) }
 {
-    if same { a + b } else { wrapping_sub_u64(a, b) }
+    if same { a + b } else { a.wrapping_sub(b) }
 }
 
-// The multiple of 2^10 that is nearest to each number from w to w + m, over 2^10; 0 where there is
-// no such or it has more than 53 digits.
-fn nearest_to_all(w: u64, m: u64) -> u64
+// The multiple of 2^10 that is nearest to each number from w to w + m, over 2^10, if there is one
+// and it has at most 53 digits.
+fn nearest_to_all(w: u64, m: u64) -> Option<u64>
     requires { (w < 2 ^ 63) × (m < 2 ^ 9) }
-    ensures { 0 < result → (result < 2 ^ 53) × (result * 2 ^ 10 < w + 2 ^ 9) × (w + m < result * 2 ^ 10 + 2 ^ 9) }
+    ensures { IfSome result
+        (λ q. (q < 2 ^ 53) × (q * 2 ^ 10 < w + 2 ^ 9) × (w + m < q * 2 ^ 10 + 2 ^ 9)) }
 {
     let q = (w + m + 0x200) / 0x400;
-    if ((w + 0x1ff) / 0x400 == q) & (q < PAST) {
-        q
-    } else {
-        0
-    }
+    (((w + 0x1ff) / 0x400 == q) & (q < PAST)).then_some(q)
 }
 
-// What all numbers from (sum - 1) * 2^exp to (sum + 2) * 2^exp, over 2^2166, round to. The
-// significand is 0 where they do not round alike, or where that is not told: for a sum of few
-// digits, which are too few to round, and one below the normal numbers.
-fn settle(sum: u64, exp: u64) -> Scaled
+// What all numbers from (sum - 1) * 2^exp to (sum + 2) * 2^exp, over 2^2166, round to. There is
+// none where they do not round alike, or where that is not told: for a sum of few digits, which are
+// too few to round, and one below the normal numbers.
+fn settle(sum: u64, exp: u64) -> Option<Scaled>
     requires { exp < 4900 }
-    ensures { 0 < result.sig → Settles sum exp result }
+    ensures { IfSome result (Settles sum exp) }
 {
     if (LEAST < sum) & (sum < SIGN) & (1083 < exp) {
         let low = sum - 1;
-        let n = u64::leading_zeros(low) as u64 - 1;
-        Scaled {
-            sig: nearest_to_all(low << n, 3 << n),
+        let n = u64::from(low.leading_zeros()) - 1;
+        let sig = nearest_to_all(low << n, 3 << n)?;
+        Some(Scaled {
+            sig,
             exp: exp - n - 1082,
-        }
+        })
     } else {
-        Scaled { sig: 0, exp: 0 }
+        None
     }
 }
 
@@ -103,14 +93,11 @@ pub fn add_leading(negative: bool, p: Wide, p_exp: u64, c: Unpacked) -> f64
     let exp = choose(first, a_exp, b_exp);
     let rest = shift(choose(first, b, a), exp - choose(first, b_exp, a_exp));
     let sum = signed_sum(negative == c.negative, choose(first, a, b), rest);
-    let settled = settle(sum, exp);
-    if settled.sig == 0 {
-        add_scaled(negative, p, p_exp, c)
-    } else {
-        pack(
-            choose_sign(first, negative, c.negative),
-            settled.sig,
-            settled.exp,
-        )
+    match settle(sum, exp) {
+        Some(settled) => {
+            let negative = choose(first, negative, c.negative);
+            pack(negative, settled.sig, settled.exp)
+        }
+        None => add_scaled(negative, p, p_exp, c),
     }
 }

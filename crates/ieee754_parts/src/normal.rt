@@ -21,10 +21,10 @@ pub fn normalise(sig: u64, exp: u64) -> Scaled
     if LEADING <= sig {
         Scaled { sig, exp: exp + 52 }
     } else {
-        let zeros = u64::leading_zeros(sig);
+        let zeros = sig.leading_zeros();
         Scaled {
             sig: sig << (zeros - 11),
-            exp: 63 - zeros as u64,
+            exp: 63 - u64::from(zeros),
         }
     }
 }
@@ -35,14 +35,14 @@ pub(crate) fn normalise_wide(v: Wide, exp: u64) -> Scaled
     ensures { IsRoundable v exp result }
 {
     if v.hi != 0 {
-        let n = 64 - u64::leading_zeros(v.hi) as u64;
+        let n = 64 - u64::from(v.hi.leading_zeros());
         let top = jam_wide(v, n);
         Scaled {
             sig: top.lo,
             exp: exp + n,
         }
     } else if v.lo != 0 {
-        let n = u64::leading_zeros(v.lo) as u64;
+        let n = u64::from(v.lo.leading_zeros());
         Scaled {
             sig: v.lo << n,
             exp: exp - n,

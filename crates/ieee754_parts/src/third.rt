@@ -1,4 +1,4 @@
-// A third of a word without a division: document 02, §3.
+// A third of a word without a division.
 ghost use Rattle.std.specs.Prelude.{◌≡◌, ◌+◌, ◌/◌, ◌%◌, ◌^◌};
 
 // The sum of a word's halves. Since 2^32 is 3 * 0x5555_5555 + 1, n is this sum plus

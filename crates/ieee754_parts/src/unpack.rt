@@ -19,7 +19,7 @@ pub fn unpack(x: f64) -> Unpacked
     requires { T (finite x) }
     ensures { IsUnpacked x result }
 {
-    let bits = f64::to_bits(x);
+    let bits = x.to_bits();
     let negative = SIGN <= bits;
     let field = bits / LEADING % 0x800;
     let digits = bits % LEADING;

@@ -1,10 +1,8 @@
 // Numbers below 2^128 as two words of 64 bits: sums, differences, products, numbers moved up, and
 // what is left when digits are cut off.
-ghost use Rattle.std.specs.Prelude.{◌≡◌, ◌+◌, ◌*◌, ◌/◌, ◌^◌, ◌<◌, ◌≤◌, false, nat_lt};
+ghost use Rattle.std.specs.Prelude.{◌≡◌, ◌+◌, ◌*◌, ◌/◌, ◌^◌, ◌<◌, ◌≤◌, IfSome, nat_lt};
 ghost use Rattle.ieee754_parts.specs.Jam.{jam};
 ghost use Rattle.ieee754_parts.specs.Value.{value};
-
-use std::num::{wrapping_add_u64, wrapping_sub_u64};
 
 // hi * 2^64 + lo.
 #[derive(Clone, Copy)]
@@ -13,19 +11,12 @@ pub struct Wide {
     pub lo: u64,
 }
 
-// The low word of a difference, and whether it has digits above that are lost.
-#[derive(Clone, Copy)]
-pub struct Difference {
-    pub lost: bool,
-    pub lo: u64,
-}
-
 // a + b. The low word is the sum modulo 2^64, wrapped on purpose, and there is a carry exactly
 // where it is less than b.
 pub(crate) fn add_words(a: u64, b: u64) -> Wide
     ensures { (result.hi ≤ 1) × (value result ≡ a + b) }
 {
-    let lo = wrapping_add_u64(a, b);
+    let lo = a.wrapping_add(b);
     if lo < b {
         Wide { hi: 1, lo }
     } else {
@@ -48,7 +39,7 @@ pub fn product(a: u64, b: u64) -> Wide
     let other = a0 * b1;
     let first = low / 0x1_0000_0000 + cross;
     let second = first % 0x1_0000_0000 + other;
-    let lo = wrapping_add_u64((cross + other) << 32, low);
+    let lo = ((cross + other) << 32).wrapping_add(low);
     Wide {
         hi: a1 * b1 + first / 0x1_0000_0000 + second / 0x1_0000_0000,
         lo,
@@ -72,7 +63,7 @@ pub(crate) fn sub_wide(a: Wide, b: Wide) -> Wide
     requires { value b ≤ value a }
     ensures { value result + value b ≡ value a }
 {
-    let lo = wrapping_sub_u64(a.lo, b.lo);
+    let lo = a.lo.wrapping_sub(b.lo);
     if a.lo < b.lo {
         Wide {
             hi: a.hi - b.hi - 1,
@@ -86,22 +77,16 @@ pub(crate) fn sub_wide(a: Wide, b: Wide) -> Wide
     }
 }
 
-// The low word of a - b, and whether more is lost: where that is below 0 or does not fit a word.
-pub fn word_difference(a: Wide, b: Wide) -> Difference
+// a - b, unless it is below 0 or does not fit a word.
+pub fn word_difference(a: Wide, b: Wide) -> Option<u64>
     requires { b.hi + 1 < 2 ^ 64 }
-    ensures { result.lost ≡ false → result.lo + value b ≡ value a }
+    ensures { IfSome result (λ rest. rest + value b ≡ value a) }
 {
-    let lo = wrapping_sub_u64(a.lo, b.lo);
+    let rest = a.lo.wrapping_sub(b.lo);
     if a.lo < b.lo {
-        if a.hi == b.hi + 1 {
-            return Difference { lost: false, lo };
-        }
-        return Difference { lost: true, lo };
-    }
-    if a.hi == b.hi {
-        Difference { lost: false, lo }
+        (a.hi == b.hi + 1).then_some(rest)
     } else {
-        Difference { lost: true, lo }
+        (a.hi == b.hi).then_some(rest)
     }
 }
 

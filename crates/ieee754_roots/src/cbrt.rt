@@ -3,8 +3,8 @@
 // A guess at the root of the significand, made with floats, is settled in integers, and where
 // neither it nor a neighbour is right the root is found by halving an interval. So nothing is
 // claimed of the floats.
-ghost use Rattle.std.specs.Prelude.{◌≡◌, ◌*◌, ◌^◌, ◌≤◌, ◌<◌};
-ghost use Rattle.ieee754_roots.specs.Nearest.{IsNearest, Settled, cube_top};
+ghost use Rattle.std.specs.Prelude.{◌≡◌, ◌*◌, ◌^◌, ◌≤◌, ◌<◌, IfSome};
+ghost use Rattle.ieee754_roots.specs.Nearest.{IsNearest, cube_top};
 
 use ieee754_parts::format::LEADING;
 use ieee754_parts::third::third;
@@ -45,25 +45,24 @@ fn by_halving(n: u64) -> u64
     high
 }
 
-// The whole number nearest to the cube root of n * 2^104, if that is q or a neighbour of q, and 0
-// if not.
-fn settled(n: u64, q: u64) -> u64
+// The whole number nearest to the cube root of n * 2^104, if that is q or a neighbour of q.
+fn settled(n: u64, q: u64) -> Option<u64>
     requires { (2 ^ 52 ≤ q) × (q < 0x1f_ffff_ffff_ffff) }
-    ensures { Settled 3 (n * 2 ^ 104) result }
+    ensures { IfSome result (IsNearest 3 (n * 2 ^ 104)) }
 {
     if cube_top(2 * q + 1) < n {
         if n <= cube_top(2 * q + 3) {
-            return q + 1;
+            Some(q + 1)
+        } else {
+            None
         }
-        return 0;
+    } else if cube_top(2 * q - 1) < n {
+        Some(q)
+    } else if cube_top(2 * q - 3) < n {
+        Some(q - 1)
+    } else {
+        None
     }
-    if cube_top(2 * q - 1) < n {
-        return q;
-    }
-    if cube_top(2 * q - 3) < n {
-        return q - 1;
-    }
-    0
 }
 
 // A guess at the cube root of m * 2^t * 2^104: the reciprocal of the root of x = m * 2^t / 2^52
@@ -83,7 +82,7 @@ fn guess(m: u64, t: u64) -> u64
     let r = x * (y * y);
     let root = r + (x - r * r * r) * (y * y * 0.3333333333333333);
     if root < 4.0 {
-        let q = f64::to_bits(root) % LEADING + LEADING;
+        let q = root.to_bits() % LEADING + LEADING;
         if q < 0x1f_ffff_ffff_ffff {
             return q;
         }
@@ -97,6 +96,8 @@ pub fn nearest(m: u64, t: u64) -> u64
     ensures { IsNearest 3 (m * 2 ^ t * 2 ^ 104) result }
 {
     let n = m << t;
-    let q = settled(n, guess(m, t));
-    if q == 0 { by_halving(n) } else { q }
+    match settled(n, guess(m, t)) {
+        Some(q) => q,
+        None => by_halving(n),
+    }
 }

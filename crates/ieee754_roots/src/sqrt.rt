@@ -46,7 +46,7 @@ fn guess(m: u64, odd: u64) -> f64
     let start = half_reciprocal_root(x, bits);
     let a = (x + x) * start;
     if a < 4.0 {
-        let pattern = f64::to_bits(a);
+        let pattern = a.to_bits();
         if pattern < INFINITY {
             let top = f64::from_bits(pattern / 0x800_0000 * 0x800_0000);
             let c = 1.5 - a * start;
@@ -68,9 +68,10 @@ fn is_nearest(n: u64, q: u64) -> bool
         hi: n / 0x1000,
         lo: low,
     };
-    let r = word_difference(target, product(q, q - 1));
-    let rest = r.lo;
-    !r.lost & ((0 < rest) & (rest <= 2 * q))
+    match word_difference(target, product(q, q - 1)) {
+        Some(rest) => (0 < rest) & (rest <= 2 * q),
+        None => false,
+    }
 }
 
 // The whole number nearest to the root of m * 2^odd * 2^52. The guess is tested by a branch, so
@@ -82,7 +83,7 @@ pub fn nearest(m: u64, odd: u64) -> u64
     let n = m << odd;
     let root = guess(m, odd);
     if root < 4.0 {
-        let digits = f64::to_bits(root) % LEADING + LEADING;
+        let digits = root.to_bits() % LEADING + LEADING;
         if is_nearest(n, digits) {
             return digits;
         }
