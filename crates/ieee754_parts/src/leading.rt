@@ -4,7 +4,7 @@
 // numbers so near to it round alike, that is the answer; elsewhere all digits are added
 // (`add_scaled`). Nothing here branches on the signs or on the order of the exponents, which no
 // predictor foresees.
-ghost use Rattle.std.specs.Prelude.{◌≡◌, ◌+◌, ◌*◌, ◌/◌, ◌^◌, ◌<◌, IfSome, if◌then◌else◌};
+ghost use Rattle.std.specs.Prelude.{◌≡◌, ◌+◌, ◌*◌, ◌/◌, ◌^◌, ◌<◌, if◌then◌else◌};
 ghost use Rattle.ieee754_parts.specs.Leading.{Settles};
 ghost use Rattle.ieee754_parts.specs.Rounded.{summed, IsProduct};
 ghost use Rattle.ieee754_parts.specs.Unpacked.{IsSignificand};
@@ -46,34 +46,36 @@ fn signed_sum(same: bool, a: u64, b: u64) -> u64
     if same { a + b } else { a.wrapping_sub(b) }
 }
 
-// The multiple of 2^10 that is nearest to each number from w to w + m, over 2^10, if there is one
-// and it has at most 53 digits.
-fn nearest_to_all(w: u64, m: u64) -> Option<u64>
+// The multiple of 2^10 that is nearest to each number from w to w + m, over 2^10; 0 where there is
+// no such or it has more than 53 digits.
+fn nearest_to_all(w: u64, m: u64) -> u64
     requires { (w < 2 ^ 63) × (m < 2 ^ 9) }
-    ensures { IfSome result
-        (λ q. (q < 2 ^ 53) × (q * 2 ^ 10 < w + 2 ^ 9) × (w + m < q * 2 ^ 10 + 2 ^ 9)) }
+    ensures { 0 < result → (result < 2 ^ 53) × (result * 2 ^ 10 < w + 2 ^ 9) × (w + m < result * 2 ^ 10 + 2 ^ 9) }
 {
     let q = (w + m + 0x200) / 0x400;
-    (((w + 0x1ff) / 0x400 == q) & (q < PAST)).then_some(q)
+    if ((w + 0x1ff) / 0x400 == q) & (q < PAST) {
+        q
+    } else {
+        0
+    }
 }
 
-// What all numbers from (sum - 1) * 2^exp to (sum + 2) * 2^exp, over 2^2166, round to. There is
-// none where they do not round alike, or where that is not told: for a sum of few digits, which are
-// too few to round, and one below the normal numbers.
-fn settle(sum: u64, exp: u64) -> Option<Scaled>
+// What all numbers from (sum - 1) * 2^exp to (sum + 2) * 2^exp, over 2^2166, round to. The
+// significand is 0 where they do not round alike, or where that is not told: for a sum of few
+// digits, which are too few to round, and one below the normal numbers.
+fn settle(sum: u64, exp: u64) -> Scaled
     requires { exp < 4900 }
-    ensures { IfSome result (Settles sum exp) }
+    ensures { 0 < result.sig → Settles sum exp result }
 {
     if (LEAST < sum) & (sum < SIGN) & (1083 < exp) {
         let low = sum - 1;
-        let n = u64::from(low.leading_zeros()) - 1;
-        let sig = nearest_to_all(low << n, 3 << n)?;
-        Some(Scaled {
-            sig,
+        let n = low.leading_zeros() as u64 - 1;
+        Scaled {
+            sig: nearest_to_all(low << n, 3 << n),
             exp: exp - n - 1082,
-        })
+        }
     } else {
-        None
+        Scaled { sig: 0, exp: 0 }
     }
 }
 
@@ -93,11 +95,11 @@ pub fn add_leading(negative: bool, p: Wide, p_exp: u64, c: Unpacked) -> f64
     let exp = choose(first, a_exp, b_exp);
     let rest = shift(choose(first, b, a), exp - choose(first, b_exp, a_exp));
     let sum = signed_sum(negative == c.negative, choose(first, a, b), rest);
-    match settle(sum, exp) {
-        Some(settled) => {
-            let negative = choose(first, negative, c.negative);
-            pack(negative, settled.sig, settled.exp)
-        }
-        None => add_scaled(negative, p, p_exp, c),
+    let settled = settle(sum, exp);
+    if settled.sig == 0 {
+        add_scaled(negative, p, p_exp, c)
+    } else {
+        let negative = choose(first, negative, c.negative);
+        pack(negative, settled.sig, settled.exp)
     }
 }
