@@ -3,7 +3,6 @@
 use Rattle.std.proofs.Common.{◌≡◌, not, ◌&&◌, ◌||◌, ℤ, pos, refl, ap, subst, ap₂}
 use lib.Ieee.{Float}
 use Rattle.ieee754.specs.Literal.{one, sixty_four, epsilon}
-use Rattle.ieee754.specs.Traced.{Traced}
 use Rattle.ieee754.specs.Scaling.{Both, At, Scales}
 use Rattle.ieee754_laws.proofs.Degrees.{same, null, !◌, ⊝◌, √◌, ◌⊗◌, ◌⊘◌, ◌⊕◌, ◌⊖◌, pure, ◌>>=◌}
 use Rattle.ieee754_laws.proofs.Degrees.{if◌then◌else◌, choose, abs-at, le_same, finite-same}
@@ -14,23 +13,14 @@ use Rattle.linalg.specs.VectorScaling.{AtVector, AtMatrix}
 use Rattle.linalg.proofs.VectorDegrees.{vector-at-zero, vec_div-scales, norm_squared-scales}
 use Rattle.linalg.proofs.VectorDegrees.{cross-scales}
 use Rattle.linalg.proofs.MatrixDegrees.{mat_norm_squared-scales}
-use Rattle.eigen.specs.RowCrosses.{with_vector, last_greatest, longer, unit_vector}
+use Rattle.eigen.specs.RowCrosses.{last_greatest, longer, unit_vector}
 use Rattle.eigen.specs.RowCrosses.{eigenvector_from_row_crosses}
 use Rattle.eigen.specs.ZeroVector.{zero_direction, zero_vector}
 use Rattle.eigen.specs.EigenvectorOf.{precompute, eigen_denominator, denominator_scale}
 use Rattle.eigen.specs.EigenvectorOf.{if_finite, eigenvector_by_division, eigenvector_of}
-use Rattle.eigen.specs.Types.{Ordering, Less, Equal, Greater, Vector3, Matrix3, Eigenvector}
-use Rattle.eigen.specs.Types.{Normalised, Missing, Precomputed}
+use Rattle.eigen.specs.Types.{Ordering, Less, Equal, Greater, Option, Some, None}
+use Rattle.eigen.specs.Types.{Vector3, Matrix3, Precomputed}
 use Rattle.linalg.proofs.SquaredLength.{squared-normal}
-
--- what follows an eigenvector that is the same in the two runs, in any relation of them
-module _ {A : Type 0} {R : A → A → Type 0} {none none' : Traced A} {f f' : Vector3 → Traced A} where
-  pub with_vector-scales : (e : Eigenvector)
-      → Both R none none'
-      → ((v : Vector3) → Both R (f v) (f' v))
-      → Both R (with_vector e none f) (with_vector e none' f')
-  with_vector-scales (Normalised v) none next = next v
-  with_vector-scales Missing none next = none
 
 module _ {k : ℤ} where
   -- ---- the longest cross product of two rows
@@ -60,19 +50,19 @@ module _ {k : ℤ} where
 
   unit_vector-same : {v v' : Vector3}
       → AtVector k (pos 4) v v'
-      → Both {A = Eigenvector} ◌≡◌ (unit_vector v) (unit_vector v')
+      → Both {A = Option Vector3} ◌≡◌ (unit_vector v) (unit_vector v')
   unfolding unit_vector norm
   unit_vector-same {v} {v'} h =
       norm-at {n = pos 4} (norm_squared-scales h) (squared-normal v) (squared-normal v') >>=
       λ _ _ vector_norm.
       vec_div-scales h vector_norm.0 >>= λ _ _ unit.
       let valid = ap₂ ◌&&◌ vector_norm.1 (finite-same vector_norm.0) in
-      pure (choose ◌≡◌ valid (ap Normalised (vector-at-zero unit)) (refl {a = Missing}))
+      pure (choose ◌≡◌ valid (ap Some (vector-at-zero unit)) (refl {a = None}))
 
   module _ {m m' : Matrix3} (M : AtMatrix k (pos 2) m m') where
     pub row_crosses-same : {e e' : Float}
         → At k (pos 2) e e'
-        → Both {A = Eigenvector} ◌≡◌
+        → Both {A = Option Vector3} ◌≡◌
         (eigenvector_from_row_crosses m e)
         (eigenvector_from_row_crosses m' e')
     unfolding eigenvector_from_row_crosses
@@ -99,7 +89,7 @@ module _ {k : ℤ} where
         ! M.m11 ⊗ ! M.m00 ⊖ ! M.m01 ⊗ ! M.m01 >>= λ _ _ z.
         pure (record { x = x; y = y; z = z })
 
-    pub zero_vector-same : Both {A = Eigenvector} ◌≡◌ (zero_vector m) (zero_vector m')
+    pub zero_vector-same : Both {A = Option Vector3} ◌≡◌ (zero_vector m) (zero_vector m')
     unfolding zero_vector
     zero_vector-same =
         zero_direction-scales >>= λ _ _ direction.
@@ -110,7 +100,7 @@ module _ {k : ℤ} where
         else (
         √◌ {n = pos 4} (! zero_norm_squared) >>= λ _ _ zero_norm.
         vec_div-scales direction zero_norm >>= λ _ _ unit.
-        pure (ap Normalised (vector-at-zero unit)))
+        pure (ap Some (vector-at-zero unit)))
 
     -- ---- the eigenvector of a nonzero eigenvalue
     pub record AtPrecomputed (p p' : Precomputed) : Type 0 where
@@ -151,7 +141,7 @@ module _ {k : ℤ} where
 
       by_division-same : {d d' : Float}
           → At k (pos 4) d d'
-          → Both {A = Eigenvector} ◌≡◌
+          → Both {A = Option Vector3} ◌≡◌
           (eigenvector_by_division m p e d)
           (eigenvector_by_division m' p' e' d')
       unfolding eigenvector_by_division if_finite
@@ -165,7 +155,7 @@ module _ {k : ℤ} where
           pure (ap if_finite (vector-at-zero (record { x = x; y = y; z = inverse_norm })))
 
       pub eigenvector_of-same :
-          Both {A = Eigenvector} ◌≡◌ (eigenvector_of m p e) (eigenvector_of m' p' e')
+          Both {A = Option Vector3} ◌≡◌ (eigenvector_of m p e) (eigenvector_of m' p' e')
       unfolding eigenvector_of
       eigenvector_of-same =
           eigen_denominator-scales >>= λ _ _ denominator.

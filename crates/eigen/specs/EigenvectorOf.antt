@@ -9,7 +9,7 @@ use Rattle.ieee754.specs.Maximum.{max}
 use Rattle.ieee754.specs.Traced.{Traced, pure, ◌>>=◌, ◌⊗◌, ◌⊕◌, ◌⊖◌, ◌⊘◌, !◌, ⊝◌, √◌}
 use Rattle.linalg.specs.Vectors.{vector, all_finite}
 use Rattle.eigen.specs.RowCrosses.{eigenvector_from_row_crosses}
-use Rattle.eigen.specs.Types.{Vector3, Matrix3, Eigenvector, Normalised, Missing, Precomputed}
+use Rattle.eigen.specs.Types.{Option, Some, None, Vector3, Matrix3, Precomputed}
 
 -- let product00_11 = -matrix[(0, 0)] * matrix[(1, 1)];
 -- let precomputed0 = matrix[(0, 1)] * matrix[(1, 2)] - matrix[(0, 2)] * matrix[(1, 1)];
@@ -41,10 +41,11 @@ denominator_scale m p eigenvalue = do
   ! abs linear ⊕ ! abs p.product ⊕ ! eigenvalue ⊗ ! eigenvalue ⊕ ! p.square
 
 -- vector.iter().all(|value| value.is_finite()).then_some(vector)
-unfoldable pub if_finite : Vector3 → Eigenvector
-if_finite v = if all_finite v then Normalised v else Missing
+unfoldable pub if_finite : Vector3 → Option Vector3
+if_finite v = if all_finite v then Some v else None
 
-unfoldable pub eigenvector_by_division : Matrix3 → Precomputed → Float → Float → Traced Eigenvector
+unfoldable pub eigenvector_by_division : Matrix3 → Precomputed → Float → Float
+    → Traced (Option Vector3)
 eigenvector_by_division m p eigenvalue denominator = do
   -- let first = -(eigenvalue * matrix[(0, 2)] + precomputed0) / denominator;
   first ← ⊝ (! eigenvalue ⊗ ! m.m02 ⊕ ! p.precomputed0) ⊘ ! denominator
@@ -57,7 +58,7 @@ eigenvector_by_division m p eigenvalue denominator = do
   y ← ! second ⊗ ! inverse_norm
   pure (if_finite (vector x y inverse_norm))
 
-unfoldable pub eigenvector_of : Matrix3 → Precomputed → Float → Traced Eigenvector
+unfoldable pub eigenvector_of : Matrix3 → Precomputed → Float → Traced (Option Vector3)
 eigenvector_of m p eigenvalue = do
   denominator ← eigen_denominator m p eigenvalue
   scale ← denominator_scale m p eigenvalue

@@ -7,13 +7,8 @@ use Rattle.ieee754.specs.Literal.{min_positive}
 use Rattle.ieee754.specs.TotalOrder.{total_cmp}
 use Rattle.ieee754.specs.Traced.{Traced, pure, ◌>>=◌, ◌⊖◌, !◌}
 use Rattle.linalg.specs.Vectors.{vector, cross, norm_squared, norm, vec_div}
-use Rattle.eigen.specs.Types.{Ordering, Less, Equal, Greater, Vector3, Matrix3, Eigenvector}
-use Rattle.eigen.specs.Types.{Normalised, Missing}
-
--- ---- what follows an eigenvector: what `k` makes of it, and `none` where it is missing
-abbrev pub with_vector : {A : Type 0} → Eigenvector → Traced A → (Vector3 → Traced A) → Traced A
-with_vector (Normalised v) none k = k v
-with_vector Missing none k = none
+use Rattle.eigen.specs.Types.{Ordering, Less, Equal, Greater, Option, Some, None}
+use Rattle.eigen.specs.Types.{Vector3, Matrix3}
 
 -- `max_by` keeps what it has only where that compares greater: of equals the last wins
 unfoldable pub last_greatest : Ordering → Vector3 → Vector3 → Vector3
@@ -31,13 +26,13 @@ longer left right = do
 -- The division is an argument of `then_some`: it is made whatever the test says.
 -- let norm = vector.norm();
 -- (norm > f64::MIN_POSITIVE && norm.is_finite()).then_some(vector / norm)
-unfoldable pub unit_vector : Vector3 → Traced Eigenvector
+unfoldable pub unit_vector : Vector3 → Traced (Option Vector3)
 unit_vector v = do
   vector_norm ← norm v
   unit ← vec_div v vector_norm
-  pure (if lt min_positive vector_norm && finite vector_norm then Normalised unit else Missing)
+  pure (if lt min_positive vector_norm && finite vector_norm then Some unit else None)
 
-unfoldable pub eigenvector_from_row_crosses : Matrix3 → Float → Traced Eigenvector
+unfoldable pub eigenvector_from_row_crosses : Matrix3 → Float → Traced (Option Vector3)
 eigenvector_from_row_crosses m eigenvalue = do
   -- let row0 = Vector3::new(matrix[(0, 0)] - eigenvalue, matrix[(0, 1)], matrix[(0, 2)]); and so on
   x0 ← ! m.m00 ⊖ ! eigenvalue

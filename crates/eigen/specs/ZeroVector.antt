@@ -8,7 +8,7 @@ use Rattle.ieee754.specs.Traced.{Traced, pure, ◌>>=◌, ◌⊗◌, ◌⊖◌, 
 use Rattle.linalg.specs.Vectors.{vector, norm_squared, vec_div}
 use Rattle.linalg.specs.Matrices.{mat_norm_squared}
 use Rattle.eigen.specs.RowCrosses.{eigenvector_from_row_crosses}
-use Rattle.eigen.specs.Types.{Vector3, Matrix3, Eigenvector, Normalised}
+use Rattle.eigen.specs.Types.{Option, Some, Vector3, Matrix3}
 
 -- Vector3::new(
 --     matrix[(0, 1)] * matrix[(1, 2)] - matrix[(0, 2)] * matrix[(1, 1)],
@@ -21,7 +21,7 @@ zero_direction m = do
   z ← ! m.m11 ⊗ ! m.m00 ⊖ ! m.m01 ⊗ ! m.m01
   pure (vector x y z)
 
-unfoldable pub zero_vector : Matrix3 → Traced Eigenvector
+unfoldable pub zero_vector : Matrix3 → Traced (Option Vector3)
 zero_vector m = do
   direction ← zero_direction m
   zero_norm_squared ← norm_squared direction
@@ -33,4 +33,4 @@ zero_vector m = do
         -- zero_vector /= zero_norm_squared.sqrt();
         zero_norm ← √ ! zero_norm_squared
         unit ← vec_div direction zero_norm
-        pure (Normalised unit)
+        pure (Some unit)

@@ -1,10 +1,10 @@
-// The eigenvector of a nonzero eigenvalue: the closure `eigenvector` of eig_with_known_zero
-// (lambdatwist.rs), and what is computed before it for both values.
+//! The eigenvector of a nonzero eigenvalue: the closure `eigenvector` of eig_with_known_zero
+//! (lambdatwist.rs), and what is computed before it for both values.
 ghost use Rattle.std.specs.Prelude.{◌≡◌};
 ghost use Rattle.eigen.specs.EigenvectorOf.{precompute, eigen_denominator, denominator_scale};
 ghost use Rattle.eigen.specs.EigenvectorOf.{eigenvector_by_division, eigenvector_of};
 
-use crate::row_crosses::{Eigenvector, eigenvector_from_row_crosses};
+use crate::row_crosses::eigenvector_from_row_crosses;
 use ieee754::abs::abs;
 use ieee754::is_finite::is_finite;
 use ieee754::max::max;
@@ -12,7 +12,7 @@ use ieee754::sqrt::sqrt;
 use linalg::matrix3::Matrix3;
 use linalg::vector3::Vector3;
 
-// `square` is off_diagonal_squared and `product` is product00_11.
+/// `square` is off_diagonal_squared and `product` is product00_11.
 #[derive(Clone, Copy)]
 pub struct Precomputed {
     pub square: f64,
@@ -21,6 +21,7 @@ pub struct Precomputed {
     pub precomputed1: f64,
 }
 
+#[tactic(auto, unfolding(crate::specs::EigenvectorOf::precompute))]
 pub fn precompute(m: Matrix3, off_diagonal_squared: f64) -> Precomputed
     ensures { result ≡ (precompute m off_diagonal_squared).value }
 {
@@ -32,26 +33,27 @@ pub fn precompute(m: Matrix3, off_diagonal_squared: f64) -> Precomputed
     }
 }
 
+#[tactic(auto, unfolding(crate::specs::EigenvectorOf::eigen_denominator))]
 pub fn eigen_denominator(m: Matrix3, p: Precomputed, eigenvalue: f64) -> f64
     ensures { result ≡ (eigen_denominator m p eigenvalue).value }
 {
     eigenvalue * (m.m00 + m.m11) + p.product - eigenvalue * eigenvalue + p.square
 }
 
+#[tactic(auto, unfolding(crate::specs::EigenvectorOf::denominator_scale))]
 pub fn denominator_scale(m: Matrix3, p: Precomputed, eigenvalue: f64) -> f64
     ensures { result ≡ (denominator_scale m p eigenvalue).value }
 {
-    let linear = abs(eigenvalue * (m.m00 + m.m11));
-    let product = abs(p.product);
-    linear + product + eigenvalue * eigenvalue + p.square
+    abs(eigenvalue * (m.m00 + m.m11)) + abs(p.product) + eigenvalue * eigenvalue + p.square
 }
 
+#[tactic(auto, unfolding(crate::specs::EigenvectorOf::eigenvector_by_division, crate::specs::EigenvectorOf::if_finite))]
 pub fn eigenvector_by_division(
     m: Matrix3,
     p: Precomputed,
     eigenvalue: f64,
     denominator: f64,
-) -> Eigenvector
+) -> Option<Vector3>
     ensures { result ≡ (eigenvector_by_division m p eigenvalue denominator).value }
 {
     let first = -(eigenvalue * m.m02 + p.precomputed0) / denominator;
@@ -62,19 +64,17 @@ pub fn eigenvector_by_division(
         y: second * inverse_norm,
         z: inverse_norm,
     };
-    if vector.all_finite() {
-        return Eigenvector::Normalised(vector);
-    }
-    Eigenvector::Missing
+    vector.all_finite().then_some(vector)
 }
 
-pub fn eigenvector(m: Matrix3, p: Precomputed, eigenvalue: f64) -> Eigenvector
+#[tactic(auto, unfolding(crate::specs::EigenvectorOf::eigenvector_of))]
+pub fn eigenvector(m: Matrix3, p: Precomputed, eigenvalue: f64) -> Option<Vector3>
     ensures { result ≡ (eigenvector_of m p eigenvalue).value }
 {
     let denominator = eigen_denominator(m, p, eigenvalue);
     let scale = denominator_scale(m, p, eigenvalue);
     let limit = 64.0 * f64::EPSILON * max(scale, f64::MIN_POSITIVE);
-    if (abs(denominator) <= limit) | !is_finite(denominator) {
+    if abs(denominator) <= limit || !is_finite(denominator) {
         return eigenvector_from_row_crosses(m, eigenvalue);
     }
     eigenvector_by_division(m, p, eigenvalue, denominator)

@@ -1,5 +1,5 @@
-// The eigensystem of a symmetric matrix of which zero is an eigenvalue: eig_with_known_zero and
-// eigenvector_from_row_crosses of pose/p3p/lambdatwist.rs, document 01, module 6.
+//! The eigensystem of a symmetric matrix of which zero is an eigenvalue: eig_with_known_zero and
+//! eigenvector_from_row_crosses of pose/p3p/lambdatwist.rs.
 #![tactic(auto)]
 
 pub mod eigenpairs;

@@ -1,5 +1,5 @@
-// The longest cross product of two rows of matrix - eigenvalue, divided by its length:
-// eigenvector_from_row_crosses of lambdatwist.rs.
+//! The longest cross product of two rows of matrix - eigenvalue, divided by its length:
+//! eigenvector_from_row_crosses of lambdatwist.rs.
 ghost use Rattle.std.specs.Prelude.{◌≡◌};
 ghost use Rattle.eigen.specs.RowCrosses.{longer, unit_vector, eigenvector_from_row_crosses};
 
@@ -9,13 +9,8 @@ use linalg::matrix3::Matrix3;
 use linalg::vector3::Vector3;
 use std::cmp::Ordering;
 
-#[derive(Clone, Copy)]
-pub enum Eigenvector {
-    Normalised(Vector3),
-    Missing,
-}
-
-// The longer of two vectors, of equals the second: one step of max_by.
+/// The longer of two vectors, of equals the second: one step of max_by.
+#[tactic(auto, unfolding(crate::specs::RowCrosses::longer, crate::specs::RowCrosses::last_greatest))]
 pub fn longer(left: Vector3, right: Vector3) -> Vector3
     ensures { result ≡ (longer left right).value }
 {
@@ -26,18 +21,16 @@ pub fn longer(left: Vector3, right: Vector3) -> Vector3
     }
 }
 
-pub fn unit_vector(v: Vector3) -> Eigenvector
+#[tactic(auto, unfolding(crate::specs::RowCrosses::unit_vector))]
+pub fn unit_vector(v: Vector3) -> Option<Vector3>
     ensures { result ≡ (unit_vector v).value }
 {
     let norm = v.norm();
-    let unit = v / norm;
-    if (norm > f64::MIN_POSITIVE) & is_finite(norm) {
-        return Eigenvector::Normalised(unit);
-    }
-    Eigenvector::Missing
+    (norm > f64::MIN_POSITIVE && is_finite(norm)).then_some(v / norm)
 }
 
-pub fn eigenvector_from_row_crosses(m: Matrix3, eigenvalue: f64) -> Eigenvector
+#[tactic(auto, unfolding(crate::specs::RowCrosses::eigenvector_from_row_crosses))]
+pub fn eigenvector_from_row_crosses(m: Matrix3, eigenvalue: f64) -> Option<Vector3>
     ensures { result ≡ (eigenvector_from_row_crosses m eigenvalue).value }
 {
     let row0 = Vector3 {
