@@ -1,10 +1,13 @@
-// What stands in a record by its place in bytes.
-ghost use Rattle.std.specs.Prelude.{◌≡◌, ◌≤◌};
-ghost use Rattle.replay_records.specs.Contents as Contents;
-ghost use Rattle.replay_records.specs.Contents.{double_at, vector_at, matrix_at, world_at};
-ghost use Rattle.replay_records.specs.Contents.{bearings_at, pose_at, squares_at};
+//! What stands in a record by its place in bytes.
+ghost use Rattle.std.specs.Prelude.{◌≡◌, ℕ, ◌≤◌, List};
+ghost use Rattle.replay_records.specs.Contents.{anywhere, narrow, double_at, vector_at, matrix_at};
+ghost use Rattle.replay_records.specs.Contents.{world_at, bearings_at, pose_at, poses_at};
+ghost use Rattle.replay_records.specs.Contents.{squares_at, cosines_at};
+ghost use Rattle.replay_words.specs.Words.{word_at};
 
+use crate::Record;
 use frames::bearings::Bearings;
+use frames::cosines::Cosines;
 use frames::pose::Pose;
 use frames::squared_edges::SquaredEdges;
 use frames::world::World;
@@ -13,85 +16,156 @@ use linalg::matrix3::Matrix3;
 use linalg::vector3::Vector3;
 use replay_words::word;
 
-pub fn double_at(s: &[u8; 768], at: usize) -> f64
-    ensures { result ≡ double_at s.now at }
-{
-    from_bits(word(s, at))
+/// A value that stands in records.
+pub trait Stored: Copy {
+    // the last place that it is read at
+    ghost last: { ℕ };
+
+    ghost stored: { List ℕ → ℕ → Self };
+
+    /// The value that begins at the place.
+    fn read(s: &Record, at: usize) -> Self
+        requires { at ≤ last }
+        ensures { result ≡ stored s.now at };
 }
 
-pub fn vector_at(s: &[u8; 768], at: usize) -> Vector3
-    requires { at ≤ 744 }
-    ensures { result ≡ vector_at s.now at }
-{
-    Vector3 {
-        x: double_at(s, at),
-        y: double_at(s, at + 8),
-        z: double_at(s, at + 16),
+// A count, the largest for a word beyond it.
+impl Stored for u32 {
+    ghost last = { anywhere };
+
+    ghost stored = { λ s at. narrow (word_at s at) };
+
+    fn read(s: &Record, at: usize) -> u32 {
+        u32::try_from(word(s, at)).unwrap_or(u32::MAX)
     }
 }
 
-pub fn matrix_at(s: &[u8; 768], at: usize) -> Matrix3
-    requires { at ≤ 696 }
-    ensures { result ≡ matrix_at s.now at }
-{
-    let c0 = vector_at(s, at);
-    let c1 = vector_at(s, at + 24);
-    let c2 = vector_at(s, at + 48);
-    Matrix3::from_columns(c0, c1, c2)
-}
+impl Stored for f64 {
+    ghost last = { anywhere };
 
-pub fn world_at(s: &[u8; 768], at: usize) -> World
-    requires { at ≤ 696 }
-    ensures { result ≡ world_at s.now at }
-{
-    World {
-        p0: vector_at(s, at),
-        p1: vector_at(s, at + 24),
-        p2: vector_at(s, at + 48),
+    ghost stored = { double_at };
+
+    #[tactic(auto, unfolding(crate::specs::Contents::double_at))]
+    fn read(s: &Record, at: usize) -> f64 {
+        from_bits(word(s, at))
     }
 }
 
-pub fn bearings_at(s: &[u8; 768], at: usize) -> Bearings
-    requires { at ≤ 696 }
-    ensures { result ≡ bearings_at s.now at }
-{
-    Bearings {
-        f0: vector_at(s, at),
-        f1: vector_at(s, at + 24),
-        f2: vector_at(s, at + 48),
+impl Stored for Vector3 {
+    ghost last = { 744 };
+
+    ghost stored = { vector_at };
+
+    #[tactic(auto, unfolding(crate::specs::Contents::vector_at))]
+    fn read(s: &Record, at: usize) -> Vector3 {
+        Vector3 {
+            x: f64::read(s, at),
+            y: f64::read(s, at + 8),
+            z: f64::read(s, at + 16),
+        }
     }
 }
 
-pub fn pose_at(s: &[u8; 768], at: usize) -> Pose
-    requires { at ≤ 672 }
-    ensures { result ≡ pose_at s.now at }
-{
-    let rotation = matrix_at(s, at);
-    let translation = vector_at(s, at + 72);
-    Pose {
-        rotation,
-        translation,
+impl Stored for Matrix3 {
+    ghost last = { 696 };
+
+    ghost stored = { matrix_at };
+
+    #[tactic(auto, unfolding(crate::specs::Contents::matrix_at))]
+    fn read(s: &Record, at: usize) -> Matrix3 {
+        let c0 = Vector3::read(s, at);
+        let c1 = Vector3::read(s, at + 24);
+        let c2 = Vector3::read(s, at + 48);
+        Matrix3::from_columns(c0, c1, c2)
     }
 }
 
-pub fn squares_at(s: &[u8; 768], at: usize) -> SquaredEdges
-    requires { at ≤ 744 }
-    ensures { result ≡ squares_at s.now at }
-{
-    SquaredEdges {
-        a01: double_at(s, at),
-        a02: double_at(s, at + 8),
-        a12: double_at(s, at + 16),
+impl Stored for World {
+    ghost last = { 696 };
+
+    ghost stored = { world_at };
+
+    #[tactic(auto, unfolding(crate::specs::Contents::world_at))]
+    fn read(s: &Record, at: usize) -> World {
+        World {
+            p0: Vector3::read(s, at),
+            p1: Vector3::read(s, at + 24),
+            p2: Vector3::read(s, at + 48),
+        }
     }
 }
 
-// A word as a count, the largest count for a word beyond it.
-pub fn narrow(w: u64) -> u32
-    ensures { result ≡ Contents.narrow w }
-{
-    if w <= 0xffff_ffff {
-        w as u32
-    } else {
-        0xffff_ffff
+impl Stored for Bearings {
+    ghost last = { 696 };
+
+    ghost stored = { bearings_at };
+
+    #[tactic(auto, unfolding(crate::specs::Contents::bearings_at))]
+    fn read(s: &Record, at: usize) -> Bearings {
+        Bearings {
+            f0: Vector3::read(s, at),
+            f1: Vector3::read(s, at + 24),
+            f2: Vector3::read(s, at + 48),
+        }
+    }
+}
+
+impl Stored for Pose {
+    ghost last = { 672 };
+
+    ghost stored = { pose_at };
+
+    #[tactic(auto, unfolding(crate::specs::Contents::pose_at))]
+    fn read(s: &Record, at: usize) -> Pose {
+        Pose {
+            rotation: Matrix3::read(s, at),
+            translation: Vector3::read(s, at + 72),
+        }
+    }
+}
+
+// Four poses, of twelve words each.
+impl Stored for [Pose; 4] {
+    ghost last = { 384 };
+
+    ghost stored = { poses_at };
+
+    #[tactic(auto, unfolding(crate::specs::Contents::poses_at))]
+    fn read(s: &Record, at: usize) -> [Pose; 4] {
+        let first = Pose::read(s, at);
+        let second = Pose::read(s, at + 96);
+        let third = Pose::read(s, at + 192);
+        let fourth = Pose::read(s, at + 288);
+        [first, second, third, fourth]
+    }
+}
+
+impl Stored for SquaredEdges {
+    ghost last = { 744 };
+
+    ghost stored = { squares_at };
+
+    #[tactic(auto, unfolding(crate::specs::Contents::squares_at))]
+    fn read(s: &Record, at: usize) -> SquaredEdges {
+        SquaredEdges {
+            a01: f64::read(s, at),
+            a02: f64::read(s, at + 8),
+            a12: f64::read(s, at + 16),
+        }
+    }
+}
+
+impl Stored for Cosines {
+    ghost last = { 744 };
+
+    ghost stored = { cosines_at };
+
+    #[tactic(auto, unfolding(crate::specs::Contents::cosines_at))]
+    fn read(s: &Record, at: usize) -> Cosines {
+        Cosines {
+            m01: f64::read(s, at),
+            m02: f64::read(s, at + 8),
+            m12: f64::read(s, at + 16),
+        }
     }
 }

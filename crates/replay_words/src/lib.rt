@@ -1,8 +1,8 @@
-// Words of 64 bits, most significant byte first, each a number or the bit pattern of a double: what
-// the files of stored answers are made of.
+//! Words of 64 bits, most significant byte first, each a number or the bit pattern of a double:
+//! what the files of stored answers are made of.
 #![tactic(auto)]
 
-ghost use Rattle.std.specs.Prelude.{◌≡◌, ◌+◌, ◌<◌, ◌≤◌, eqb, get_or};
+ghost use Rattle.std.specs.Prelude.{◌≡◌, ◌+◌, ◌≤◌, eqb, get_or};
 ghost use Rattle.std.specs.Float.{binary64};
 ghost use Rattle.std.specs.Float.Ieee.{to_bits};
 ghost use Rattle.replay_words.specs.Words.{half_at, word_at};
@@ -11,37 +11,38 @@ use ieee754::bits::to_bits;
 
 pub mod report;
 
-// The byte i places after `at`, or 0 past the end. The second test subtracts, so it is made only
-// where the first holds.
-fn byte(s: &[u8], at: usize, i: usize) -> u64
-    ensures { (result ≡ get_or s.now (at + i) 0) × (result < 256) }
+// The byte i places after `at`, or 0 past the end.
+fn byte(s: &[u8], at: usize, i: usize) -> u8
+    ensures { result ≡ get_or s.now (at + i) 0 }
 {
-    if at < s.len() {
-        if i < s.len() - at {
-            return s[at + i] as u64;
-        }
+    match at.checked_add(i) {
+        Some(place) if place < s.len() => s[place],
+        _ => 0,
     }
-    0
 }
 
 // The number of the four bytes from i places after `at` on.
-fn half(s: &[u8], at: usize, i: usize) -> u64
+fn half(s: &[u8], at: usize, i: usize) -> u32
     requires { i ≤ 4 }
-    ensures { (result ≡ half_at s.now at i) × (result < 0x1_0000_0000) }
+    ensures { result ≡ half_at s.now at i }
 {
-    let high = byte(s, at, i) * 256 + byte(s, at, i + 1);
-    let low = byte(s, at, i + 2) * 256 + byte(s, at, i + 3);
-    high * 0x1_0000 + low
+    u32::from_be_bytes([
+        byte(s, at, i),
+        byte(s, at, i + 1),
+        byte(s, at, i + 2),
+        byte(s, at, i + 3),
+    ])
 }
 
-// The word of the eight bytes from `at` on.
+/// The word of the eight bytes from `at` on.
+#[tactic(auto, unfolding(crate::specs::Words::word_at))]
 pub fn word(s: &[u8], at: usize) -> u64
     ensures { result ≡ word_at s.now at }
 {
-    half(s, at, 0) * 0x1_0000_0000 + half(s, at, 4)
+    u64::from(half(s, at, 0)) * 0x1_0000_0000 + u64::from(half(s, at, 4))
 }
 
-// Whether x has the bit pattern w.
+/// Whether x has the bit pattern w.
 pub fn agrees(x: f64, w: u64) -> bool
     ensures { result ≡ eqb (to_bits binary64 x) w }
 {

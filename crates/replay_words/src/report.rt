@@ -1,4 +1,4 @@
-// The line that a program writes of one file of stored answers.
+//! The line that a program writes of one file of stored answers.
 ghost use Rattle.std.specs.Prelude.{◌≡◌, OnOk, OnErr};
 ghost use Rattle.std.specs.Io.KnownBytes.{Appends};
 ghost use Rattle.replay_words.specs.Report.{Grows, report_line};
@@ -24,8 +24,8 @@ fn put<W: Write>(output: &mut W, bytes: &[u8]) -> io::Result<()>
     Ok(())
 }
 
-// Writes "NAME N compared, M differ". An error is the writer's own, or that it takes no more; what
-// it held stays, and what it took before is behind that.
+/// Writes "NAME N compared, M differ". An error is the writer's own, or that it takes no more; what
+/// it held stays, and what it took before is behind that.
 pub fn report<W: Write>(output: &mut W, name: &[u8], compared: u64, differ: u64) -> io::Result<()>
     ensures written { OnOk result (Appends (W.contents output.old) (W.contents output.new)
         (report_line name.now compared differ)) }
