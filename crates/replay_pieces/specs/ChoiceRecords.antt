@@ -1,25 +1,21 @@
 -- Records of the choice: the count, four poses, the target and the bearing, then the refusal
 -- number, 0 where nothing is refused, the place from 1 and the score. Whether a record has the
 -- answer of the definition, and how many words it is long.
-use Rattle.std.specs.Prelude.{ℕ, ◌+◌, ◌*◌, Bool, ◌&&◌, List, [], ◌∷◌}
+use Rattle.std.specs.Prelude.{ℕ, ◌+◌, ◌*◌, Bool, ◌&&◌, List}
+use Rattle.choice.specs.Answer.{number}
 use Rattle.choice.specs.Choose.{choose}
--- not by Types, where `Refused` is the projection's
-use Rattle.choice.specs.declared.choose.Choice.TheVariants.{Best, Refused}
 use Rattle.replay_words.specs.Words.{word_at}
-use Rattle.replay_records.specs.Contents.{narrow, vector_at, pose_at}
+use Rattle.replay_records.specs.Contents.{narrow, vector_at, poses_at}
 use Rattle.replay_records.specs.Agreement.{number_agrees, double_agrees}
-use Rattle.replay_pieces.specs.Types.{Pose, Choice}
+use Rattle.replay_pieces.specs.Types.{Best, Option, Some, None}
 
 -- the number, the place and the score begin at `at`
-abbrev pub choice_agrees : Choice → List ℕ → ℕ → Bool
-choice_agrees (Best place score) s at =
-    number_agrees 0 s at && number_agrees place s (at + 8) && double_agrees score s (at + 16)
-choice_agrees (Refused n) s at = number_agrees n s at
-
--- four poses, of twelve words each
-unfoldable pub poses_at : List ℕ → ℕ → List Pose
-poses_at s at =
-    pose_at s at ∷ pose_at s (at + 96) ∷ pose_at s (at + 192) ∷ pose_at s (at + 288) ∷ []
+abbrev pub choice_agrees : Option Best → List ℕ → ℕ → Bool
+choice_agrees (Some best) s at =
+    number_agrees (number (Some best)) s at
+    && number_agrees best.place s (at + 8)
+    && double_agrees best.score s (at + 16)
+choice_agrees None s at = number_agrees (number None) s at
 
 unfoldable pub choice_holds : List ℕ → Bool
 choice_holds s =

@@ -9,21 +9,14 @@ use Rattle.p3p_common.specs.RotationFromEdges.{rotation_from_edges}
 use Rattle.p3p_common.specs.WorldBasisInverse.{world_basis_inverse}
 use Rattle.refinement.specs.RefineDepths.{refine_depths}
 use Rattle.replay_words.specs.Words.{word_at}
-use Rattle.replay_records.specs.Contents.{double_at, narrow, vector_at, matrix_at, squares_at}
+use Rattle.replay_records.specs.Contents.{narrow, vector_at, matrix_at, squares_at, cosines_at}
 use Rattle.replay_records.specs.Agreement.{number_agrees, flag, vector_agrees, matrix_agrees}
+use Rattle.replay_records.specs.Agreement.{option_agrees}
 use Rattle.replay_pieces.specs.PushRecords.{push_holds}
-use Rattle.replay_pieces.specs.Types.{Cosines, Refined, Projection, Rotation}
-use Rattle.replay_pieces.specs.Types.{Refused, Basis, Inverse, Singular, Piece, Refine, Ray}
-use Rattle.replay_pieces.specs.Types.{Near, Project, WorldBasis, Edges, Push}
+use Rattle.replay_pieces.specs.Types.{Refined, Piece, Refine, Ray, Near, Project, WorldBasis, Edges}
+use Rattle.replay_pieces.specs.Types.{Push}
 
 -- ---- depths, squared edges, cosines and the limit; the updates and the depths
-unfoldable pub cosines_at : List ℕ → ℕ → Cosines
-cosines_at s at = record {
-  m01 = double_at s at;
-  m02 = double_at s (at + 8);
-  m12 = double_at s (at + 16);
-}
-
 unfoldable pub refined_agrees : Refined → List ℕ → Bool
 refined_agrees refined s =
     number_agrees refined.updates s 80 && vector_agrees refined.depths s 88
@@ -42,20 +35,13 @@ unfoldable pub near_holds : List ℕ → Bool
 near_holds s = number_agrees (flag (has_near_orthonormal_columns (matrix_at s 0)).value) s 72
 
 -- ---- the matrix; whether there is a rotation, and the rotation
-abbrev pub projection_agrees : Projection → List ℕ → Bool
-projection_agrees (Rotation m) s = number_agrees 1 s 72 && matrix_agrees m s 80
-projection_agrees Refused s = number_agrees 0 s 72
-
 unfoldable pub project_holds : List ℕ → Bool
-project_holds s = projection_agrees (project_to_rotation (matrix_at s 0)).value s
+project_holds s = option_agrees matrix_agrees (project_to_rotation (matrix_at s 0)).value s 72
 
 -- ---- two edges; whether there is an inverse, and the inverse
-abbrev pub basis_agrees : Basis → List ℕ → Bool
-basis_agrees (Inverse m) s = number_agrees 1 s 48 && matrix_agrees m s 56
-basis_agrees Singular s = number_agrees 0 s 48
-
 unfoldable pub basis_holds : List ℕ → Bool
-basis_holds s = basis_agrees (world_basis_inverse (vector_at s 0) (vector_at s 24)).value s
+basis_holds s =
+    option_agrees matrix_agrees (world_basis_inverse (vector_at s 0) (vector_at s 24)).value s 48
 
 -- ---- two edges and the inverse; the rotation
 unfoldable pub edges_hold : List ℕ → Bool

@@ -1,18 +1,12 @@
 -- The structs and enums that definitions and laws of this crate name: those of its src/, and those
 -- of the crates below.
+pub use Rattle.std.specs.Prelude.{Option, Some, None}
 pub use Rattle.linalg.specs.declared.vector3.Vector3.{Vector3}
-pub use Rattle.frames.specs.declared.cosines.Cosines.{Cosines}
 pub use Rattle.frames.specs.declared.pose.Pose.{Pose}
 pub use Rattle.refinement.specs.declared.refine_depths.Refined.{Refined}
 pub use Rattle.p3p_common.specs.declared.input.P3pInput.{P3pInput}
-pub use Rattle.p3p_common.specs.declared.project_to_rotation.Projection.{Projection}
-pub use Rattle.p3p_common.specs.declared.project_to_rotation.Projection.TheVariants.{Rotation}
-pub use Rattle.p3p_common.specs.declared.project_to_rotation.Projection.TheVariants.{Refused}
 pub use Rattle.p3p_common.specs.declared.solutions.Solutions.{Solutions}
-pub use Rattle.p3p_common.specs.declared.world_basis_inverse.Basis.{Basis}
-pub use Rattle.p3p_common.specs.declared.world_basis_inverse.Basis.TheVariants.{Inverse}
-pub use Rattle.p3p_common.specs.declared.world_basis_inverse.Basis.TheVariants.{Singular}
-pub use Rattle.choice.specs.declared.choose.Choice.{Choice}
+pub use Rattle.choice.specs.declared.choose.Best.{Best}
 pub use Rattle.replay_pieces.specs.declared.pieces.Piece.{Piece}
 pub use Rattle.replay_pieces.specs.declared.pieces.Piece.TheVariants.{
   Refine,

@@ -1,58 +1,49 @@
-// The choice: the count, four slots of twelve words (the rotation, the translation), the target and
-// the bearing, then the refusal number, 0 where nothing is refused, the place from 1 and the score.
-// Where the poses and the answer begin is the caller's to say: the records of the choice about a
-// point have them too.
-ghost use Rattle.std.specs.Prelude.{◌≡◌, ◌*◌, ◌≤◌};
-ghost use Rattle.replay_pieces.specs.ChoiceRecords.{choice_agrees, poses_at, choice_holds};
-ghost use Rattle.replay_pieces.specs.ChoiceRecords.{choice_words};
+//! The choice: the count, four slots of twelve words (the rotation, the translation), the target
+//! and the bearing, then the refusal number, 0 where nothing is refused, the place from 1 and the
+//! score.
+ghost use Rattle.std.specs.Prelude.{◌≡◌, ◌≤◌};
+ghost use Rattle.replay_pieces.specs.ChoiceRecords.{choice_agrees, choice_holds, choice_words};
 
-use choice::choose::{Choice, choose};
+use choice::choose::{Best, choose, number};
 use frames::pose::Pose;
-use replay_records::agreement::{double_agrees, number_agrees};
-use replay_records::contents::{narrow, pose_at, vector_at};
-use replay_words::word;
+use linalg::vector3::Vector3;
+use replay_records::Record;
+use replay_records::agreement::Compared;
+use replay_records::contents::Stored;
+use replay_records::replayed::Replayed;
 
-// The bytes of a record.
-pub fn length() -> usize
-    ensures { (result ≡ 8 * choice_words) × (result ≤ 768) }
-{
-    464
-}
-
-// The refusal number, the place and the score begin at `at`.
-pub fn choice_agrees(choice: Choice, s: &[u8; 768], at: usize) -> bool
+/// Whether the refusal number, the place and the score, which begin at `at`, are the choice's: the
+/// records of the choice about a point have them too.
+pub fn choice_agrees(choice: Option<Best>, s: &Record, at: usize) -> bool
     requires { at ≤ 744 }
     ensures { result ≡ choice_agrees choice s.now at }
 {
+    let refusal = number(choice).agrees(s, at);
     match choice {
-        Choice::Best(place, score) => {
-            number_agrees(0, s, at)
-                & number_agrees(place as u64, s, at + 8)
-                & double_agrees(score, s, at + 16)
-        }
-        Choice::Refused(number) => number_agrees(number as u64, s, at),
+        Some(Best { place, score }) => refusal & place.agrees(s, at + 8) & score.agrees(s, at + 16),
+        None => refusal,
     }
 }
 
-// Four poses, of twelve words each, begin at `at`.
-pub fn poses_at(s: &[u8; 768], at: usize) -> [Pose; 4]
-    requires { at ≤ 384 }
-    ensures { result ≡ poses_at s.now at }
-{
-    let first = pose_at(s, at);
-    let second = pose_at(s, at + 96);
-    let third = pose_at(s, at + 192);
-    let fourth = pose_at(s, at + 288);
-    [first, second, third, fourth]
-}
+/// The choice, of which there is one kind of record.
+#[derive(Clone, Copy, Debug, PartialEq, Eq)]
+pub struct Chosen;
 
-// Whether the choice gives the record's answer.
-pub fn holds(s: &[u8; 768]) -> bool
-    ensures { result ≡ choice_holds s.now }
-{
-    let count = narrow(word(s, 0));
-    let poses = poses_at(s, 8);
-    let target = vector_at(s, 392);
-    let bearing = vector_at(s, 416);
-    choice_agrees(choose(poses, count, target, bearing), s, 440)
+impl Replayed for Chosen {
+    ghost words = { λ _. choice_words };
+
+    ghost answered = { λ _ s. choice_holds s };
+
+    fn length(self) -> usize {
+        464
+    }
+
+    #[tactic(auto, unfolding(crate::specs::ChoiceRecords::choice_holds))]
+    fn holds(self, s: &Record) -> bool {
+        let count = u32::read(s, 0);
+        let poses = <[Pose; 4]>::read(s, 8);
+        let target = Vector3::read(s, 392);
+        let bearing = Vector3::read(s, 416);
+        choice_agrees(choose(poses, count, target, bearing), s, 440)
+    }
 }
