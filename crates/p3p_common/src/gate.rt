@@ -40,24 +40,26 @@ pub fn projected_gate(input: P3pInput, raw_rotation: Matrix3, translation: Vecto
         rotation,
         translation: kept,
     };
-    if !projected_pose_fits_minimal_sample(input, pose) || !kept.all_finite() {
-        return Gated::Dropped;
+    if projected_pose_fits_minimal_sample(input, pose) && kept.all_finite() {
+        Gated::Projected(pose)
+    } else {
+        Gated::Dropped
     }
-    Gated::Projected(pose)
 }
 
 #[tactic(auto, unfolding(crate::specs::Gate::gate, crate::specs::Gate::if_valid))]
 pub fn gate(input: P3pInput, raw_rotation: Matrix3, translation: Vector3) -> Gated
     ensures { result ≡ (gate input raw_rotation translation).value }
 {
-    if has_near_orthonormal_columns(raw_rotation) {
-        if !translation.all_finite() {
-            return Gated::Dropped;
-        }
-        return Gated::Passed(Pose {
+    if !has_near_orthonormal_columns(raw_rotation) {
+        return projected_gate(input, raw_rotation, translation);
+    }
+    if translation.all_finite() {
+        Gated::Passed(Pose {
             rotation: raw_rotation,
             translation,
-        });
+        })
+    } else {
+        Gated::Dropped
     }
-    projected_gate(input, raw_rotation, translation)
 }
