@@ -9,16 +9,15 @@ use lib.Ieee.{Float, lt, le, neg}
 use lib.Ieee.Fits.{and_r}
 use Rattle.ieee754.specs.Literal.{plus_zero}
 use Rattle.ieee754.specs.Magnitude.{abs}
-use Rattle.ieee754.specs.Traced.{Traced, pure, ◌>>=◌}
+use Rattle.ieee754.specs.Traced.{Traced, pure, ◌>>=◌, with_some}
 use Rattle.ieee754.proofs.Tests.{either_way}
-use Rattle.polynomial.specs.Answer.{pair_of, with_pair}
-use Rattle.polynomial.specs.declared.pair.RootPair.{RootPair}
-use Rattle.polynomial.specs.declared.pair.RootPair.TheVariants.{Present, Absent}
+use Rattle.polynomial.specs.Answer.{pair_of}
 use Rattle.depths.specs.DepthSlots.{no_candidates, push_if_positive}
 use Rattle.depths.specs.Charts.{for_roots, no_divisor, first_chart_depths, first_chart}
 use Rattle.depths.specs.Charts.{second_chart_depths, weight_chart, second_chart, chart}
 use Rattle.depths.specs.Signs.{sign_turn, candidates}
 use Rattle.depths.specs.Types.{Vector3, Matrix3, SquaredEdges, Roots, Factors, Candidates}
+use Rattle.depths.specs.Types.{RootPair, Option, Some, None}
 
 abbrev Few : Candidates → Type 0
 Few found = found.count ≤ 4
@@ -48,12 +47,13 @@ module _ (found : Candidates) (few : Few found) where
   unfolding for_roots
   for_roots-few roots turn each = go (pair_of roots)
     where
-      go : (pair : RootPair)
-          → Few (with_pair pair (pure found) (λ first second lifted. do
-            once ← turn lifted found first
-            turn lifted once second)).value
-      go (Present first second lifted) = each lifted _ (each lifted found few first) second
-      go Absent = few
+      go : (pair : Option RootPair)
+          → Few (with_some pair (pure found) (λ pair. do
+            once ← turn pair.lifted found pair.first
+            turn pair.lifted once pair.second)).value
+      go (Some pair) =
+          each pair.lifted _ (each pair.lifted found few pair.first) pair.second
+      go None = few
 
 module _ (squares : SquaredEdges) (factors : Factors) where
   -- ---- the chart for u0.abs() < u1.abs()

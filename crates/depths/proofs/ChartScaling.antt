@@ -10,21 +10,23 @@ use lib.Ieee.{Float, lt}
 use Rattle.ieee754.specs.Literal.{one, two}
 use Rattle.ieee754.specs.Magnitude.{abs}
 use Rattle.ieee754.specs.Traced.{Traced}
+use Rattle.ieee754.specs.Traced as traced
 use Rattle.ieee754.specs.Scaling.{Both, At}
 use Rattle.ieee754_laws.proofs.Degrees.{same, null, !◌, ⊝◌, √◌, ◌⊗◌, ◌⊘◌, ◌⊕◌, ◌⊖◌, pure, ◌>>=◌}
 use Rattle.ieee754_laws.proofs.Degrees.{◌>>≡◌, if◌then◌else◌, choose, lt_same, le_same, eq-same}
-use Rattle.ieee754_laws.proofs.Degrees.{finite-same, equal}
+use Rattle.ieee754_laws.proofs.Degrees.{finite-same, equal, with_some}
 use Rattle.frames.proofs.Entries.{set-entries, four-entries}
 use Rattle.linalg.specs.VectorScaling.{AtVector}
 use Rattle.linalg.proofs.VectorDegrees.{null-vector}
 use Rattle.frames.specs.FrameScaling.{AtSquaredEdges}
-use Rattle.polynomial.specs.RootScaling.{AtRoots}
-use Rattle.polynomial.proofs.RootScaling.{with_pair-scales}
+use Rattle.polynomial.specs.RootScaling.{AtRoots, AtPair, pair-at}
+use Rattle.polynomial.proofs.RootScaling.{pair_of-at}
 use Rattle.polynomial.proofs.QuadraticScaling.{quadratic-scales}
 use Rattle.depths.specs.DepthSlots.{no_candidates, candidate, push_if_positive}
 use Rattle.depths.specs.Charts.{for_roots, no_divisor, first_chart_depths, first_chart}
 use Rattle.depths.specs.Charts.{second_chart_depths, weight_chart, second_chart, chart}
-use Rattle.depths.specs.Types.{Vector3, SquaredEdges, Roots, Factors, Candidate, Candidates}
+use Rattle.depths.specs.Types.{Vector3, SquaredEdges, Roots, RootPair, Factors}
+use Rattle.depths.specs.Types.{Candidate, Candidates}
 
 pub record AtCandidate (k : ℤ) (c c' : Candidate) : Type 0 where
   pub depths : AtVector k (pos 1) c.depths c'.depths
@@ -81,10 +83,17 @@ module _ {k : ℤ} where
       → AtCandidates k c c'
       → Both (AtCandidates k) (for_roots r turn c) (for_roots r' turn' c')
   unfolding for_roots
-  for_roots-scales roots turn found =
-      with_pair-scales roots (pure found) (λ _ _ _ _ lifted first second.
-      turn lifted _ _ _ _ found first >>= λ _ _ once.
-      turn lifted _ _ _ _ once second)
+  for_roots-scales {turn} {turn'} {c} {c'} roots each found =
+      with_some (pair_of-at roots) (pure found) (λ _ _ pair. go pair)
+    where
+      go : {p p' : RootPair}
+          → AtPair k (pos 0) p p'
+          → Both (AtCandidates k)
+          (traced.◌>>=◌ (turn p.lifted c p.first) (λ once. turn p.lifted once p.second))
+          (traced.◌>>=◌ (turn' p'.lifted c' p'.first) (λ once. turn' p'.lifted once p'.second))
+      go (pair-at lifted first second) =
+          each lifted _ _ _ _ found first >>= λ _ _ once.
+          each lifted _ _ _ _ once second
 
   no_divisor-same : {n : ℤ} {d d' : Float} → At k n d d' → no_divisor d ≡ no_divisor d'
   unfolding no_divisor

@@ -13,7 +13,7 @@ use lib.Ieee.{lt, of_bits}
 use lib.Ieee.Fits.{up_pos, down_pos}
 use lib.Ieee.Scale.{round_same}
 use Rattle.depths.specs.RatioOf.{is_not_real, ratio_of}
-use Rattle.depths.specs.Types.{NotReal}
+use Rattle.depths.specs.Types.{None}
 
 abbrev minus_one : Float
 minus_one = fin true 1 (pos 0)
@@ -48,6 +48,6 @@ unfolding is_not_real lt mul neg of_bits
 not-real r (inl e) = rw (e)
 not-real r (inr e) = rw (e)
 
-pub equal-not-real : (x : Float) → (ratio_of x x).value ≡ NotReal
+pub equal-not-real : (x : Float) → (ratio_of x x).value ≡ None
 unfolding ratio_of
 equal-not-real x = rw (not-real (div binary64 (neg x) x) (quotient x))

@@ -4,21 +4,11 @@ use mathlib.Core.Bool.{Bool, not}
 use lib.IntN.{ℤ, pos}
 use lib.Ieee.{Float}
 use Rattle.ieee754.specs.Literal.{sixty_four, epsilon}
-use Rattle.ieee754.specs.Traced.{Traced}
 use Rattle.ieee754.specs.Scaling.{Both, At}
 use Rattle.ieee754_laws.proofs.Degrees.{same, null, at_zero, !◌, ⊝◌, √◌, ◌⊗◌, ◌⊘◌, pure, ◌>>=◌}
 use Rattle.ieee754_laws.proofs.Degrees.{if◌then◌else◌, max-at, lt_same, finite-same}
-use Rattle.depths.specs.RatioOf.{with_ratio, is_not_real, ratio_of}
-use Rattle.depths.specs.Types.{Ratio, Real, NotReal}
-
--- what follows a ratio that is the same in the two runs, in any relation of them
-module _ {A : Type 0} {R : A → A → Type 0} {none none' : Traced A} where
-  pub with_ratio-scales : {f f' : Float → Traced A} (ratio : Ratio)
-      → Both R none none'
-      → ((x : Float) → Both R (f x) (f' x))
-      → Both R (with_ratio ratio none f) (with_ratio ratio none' f')
-  with_ratio-scales (Real x) none next = next x
-  with_ratio-scales NotReal none next = none
+use Rattle.depths.specs.RatioOf.{is_not_real, ratio_of}
+use Rattle.depths.specs.Types.{Option, Some, None}
 
 module _ {k : ℤ} where
   is_not_real-same : {x x' : Float}
@@ -34,12 +24,12 @@ module _ {k : ℤ} where
   pub ratio_of-same : {x x' y y' : Float}
       → At k (pos 2) x x'
       → At k (pos 2) y y'
-      → Both {A = Ratio} ◌≡◌ (ratio_of x y) (ratio_of x' y')
+      → Both {A = Option Float} ◌≡◌ (ratio_of x y) (ratio_of x' y')
   unfolding ratio_of
   ratio_of-same first second =
       ⊝ ! second ⊘ ! first >>= λ _ _ ratio_squared.
       is_not_real-same ratio_squared >>= λ _ _ not_real.
-      if not_real then pure (refl {a = NotReal})
+      if not_real then pure (refl {A = Option Float} {a = None})
       else (
       √◌ {n = pos 0} (! max-at ratio_squared null) >>= λ _ _ ratio.
-      pure (ap Real (at_zero ratio)))
+      pure (ap Some (at_zero ratio)))

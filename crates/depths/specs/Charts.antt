@@ -1,14 +1,14 @@
 -- The two charts of `solve_ordered` (lambdatwist.rs): from the null vector of one sign to at most
 -- two depth candidates, one for each root of the chart's quadratic. Where the quadratic refuses,
--- only that sign's turn ends. Whether the pair of roots was lifted is handed on (document 02, §8).
+-- only that sign's turn ends. Whether the pair of roots was lifted is handed on.
 use Rattle.std.specs.Prelude.{Bool, not, ◌||◌, Float, if◌then◌else◌}
 use Rattle.std.specs.Float.Ieee.{lt, le, eq}
 use Rattle.std.specs.Float.Ieee.Scale.{finite}
 use Rattle.ieee754.specs.Literal.{plus_zero, one, two}
 use Rattle.ieee754.specs.Magnitude.{abs}
-use Rattle.ieee754.specs.Traced.{Traced, pure, ◌>>=◌, ◌⊗◌, ◌⊕◌, ◌⊖◌, ◌⊘◌, !◌, ⊝◌, √◌}
+use Rattle.ieee754.specs.Traced.{Traced, pure, with_some, ◌>>=◌, ◌⊗◌, ◌⊕◌, ◌⊖◌, ◌⊘◌, !◌, ⊝◌, √◌}
 use Rattle.linalg.specs.Vectors.{vector}
-use Rattle.polynomial.specs.Answer.{pair_of, with_pair}
+use Rattle.polynomial.specs.Answer.{pair_of}
 use Rattle.polynomial.specs.Quadratic.{quadratic_real_monic}
 use Rattle.depths.specs.DepthSlots.{push_if_positive}
 use Rattle.depths.specs.Types.{Vector3, SquaredEdges, Roots, Factors, Candidates}
@@ -17,9 +17,9 @@ use Rattle.depths.specs.Types.{Vector3, SquaredEdges, Roots, Factors, Candidates
 unfoldable pub for_roots : Roots → (Bool → Candidates → Float → Traced Candidates) → Candidates
     → Traced Candidates
 for_roots roots turn found =
-    with_pair (pair_of roots) (pure found) (λ first second lifted. do
-      once ← turn lifted found first
-      turn lifted once second)
+    with_some (pair_of roots) (pure found) (λ pair. do
+      once ← turn pair.lifted found pair.first
+      turn pair.lifted once pair.second)
 
 -- denominator == 0.0 || !denominator.is_finite()
 unfoldable pub no_divisor : Float → Bool

@@ -1,5 +1,5 @@
 -- The depth candidates of `solve_ordered` (lambdatwist.rs): four slots and a count. The Rust's slot
--- is three depths; here it has the mark of document 02, §8 too.
+-- is three depths; here it has a mark too.
 use Rattle.std.specs.Prelude.{◌+◌, Bool, false, ◌&&◌, ◌||◌, [], ◌∷◌, ltb, set, Float, if◌then◌else◌}
 use Rattle.std.specs.Float.Ieee.{lt}
 use Rattle.ieee754.specs.Literal.{plus_zero}

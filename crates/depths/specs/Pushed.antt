@@ -2,10 +2,10 @@
 -- and whether there is room for them.
 use Rattle.std.specs.Prelude.{◌+◌, Bool, ltb, set, if◌then◌else◌}
 use Rattle.depths.specs.DepthSlots.{candidate}
-use Rattle.depths.specs.Types.{Candidates, Depths, At, Nowhere, ChartDepths}
+use Rattle.depths.specs.Types.{Vector3, Candidates, Option, Some, None, ChartDepths}
 
-unfoldable pub pushed : Candidates → Depths → Bool → Candidates
-pushed found (At depths) lifted =
+unfoldable pub pushed : Candidates → Option Vector3 → Bool → Candidates
+pushed found (Some depths) lifted =
     if ltb found.count 4
     then record {
       lifted = found.lifted;
@@ -13,7 +13,7 @@ pushed found (At depths) lifted =
       slots = set found.slots found.count (candidate found depths lifted);
     }
     else found
-pushed found Nowhere lifted = found
+pushed found None lifted = found
 
 -- of both roots of a chart's quadratic
 abbrev pub pushed_both : Candidates → ChartDepths → Candidates

@@ -6,12 +6,7 @@ use Rattle.std.specs.Float.Ieee.Scale.{finite}
 use Rattle.ieee754.specs.Literal.{plus_zero, sixty_four, epsilon}
 use Rattle.ieee754.specs.Maximum.{max}
 use Rattle.ieee754.specs.Traced.{Traced, pure, ◌>>=◌, ◌⊗◌, ◌⊘◌, !◌, ⊝◌, √◌}
-use Rattle.depths.specs.Types.{Ratio, Real, NotReal}
-
--- ---- what follows a ratio: what `k` makes of it, and `none` where it is not real
-abbrev pub with_ratio : {A : Type 0} → Ratio → Traced A → (Float → Traced A) → Traced A
-with_ratio (Real ratio) none k = k ratio
-with_ratio NotReal none k = none
+use Rattle.depths.specs.Types.{Option, Some, None}
 
 -- !ratio_squared.is_finite() || ratio_squared < -f64::EPSILON * 64.0: the product is reached only
 -- where the ratio is finite
@@ -22,13 +17,13 @@ is_not_real ratio_squared =
       limit ← ⊝ ! epsilon ⊗ ! sixty_four
       pure (lt ratio_squared limit)
 
-unfoldable pub ratio_of : Float → Float → Traced Ratio
+unfoldable pub ratio_of : Float → Float → Traced (Option Float)
 ratio_of first second = do
   -- let ratio_squared = -eigenvalues[1] / eigenvalues[0];
   ratio_squared ← ⊝ ! second ⊘ ! first
   not_real ← is_not_real ratio_squared
-  if not_real then pure NotReal
+  if not_real then pure None
       else do
         -- let ratio = ratio_squared.max(0.0).sqrt();
         ratio ← √ ! max ratio_squared plus_zero
-        pure (Real ratio)
+        pure (Some ratio)

@@ -1,27 +1,20 @@
-// The depth candidates of solve_ordered (lambdatwist.rs): four slots and a count. Each has the mark
-// of document 02, §8.
+//! The depth candidates of solve_ordered (lambdatwist.rs): four slots and a count. Each has a mark:
+//! whether a pair of roots that it came from was lifted.
 ghost use Rattle.std.specs.Prelude.{◌≡◌};
 ghost use Rattle.depths.specs.DepthSlots.{no_candidates};
 ghost use Rattle.depths.specs.Pushed.{pushed};
 
 use linalg::vector3::Vector3;
 
-// The depths of a root, where they are a candidate.
-#[derive(Clone, Copy)]
-pub enum Depths {
-    At(Vector3),
-    Nowhere,
-}
-
-// Three depths, and whether the pair of eigenvalues or of depth ratios that they came from was
-// lifted.
+/// Three depths, and whether the pair of eigenvalues or of depth ratios that they came from was
+/// lifted.
 #[derive(Clone, Copy)]
 pub struct Candidate {
     pub depths: Vector3,
     pub lifted: bool,
 }
 
-// `lifted` says it of the eigenvalues, which all the candidates came from.
+/// `lifted` says it of the eigenvalues, which all the candidates came from.
 #[derive(Clone, Copy)]
 pub struct Candidates {
     pub lifted: bool,
@@ -30,6 +23,7 @@ pub struct Candidates {
 }
 
 impl Candidates {
+    #[tactic(auto, unfolding(crate::specs::DepthSlots::no_candidates))]
     pub fn none(lifted: bool) -> Self
         ensures { result ≡ no_candidates lifted }
     {
@@ -44,19 +38,19 @@ impl Candidates {
         }
     }
 
-    // The depths appended where there are some and there is room; `lifted` says it of the pair of
-    // depth ratios.
-    pub fn push(mut self, depths: Depths, lifted: bool) -> Self
+    /// The depths of a root appended, where it has some and there is room; `lifted` says it of the
+    /// pair of depth ratios.
+    #[tactic(auto, unfolding(crate::specs::Pushed::pushed, crate::specs::DepthSlots::candidate))]
+    pub fn push(mut self, depths: Option<Vector3>, lifted: bool) -> Self
         ensures { result ≡ pushed self depths lifted }
     {
-        if let Depths::At(some) = depths {
-            let at = self.count;
-            if at < 4 {
-                self.slots[at] = Candidate {
-                    depths: some,
-                    lifted: self.lifted | lifted,
+        if let Some(depths) = depths {
+            if self.count < 4 {
+                self.slots[self.count] = Candidate {
+                    depths,
+                    lifted: self.lifted || lifted,
                 };
-                self.count = at + 1;
+                self.count += 1;
             }
         }
         self
