@@ -198,7 +198,7 @@ class Expressions(Marks):
 
     def path_expression(self):
         """A local, a constant, a call, a variant or a struct."""
-        if self.kind() != "id":
+        if self.kind() != "id" and not self.sees("<"):
             self.fail(f"an expression begins with {self.word()}")
         start = self.start()
         path = self.names()

@@ -165,6 +165,8 @@ class Marks(Grammar):
         """The other constants of a type, and the next number or double."""
         consts = self.world.consts
         kind, value = consts[target]
+        if not isinstance(kind, str):
+            return
         near = near_floats(value) if kind == "f64" else near_numbers(value)
         others = [
             n

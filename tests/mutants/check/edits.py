@@ -112,7 +112,9 @@ class Trial:
         return args
 
     def named(self, path):
-        """The functions of a name in the edited file, or with its module, or its crate too."""
+        """The functions of a name in the edited file, or with its module, or its crate too; an
+        array's stands as in `<[Pose; 4]>::read`."""
+        path = re.sub("[<> ]", "", path)
         crate, module = self.edit.crate, os.path.basename(self.edit.changes[0][0]).split(".")[0]
         above, _, name = path.rpartition("::")
         for key in (

@@ -4,6 +4,7 @@ from interpret.operations import built_in, cast, method, operate
 from interpret.values import NONE, OPTION, RESULT, Cell, Outside, Return, Struct, Trap, Variant
 from interpret.values import held, taken
 from syntax.library import CONSTANTS, OPERATORS
+from syntax.types import of_type
 
 
 def fits(pattern, value):
@@ -42,9 +43,15 @@ def fits_all(patterns, values):
     return out
 
 
-def of_type(key, name):
-    """The name of a type's function."""
-    return (*key[:2], f"{key[2]}::{name}")
+def types_of(value):
+    """The types that a value may have."""
+    if isinstance(value, (Struct, Variant)):
+        return [value.key]
+    if isinstance(value, bool):
+        return ["bool"]
+    if isinstance(value, int):
+        return ["u64", "u32", "usize", "i32", "u8"]
+    return ["f64"] if isinstance(value, float) else []
 
 
 def is_of(value, kind):
@@ -80,6 +87,8 @@ class Evaluate:
         target = self.named(path)
         if target in self.world.consts:
             return self.constant(target)
+        if target in self.world.structs:
+            return Struct(target, {})
         if len(path) == 1:
             raise Outside()  # a constant of a library outside
         return Variant(self.named(path[:-1]), path[-1], [])
@@ -213,10 +222,10 @@ class Evaluate:
     def on_method(self, env, e, name, args):
         own = self.run(e, env)
         values = [self.run(a, env) for a in args]
-        key = getattr(held(own), "key", None)
-        if key and of_type(key, name) in self.world.overloads:
-            values = [own] + values
-            return self.call(self.chosen(of_type(key, name), values), values)
+        for kind in types_of(held(own)):
+            if of_type(kind, name) in self.world.overloads:
+                values = [own] + values
+                return self.call(self.chosen(of_type(kind, name), values), values)
         return method(name, held(own), [held(v) for v in values])
 
     def on_call(self, env, path, args):
@@ -231,7 +240,7 @@ class Evaluate:
             above = self.named(path[:-1])
             if above in self.world.enums:
                 return Variant(above, path[-1], [taken(held(v)) for v in values])
-            if above in self.world.structs:
+            if of_type(above, path[-1]) in self.world.overloads:
                 return self.call(self.chosen(of_type(above, path[-1]), values), values)
         target = self.named(path)
         if target in self.world.tuples:

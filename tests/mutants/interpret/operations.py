@@ -118,6 +118,7 @@ METHODS = {
     "wrapping_sub": lambda a, b: (a - b) % (1 << 64),
     "wrapping_mul": lambda a, b: (a * b) % (1 << 64),
     "saturating_sub": lambda a, b: max(a - b, 0),
+    "checked_add": lambda a, b: some(a + b) if a + b < 1 << 64 else NONE,
     "leading_zeros": lambda n: 64 - n.bit_length(),
     "cast_signed": signed,
     "to_be_bytes": lambda n: list(n.to_bytes(8, "big")),

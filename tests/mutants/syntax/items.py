@@ -1,6 +1,6 @@
 """The items of a file: what it imports and declares. Types are read when every file has been
 declared, since a name may be of a later one. Ghost text (contracts, `ghost use`) is passed over."""
-from syntax.types import Types
+from syntax.types import Types, of_type
 
 
 class Function:
@@ -27,13 +27,13 @@ class Items(Types):
         word = self.word()
         if word == "fn":
             self.function(public, owner)
-        elif word in ("ghost", "mod", "type"):
+        elif word in ("ghost", "mod") or word == "type" and owner:
             self.pass_line()
         elif word == "trait":
             while not self.sees("{"):
                 self.next()
             self.skip("{", "}")
-        elif word in ("use", "const", "static", "struct", "enum", "impl"):
+        elif word in ("use", "const", "static", "struct", "enum", "impl", "type"):
             self.next()
             getattr(self, word + "_item")()
         else:
@@ -59,6 +59,8 @@ class Items(Types):
         while not self.sees(";"):
             if self.sees("{"):
                 self.skip("{", "}")
+            elif self.sees("["):
+                self.skip("[", "]")
             else:
                 self.next()
         self.next()
@@ -102,6 +104,13 @@ class Items(Types):
 
     static_item = const_item
 
+    def type_item(self):
+        """Another name of a type."""
+        name = self.declared()
+        self.expect("=")
+        self.world.aliases[self.file.key(name)] = (self.file, self.at)
+        self.pass_line()
+
     def struct_item(self):
         name = self.declared()
         fields = {}
@@ -109,6 +118,8 @@ class Items(Types):
             key, parts = self.file.key(name), self.parts()
             self.file.later.append(lambda: self.world.tuples.update({key: self.types(parts)}))
             self.expect(";")
+        elif self.passes(";"):
+            pass
         else:
             self.expect("{")
             fields = self.fields()
@@ -183,10 +194,10 @@ class Items(Types):
 
     def implemented(self):
         """The name of a trait or of a type, or an array's text."""
-        start = self.start()
+        start = self.at
         if self.sees("["):
             self.skip("[", "]")
-            return self.text[start : self.done()]
+            return self.words(start)
         self.passes("&")
         name = self.names()[-1]
         if self.sees("<"):
@@ -250,8 +261,7 @@ class Items(Types):
         ]
         f.result = self.type_at(result, owner) if result is not None else "()"
         if owner and owner[0] != "[":
-            kind = self.file.named([owner])
-            self.world.add((*kind[:2], f"{kind[2]}::{f.path.split('::')[-1]}"), f)
+            self.world.add(of_type(self.file.named([owner]), f.path.split("::")[-1]), f)
 
     def own(self, owner, lent, mutable):
         """The type of `self`."""

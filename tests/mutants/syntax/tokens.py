@@ -105,11 +105,20 @@ class Cursor:
             self.passes(",")
 
     def names(self):
-        """The names of a path, `a::b::c`."""
-        out = [self.take()]
+        """The names of a path, `a::b::c`; of `<[A; 4]>::b` the first is the array's text."""
+        start = self.at
+        if self.sees("<"):
+            self.skip("<", ">")
+            out = [self.words(start)[1:-1]]
+        else:
+            out = [self.take()]
         while self.passes("::"):
             out.append(self.take())
         return out
+
+    def words(self, start):
+        """The tokens from one on that were read, without spaces."""
+        return "".join(t[1] for t in self.tokens[start : self.at])
 
     def skip(self, opens, closes):
         """Past a bracket that opens here, with all that is in it."""

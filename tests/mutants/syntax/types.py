@@ -46,6 +46,11 @@ def bare(t):
     return t
 
 
+def of_type(kind, name):
+    """The name of a type's function, of a built-in type's too."""
+    return ("", "", f"{kind}::{name}") if isinstance(kind, str) else (*kind[:2], f"{kind[2]}::{name}")
+
+
 class Types(Cursor):
     """A cursor that reads types, by the names that a file knows."""
 
@@ -91,7 +96,11 @@ class Types(Cursor):
         given = self.given_types(owner) if self.passes("<") else []
         if names[-1] in ("Option", "Result"):
             return (names[-1].lower(), *given)
-        return self.file.named(names, owner)
+        found = self.file.named(names, owner)
+        if found in self.file.world.aliases:
+            file, at = self.file.world.aliases[found]
+            return Types(file, file.tokens, at).type()
+        return found
 
     def given_types(self, owner):
         """The types that a generic one is given, up to the bracket that closes it."""

@@ -11,6 +11,7 @@ class World:
 
     def __init__(self, root, crates):
         self.structs, self.enums, self.functions, self.consts, self.files = {}, {}, {}, {}, []
+        self.aliases = {}  # the file of each other name of a type, and where that begins
         self.homes = {}  # the file of each constant
         self.overloads = {}  # each name's functions, of which an operator may have two
         self.tuples = {}  # the types of the parts of each struct that has no names for them
