@@ -3,11 +3,8 @@
 use Prim.Native.Nat.{ℕ, ◌*◌, ◌^◌}
 use mathlib.Core.Path.{sym, ap, ◌∙◌}
 use native.Mathlib.Nat.{zero-mul}
-use borrow.Author.Rules.{rules}
-use borrow.Author.Tests.{not-true, not-false}
 use lib.Dec.{lit<}
-use mir.Syntax.{w32}
-use mir.ValLaws.{to_z-of_z}
+use Rattle.std.proofs.lemmas.Bool.{le-leb, lt-leb}
 use Rattle.ieee754_parts.proofs.Tests.{answered, denied}
 use Rattle.ieee754.proofs.Exponent.{normal-value}
 use Rattle.scaleb.proofs.ScalableLaws.{scalable-infinite, scalable-nothing}
@@ -16,7 +13,7 @@ use Rattle.scaleb.proofs.scalable.is_scalable.Goals as goal
 
 pub returns-then-not-is_finite : goal.returns-then-not-is_finite
 returns-then-not-is_finite c =
-    sym (scalable-infinite c.args.k c.args.x
+    sym (scalable-infinite c.args.reach.k c.args.x
     (denied c.is_finite.ensures c.if-not-is_finite.true))
 
 pub unpack-a-requires : goal.unpack-a-requires
@@ -25,19 +22,31 @@ unpack-a-requires c = answered c.is_finite.ensures c.if-not-is_finite.false
 pub returns-then-a-eq0 : goal.returns-then-a-eq0
 returns-then-a-eq0 c =
     let a = c.unpack-a.result in
-    sym (scalable-nothing c.args.k c.args.x a.negative (a.sig * 2 ^ a.exp)
+    sym (scalable-nothing c.args.reach.k c.args.x a.negative (a.sig * 2 ^ a.exp)
     (2 ^ 1074)
     (ap (λ (m : ℕ). m * 2 ^ a.exp) c.if-a-eq0.true ∙ zero-mul (2 ^ a.exp)) (lit< tt)
     c.unpack-a.ensures.is)
 
-pub returns : goal.returns
-returns c =
+pub returns-then-moved-ge116 : goal.returns-then-moved-ge116
+returns-then-moved-ge116 c =
     let n = c.normalise-n in
-    let k = c.args.k in
+    let k = c.args.reach.k in
     let x = c.args.x in
     let a = c.unpack-a.result in
-    sym (scalable-exponent k c.from_lowest.result
-    (rw (to_z-of_z w32 k c.ranges.k) at c.from_lowest.ensures.1)
+    let within =
+    scalable-exponent k c.from_lowest.result c.from_lowest.ensures.counts
     n.result.sig n.result.exp n.ensures.low n.ensures.high x a.negative
-    (normal-value x a.negative a.sig a.exp n.result c.unpack-a.ensures.is
-    n.ensures))
+    (normal-value x a.negative a.sig a.exp n.result c.unpack-a.ensures.is n.ensures) in
+    rw (within, le-leb 116 _ c.if-moved-ge116.true)
+
+pub returns-else-moved-ge116 : goal.returns-else-moved-ge116
+returns-else-moved-ge116 c =
+    let n = c.normalise-n in
+    let k = c.args.reach.k in
+    let x = c.args.x in
+    let a = c.unpack-a.result in
+    let within =
+    scalable-exponent k c.from_lowest.result c.from_lowest.ensures.counts
+    n.result.sig n.result.exp n.ensures.low n.ensures.high x a.negative
+    (normal-value x a.negative a.sig a.exp n.result c.unpack-a.ensures.is n.ensures) in
+    rw (within, lt-leb 116 _ c.if-moved-ge116.false)

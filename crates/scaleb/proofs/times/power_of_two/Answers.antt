@@ -5,12 +5,9 @@ use mathlib.Core.Path.{◌≡◌, refl, sym, ap, ◌∙◌}
 use mathlib.Core.Bool.{false}
 use native.Mathlib.Nat.{lt_of_le_of_lt, le_of_eq}
 use native.Mathlib.Omega.{arith}
-use borrow.Author.Rules.{rules}
 use lib.IntN.{ℤ, pos, negsuc, ◌+ℤ◌, +ℤ_comm, +ℤ-neg_ℤ_cancel}
 use lib.Pow.{pow-add, pow-lt}
 use lib.Ieee.{fin, binary64, minus, odd, units}
-use mir.Syntax.{w32}
-use mir.ValLaws.{to_z-of_z}
 use Rattle.ieee754_laws.proofs.Powers.{minus-add}
 use Rattle.ieee754_laws.proofs.RoundScale.{units-odd}
 use Rattle.scaleb.proofs.times.power_of_two.Goals as goal
@@ -40,7 +37,5 @@ module _ (k : ℤ) (u : ℕ) (most : u ≤ 128) (counts : pos u ≡ k +ℤ pos 6
 pub returns : goal.returns
 returns c =
     let counted = c.from_lowest in
-    let k = c.args.k in
     c.pack_finite.ensures
-    ∙ power k counted.result counted.ensures.0
-    (rw (to_z-of_z w32 k c.ranges.k) at counted.ensures.1)
+    ∙ power c.args.reach.k counted.result counted.ensures.few counted.ensures.counts
