@@ -22,5 +22,5 @@ pub fn is_scalable(x: f64, reach: Reach) -> bool
     }
     let n = normalise(a.sig, a.exp);
     let moved = n.exp + reach.from_lowest();
-    116 <= moved && moved <= 2161
+    (116 <= moved) & (moved <= 2161)
 }

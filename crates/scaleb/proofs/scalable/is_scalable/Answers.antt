@@ -4,7 +4,6 @@ use Prim.Native.Nat.{ℕ, ◌*◌, ◌^◌}
 use mathlib.Core.Path.{sym, ap, ◌∙◌}
 use native.Mathlib.Nat.{zero-mul}
 use lib.Dec.{lit<}
-use Rattle.std.proofs.lemmas.Bool.{le-leb, lt-leb}
 use Rattle.ieee754_parts.proofs.Tests.{answered, denied}
 use Rattle.ieee754.proofs.Exponent.{normal-value}
 use Rattle.scaleb.proofs.ScalableLaws.{scalable-infinite, scalable-nothing}
@@ -27,26 +26,12 @@ returns-then-a-eq0 c =
     (ap (λ (m : ℕ). m * 2 ^ a.exp) c.if-a-eq0.true ∙ zero-mul (2 ^ a.exp)) (lit< tt)
     c.unpack-a.ensures.is)
 
-pub returns-then-moved-ge116 : goal.returns-then-moved-ge116
-returns-then-moved-ge116 c =
+pub returns : goal.returns
+returns c =
     let n = c.normalise-n in
     let k = c.args.reach.k in
     let x = c.args.x in
     let a = c.unpack-a.result in
-    let within =
-    scalable-exponent k c.from_lowest.result c.from_lowest.ensures.counts
+    sym (scalable-exponent k c.from_lowest.result c.from_lowest.ensures.counts
     n.result.sig n.result.exp n.ensures.low n.ensures.high x a.negative
-    (normal-value x a.negative a.sig a.exp n.result c.unpack-a.ensures.is n.ensures) in
-    rw (within, le-leb 116 _ c.if-moved-ge116.true)
-
-pub returns-else-moved-ge116 : goal.returns-else-moved-ge116
-returns-else-moved-ge116 c =
-    let n = c.normalise-n in
-    let k = c.args.reach.k in
-    let x = c.args.x in
-    let a = c.unpack-a.result in
-    let within =
-    scalable-exponent k c.from_lowest.result c.from_lowest.ensures.counts
-    n.result.sig n.result.exp n.ensures.low n.ensures.high x a.negative
-    (normal-value x a.negative a.sig a.exp n.result c.unpack-a.ensures.is n.ensures) in
-    rw (within, lt-leb 116 _ c.if-moved-ge116.false)
+    (normal-value x a.negative a.sig a.exp n.result c.unpack-a.ensures.is n.ensures))
