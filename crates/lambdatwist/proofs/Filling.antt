@@ -1,19 +1,21 @@
 -- The slots that the stages fill: none at first, one more with each pose that is kept, and a stage
 -- that stops leaves a refusal whatever they hold. Assumes nothing.
-use mathlib.Core.Path.{◌≡◌, refl, ap, subst⁻¹}
+use mathlib.Core.Path.{◌≡◌, refl}
 use mathlib.Core.Bool.{Bool}
-use mathlib.Core.List.{List, [], ◌∷◌, map}
-use Prim.Native.Nat.{ℕ, zero, suc, ◌+◌, ◌≤◌, ◌<◌}
+use mathlib.Core.List.{List, map}
+use Prim.Native.Nat.{ℕ, ◌+◌, ◌<◌}
 use native.Mathlib.Omega.{arith}
 use lib.Ieee.{Float}
 use lib.ListN.{set}
+use Rattle.std.proofs.lemmas.List.{map-set}
 use borrow.Author.Tests.{lt-ltb}
 use Rattle.linalg.specs.Matrices.{from_columns}
 use Rattle.frames.specs.Lent.{vector_at, pose_at, entries}
+use Rattle.polynomial.proofs.RootTags.{no-root}
 use Rattle.p3p_common.specs.Slots.{empty, push}
 use Rattle.lambdatwist.specs.LentSlots.{pose_of, held, Fresh, Answers}
 use Rattle.lambdatwist.specs.Solve.{if_kept, refused}
-use Rattle.lambdatwist.specs.Types.{Pose, Solutions}
+use Rattle.lambdatwist.specs.Types.{Pose}
 
 -- ---- at first
 pub none-held : {slots : List (List Float)} {updates : List ℕ} {lifted : List Bool}
@@ -32,12 +34,6 @@ pose-of-entries : (p : Pose) → pose_of (entries p) ≡ p
 unfolding entries pose_at vector_at from_columns
 pose-of-entries p = refl
 
-map-set : {A B : Type 0} (f : A → B) (l : List A) (i : ℕ) (a : A)
-    → map f (set l i a) ≡ set (map f l) i (f a)
-map-set f [] i a = refl
-map-set f (x ∷ l) zero a = refl
-map-set f (x ∷ l) (suc i) a = ap (λ (r : _). f x ∷ r) (map-set f l i a)
-
 pub next-held : (count : ℕ) (slots : List (List Float)) (updates : List ℕ) (lifted : List Bool)
     (pose : Pose) (taken : ℕ) (mark : Bool)
     → count < 4
@@ -52,18 +48,12 @@ next-held count slots updates lifted pose taken mark room =
       pose-of-entries pose,
     )
 
--- ---- the end of a stage: the solutions that it held, or a refusal where it stops
-pub filled : (count : ℕ) (slots : List (List Float)) (updates : List ℕ) (lifted : List Bool)
-    {solutions : Solutions}
-    → held count slots updates lifted ≡ solutions
-    → solutions.count ≤ 4
-    → Answers count slots updates lifted (if_kept solutions)
-unfolding held
-filled count slots updates lifted e few = record {
-  few = subst⁻¹ (λ (s : Solutions). s.count ≤ 4) e few;
-  same = ap if_kept e;
-}
+pub ruleset filling = (next-held, none-held)
 
+-- a cubic that has no one root
+pub ruleset roots = (no-root)
+
+-- ---- a stage that stops
 pub stops : (slots : List (List Float)) (updates : List ℕ) (lifted : List Bool)
     → Answers 0 slots updates lifted (refused 3)
 unfolding if_kept held

@@ -13,7 +13,7 @@ use Rattle.ieee754.specs.Traced as traced
 use Rattle.ieee754.specs.Traced.{Traced}
 use Rattle.ieee754.specs.Scaling.{Both}
 use Rattle.ieee754_laws.proofs.Degrees.{same, at_zero, !◌, ◌⊗◌, ◌⊘◌, pure, ◌>>=◌, ◌>>≡◌}
-use Rattle.ieee754_laws.proofs.Degrees.{if◌then◌else◌, choose, equal}
+use Rattle.ieee754_laws.proofs.Degrees.{if◌then◌else◌, choose, equal, with_some, with_same}
 use Rattle.linalg.specs.VectorScaling.{AtMatrix}
 use Rattle.linalg.specs.Vectors.{all_finite}
 use Rattle.linalg.proofs.VectorDegrees.{all_finite-same}
@@ -22,7 +22,6 @@ use Rattle.polynomial.proofs.CubicScaling.{cubic-scales}
 use Rattle.p3p_common.specs.Input.{input_finite}
 use Rattle.frames.specs.FrameScaling.{AtWorld, AtPose}
 use Rattle.p3p_common.specs.PoseScaling.{AtInput, AtSolutions}
-use Rattle.p3p_common.proofs.BasisScaling.{with_inverse-scales}
 use Rattle.p3p_common.proofs.SlotScaling.{empty-scales}
 use Rattle.lambdatwist.specs.Solve.{answered, refused, if_kept, stopped, solve_candidates}
 use Rattle.lambdatwist.specs.Solve.{solve_root, solve_cubic, ordered_or, best_or, solve_ordered}
@@ -35,8 +34,10 @@ use Rattle.orderings.proofs.MeasureScaling.{measured_cubic-scales}
 use Rattle.depths.specs.Matrix.{singular_matrix}
 use Rattle.depths.specs.Signs.{candidates}
 use Rattle.depths.proofs.MatrixScaling.{singular_matrix-scales}
-use Rattle.depths.proofs.RatioScaling.{with_ratio-scales, ratio_of-same}
-use Rattle.eigen.proofs.SystemScaling.{with_system-scales, eig_with_known_zero-scales}
+use Rattle.depths.proofs.RatioScaling.{ratio_of-same}
+use Rattle.depths.specs.RatioOf.{ratio_of}
+use Rattle.eigen.proofs.SystemScaling.{AtSystem, found_at, eig_with_known_zero-scales}
+use Rattle.eigen.specs.declared.known_zero.Eigensystem.{Eigensystem}
 use Rattle.depths.proofs.ChartScaling.{AtCandidates}
 use Rattle.depths.proofs.SignScaling.{candidates-scales}
 use Rattle.lambdatwist.proofs.PoseScaling.{poses-scales}
@@ -84,7 +85,7 @@ module _ {k : ℤ} where
       unfolding solve_candidates
       solve_candidates-scales found =
           basis_of-scales M.source >>= λ _ _ basis.
-          with_inverse-scales basis stops (λ _ _ world_inverse.
+          with_some basis stops (λ _ _ world_inverse.
           poses-scales I M world_inverse found >>= λ _ _ solutions.
           pure (if_kept-at solutions))
 
@@ -102,17 +103,30 @@ module _ {k : ℤ} where
       found-scales e ratio lifted =
           rw (← M.factors) (candidates-scales m.factors M.squares e ratio lifted)
 
+      -- what follows an eigensystem
+      abbrev after : P3pInput → Measured → Eigensystem → Traced Answer
+      after input m eigen =
+          traced.◌>>=◌ (ratio_of eigen.values.x eigen.values.y) (λ ratio.
+          traced.with_some ratio stopped (λ real.
+          traced.◌>>=◌ (candidates m.squares m.factors eigen.vectors real eigen.lifted)
+          (solve_candidates input m)))
+
+      after_scales : {e e' : Eigensystem}
+          → AtSystem k e e'
+          → Both (AtAnswer k) (after input m e) (after input' m' e')
+      after_scales (found_at vectors lifted values) =
+          ratio_of-same values.x values.y >>≡ λ ratio.
+          with_same ratio stops (λ real.
+          found-scales vectors real lifted >>= λ _ _ found.
+          solve_candidates-scales found)
+
       solve_root-scales : (g : Float)
           → Both (AtAnswer k) (solve_root input m g) (solve_root input' m' g)
       unfolding solve_root
       solve_root-scales g =
           matrix-scales g >>= λ _ _ matrix.
           eig_with_known_zero-scales matrix >>= λ _ _ system.
-          with_system-scales system stops (λ eigenvectors _ _ lifted eigenvalues.
-          ratio_of-same eigenvalues.x eigenvalues.y >>≡ λ ratio.
-          with_ratio-scales ratio stops (λ real.
-          found-scales eigenvectors real lifted >>= λ _ _ found.
-          solve_candidates-scales found))
+          with_some system stops (λ _ _ eigen. after_scales eigen)
 
       solve_cubic-scales : {c c' : Coefficients}
           → AtCoefficients k c c'

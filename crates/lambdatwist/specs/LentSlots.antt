@@ -2,11 +2,12 @@
 -- its twelve entries, its updates, and its mark. What they hold is a `Solutions`
 -- (SolverP3pSolutions of common.rs), and at the end the definition's answer.
 use Rattle.std.specs.Prelude.{ℕ, ◌≤◌, ◌≡◌, Bool, false, List, map, Float, replicate}
+use Rattle.std.specs.Prelude.{Option, Some, None}
 use Rattle.ieee754.specs.Literal.{plus_zero}
 use Rattle.frames.specs.Lent.{pose_at}
 use Rattle.p3p_common.specs.Slots.{push}
 use Rattle.lambdatwist.specs.Solve.{if_kept}
-use Rattle.lambdatwist.specs.Types.{Pose, Solutions, Turn, Kept, Dropped, Answer}
+use Rattle.lambdatwist.specs.Types.{Pose, Solutions, Kept, Answer}
 
 abbrev pub pose_of : List Float → Pose
 pose_of slot = pose_at slot 0
@@ -22,10 +23,10 @@ pub record Fresh (slots : List (List Float)) (updates : List ℕ) (lifted : List
   pub no-updates : updates ≡ replicate 4 0
   pub no-marks : lifted ≡ replicate 4 false
 
--- ---- what a candidate's turn does to the solutions; `lifted` is the candidate's mark
-abbrev pub turned : Solutions → Turn → Bool → Solutions
-turned output (Kept pose updates) lifted = push output pose updates lifted
-turned output Dropped lifted = output
+-- ---- what a candidate's pose does to the solutions; `lifted` is the candidate's mark
+abbrev pub turned : Solutions → Option Kept → Bool → Solutions
+turned output (Some kept) lifted = push output kept.pose kept.updates lifted
+turned output None lifted = output
 
 -- ---- what a stage leaves: so many slots that are its answer
 pub record Answers (count : ℕ) (slots : List (List Float)) (updates : List ℕ) (lifted : List Bool)

@@ -1,6 +1,6 @@
 -- From depth candidates to poses: the end of `solve_ordered` (lambdatwist.rs). Each candidate is
 -- refined, and where its depths are positive a pose is made of it and goes to the gate. The pose
--- has its candidate's mark (document 02, §8).
+-- has its candidate's mark.
 use Rattle.std.specs.Prelude.{Bool, ◌&&◌, not, List, [], ◌∷◌, take, if◌then◌else◌}
 use Rattle.std.specs.Float.Ieee.{le}
 use Rattle.ieee754.specs.Literal.{plus_zero}

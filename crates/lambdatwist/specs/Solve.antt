@@ -1,23 +1,22 @@
 -- The solve of eighteen doubles: `solve_ordered`, `solve_best_conditioned_permutation`, and
--- `solve_validated` with `solve_solver_minimal` as `solve`, of lambdatwist.rs, with the refusals of
--- document 01. An ordering is solved with an allowance of retries; where it is unusable and one is
--- left, the best conditioned of the other orderings is solved with one less.
+-- `solve_validated` with `solve_solver_minimal` as `solve`, of lambdatwist.rs, with its refusals. An
+-- ordering is solved with an allowance of retries; where it is unusable and one is left, the best
+-- conditioned of the other orderings is solved with one less.
 use Rattle.std.specs.Prelude.{ℕ, zero, suc, not, eqb, Float, if◌then◌else◌}
 use Rattle.std.specs.Float.Ieee.{le}
 use Rattle.ieee754.specs.Literal.{sixty_four, epsilon}
-use Rattle.ieee754.specs.Traced.{Traced, pure, ◌>>=◌, ◌⊗◌, ◌⊘◌, !◌}
+use Rattle.ieee754.specs.Traced.{Traced, pure, ◌>>=◌, with_some, ◌⊗◌, ◌⊘◌, !◌}
 use Rattle.polynomial.specs.Answer.{with_root}
 use Rattle.polynomial.specs.PolishedRoot.{polished_cubic_root}
 use Rattle.p3p_common.specs.Input.{input_finite}
 use Rattle.p3p_common.specs.Slots.{empty}
-use Rattle.p3p_common.specs.WorldBasisInverse.{with_inverse}
 use Rattle.orderings.specs.Basis.{basis_of}
 use Rattle.orderings.specs.Measure.{measure, measured_cubic}
 use Rattle.orderings.specs.Cubic.{is_unusable}
 use Rattle.depths.specs.Matrix.{singular_matrix}
-use Rattle.depths.specs.RatioOf.{with_ratio, ratio_of}
+use Rattle.depths.specs.RatioOf.{ratio_of}
 use Rattle.depths.specs.Signs.{candidates}
-use Rattle.eigen.specs.KnownZero.{with_system, eig_with_known_zero}
+use Rattle.eigen.specs.KnownZero.{eig_with_known_zero}
 use Rattle.lambdatwist.specs.Poses.{poses}
 use Rattle.orderings.specs.Permutation.{best_permutation}
 use Rattle.lambdatwist.specs.Types.{World, Bearings, P3pInput, Solutions, Measured}
@@ -37,7 +36,7 @@ answered number solutions = record {
 unfoldable pub refused : ℕ → Answer
 refused number = answered number empty
 
--- question 3 of document 01: was a pose kept?
+-- was a pose kept?
 unfoldable pub if_kept : Solutions → Answer
 if_kept solutions = if eqb solutions.count 0 then refused 3 else answered 0 solutions
 
@@ -52,7 +51,7 @@ stopped = pure (refused 3)
 unfoldable pub solve_candidates : P3pInput → Measured → Candidates → Traced Answer
 solve_candidates input measured found = do
   basis ← basis_of measured.source
-  with_inverse basis stopped (λ world_inverse. do
+  with_some basis stopped (λ world_inverse. do
     solutions ← poses input measured world_inverse found
     pure (if_kept solutions))
 
@@ -61,10 +60,10 @@ unfoldable pub solve_root : P3pInput → Measured → Float → Traced Answer
 solve_root input measured g = do
   matrix ← singular_matrix measured.squares measured.factors g
   system ← eig_with_known_zero matrix
-  with_system system stopped (λ eigenvectors eigenvalues lifted. do
-    ratio ← ratio_of eigenvalues.x eigenvalues.y
-    with_ratio ratio stopped (λ real. do
-      found ← candidates measured.squares measured.factors eigenvectors real lifted
+  with_some system stopped (λ eigen. do
+    ratio ← ratio_of eigen.values.x eigen.values.y
+    with_some ratio stopped (λ real. do
+      found ← candidates measured.squares measured.factors eigen.vectors real eigen.lifted
       solve_candidates input measured found))
 
 -- let Some(g) = polished_cubic_root(cubic2 / cubic3, cubic1 / cubic3, cubic0 / cubic3) else { .. }
@@ -104,7 +103,7 @@ solve_ordered (suc n) input world bearings = ordered_or (best_or (solve_ordered 
 unfoldable pub solve_best_conditioned_permutation : ℕ → P3pInput → Traced Answer
 solve_best_conditioned_permutation n input = best_or (solve_ordered n) input
 
--- ---- the solve: question 1 of document 01, then the given ordering with one retry
+-- ---- the solve: is every number finite? Then the given ordering with one retry
 unfoldable pub solve : World → Bearings → Traced Answer
 solve world bearings =
     let input : P3pInput = record { world = world; bearings = bearings } in

@@ -12,6 +12,5 @@ pub use Rattle.orderings.specs.declared.cubic.Coefficients.{Coefficients}
 pub use Rattle.orderings.specs.declared.measured.Measured.{Measured}
 pub use Rattle.depths.specs.declared.candidates.Candidate.{Candidate}
 pub use Rattle.depths.specs.declared.candidates.Candidates.{Candidates}
-pub use Rattle.lambdatwist.specs.declared.slots.Turn.{Turn}
-pub use Rattle.lambdatwist.specs.declared.slots.Turn.TheVariants.{Kept, Dropped}
+pub use Rattle.lambdatwist.specs.declared.slots.Kept.{Kept}
 pub use Rattle.lambdatwist.specs.declared.solve.Answer.{Answer}

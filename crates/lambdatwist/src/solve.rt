@@ -1,6 +1,5 @@
-// The solve of eighteen doubles: solve_ordered, solve_best_conditioned_permutation, and
-// solve_validated with solve_solver_minimal as `solve`, of lambdatwist.rs, with the refusals of
-// document 01.
+//! The solve of eighteen doubles: solve_ordered, solve_best_conditioned_permutation, and
+//! solve_validated with solve_solver_minimal as `solve`, of lambdatwist.rs, with its refusals.
 ghost use Rattle.std.specs.Prelude.{◌≡◌, ◌≤◌};
 ghost use Rattle.lambdatwist.specs.LentSlots.{Fresh, Answers};
 ghost use Rattle.lambdatwist.specs.Solve as Solve;
@@ -9,7 +8,7 @@ use crate::poses::poses;
 use crate::slots::held;
 use depths::candidates::Candidates;
 use depths::matrix::singular_matrix;
-use depths::ratio::{Ratio, ratio_of};
+use depths::ratio::ratio_of;
 use depths::signs::candidates;
 use eigen::eigenpairs::{Eigenpairs, eigenpairs_with_known_zero};
 use frames::bearings::Bearings;
@@ -21,13 +20,12 @@ use orderings::measured::{Measured, measure, measured_cubic};
 use orderings::permutation::best_permutation;
 use p3p_common::input::P3pInput;
 use p3p_common::solutions::Solutions;
-use p3p_common::world_basis_inverse::Basis;
 use polynomial::Roots;
 use polynomial::cubic::polished_cubic_root;
 
-// `refusal` is 0 where there is a pose, and otherwise 1, 2 or 3, with count 0 and plus zeros in
-// every slot. `lifted` says of each pose whether the pair of eigenvalues or of depth ratios that it
-// came from was lifted (document 02, §8). Slots beyond the count hold plus zeros and false.
+/// `refusal` is 0 where there is a pose, and otherwise 1, 2 or 3, with count 0 and plus zeros in
+/// every slot. `lifted` says of each pose whether the pair of eigenvalues or of depth ratios that it
+/// came from was lifted. Slots beyond the count hold plus zeros and false.
 #[derive(Clone, Copy)]
 pub struct Answer {
     pub refusal: u32,
@@ -37,41 +35,49 @@ pub struct Answer {
     pub lifted: [bool; 4],
 }
 
+#[tactic(auto, unfolding(crate::specs::Solve::answered))]
 fn answered(number: u32, solutions: Solutions) -> Answer
     requires { solutions.count ≤ 4 }
     ensures { result ≡ Solve.answered number solutions }
 {
-    let poses = solutions.poses;
-    let updates = solutions.updates;
-    let lifted = solutions.lifted;
+    let Solutions {
+        count,
+        poses,
+        updates,
+        lifted,
+    } = solutions;
     Answer {
         refusal: number,
-        count: solutions.count as u32,
+        count: count as u32,
         poses,
         updates,
         lifted,
     }
 }
 
+#[tactic(auto, unfolding(crate::specs::Solve::refused, p3p_common::specs::Slots::empty))]
 pub fn refused(number: u32) -> Answer
     ensures { result ≡ Solve.refused number }
 {
     answered(number, Solutions::empty())
 }
 
+#[tactic(auto, unfolding(crate::specs::Solve::if_kept))]
 pub fn if_kept(solutions: Solutions) -> Answer
     requires { solutions.count ≤ 4 }
     ensures { result ≡ Solve.if_kept solutions }
 {
     if solutions.count == 0 {
-        return refused(3);
+        refused(3)
+    } else {
+        answered(0, solutions)
     }
-    answered(0, solutions)
 }
 
 // ---- the stages of solve_ordered, from the last to the first: each fills the slots and returns
 // how many, 0 where it stops
 
+#[tactic(auto, using(crate::proofs::Filling::stops), unfolding(crate::specs::Solve::solve_candidates))]
 fn solve_candidates(
     input: P3pInput,
     measured: Measured,
@@ -85,8 +91,7 @@ fn solve_candidates(
     ensures { Answers result slots.new updates.new lifted.new
         (Solve.solve_candidates input measured found).value }
 {
-    let source = measured.source;
-    let Basis::Inverse(world_inverse) = basis_of(source) else {
+    let Some(world_inverse) = basis_of(measured.source) else {
         return 0;
     };
     poses(
@@ -112,20 +117,30 @@ fn solve_root(
     ensures { Answers result slots.new updates.new lifted.new
         (Solve.solve_root input measured g).value }
 {
-    let squares = measured.squares;
-    let factors = measured.factors;
+    let Measured {
+        squares,
+        factors,
+        ..
+    } = measured;
     let matrix = singular_matrix(squares, factors, g);
-    let Eigenpairs::Both(column0, column1, first_value, second_value, mark) =
-        eigenpairs_with_known_zero(matrix) else {
+    let Some(
+        Eigenpairs {
+            column0,
+            column1,
+            values,
+        },
+    ) = eigenpairs_with_known_zero(matrix)
+    else {
         return 0;
     };
-    let Ratio::Real(ratio) = ratio_of(first_value, second_value) else {
+    let Some(ratio) = ratio_of(values.first, values.second) else {
         return 0;
     };
-    let found = candidates(squares, factors, column0, column1, ratio, mark);
+    let found = candidates(squares, factors, column0, column1, ratio, values.lifted);
     solve_candidates(input, measured, found, slots, updates, lifted)
 }
 
+#[tactic(auto, using(crate::proofs::Filling::stops, crate::proofs::Filling::roots), unfolding(crate::specs::Solve::solve_cubic))]
 pub fn solve_cubic(
     input: P3pInput,
     measured: Measured,
@@ -138,11 +153,14 @@ pub fn solve_cubic(
     ensures { Answers result slots.new updates.new lifted.new
         (Solve.solve_cubic input measured c).value }
 {
-    let cubic3 = c.cubic3;
-    let c2 = c.cubic2 / cubic3;
-    let c1 = c.cubic1 / cubic3;
-    let c0 = c.cubic0 / cubic3;
-    let Roots::One(g) = polished_cubic_root(c2, c1, c0) else {
+    let Coefficients {
+        cubic3,
+        cubic2,
+        cubic1,
+        cubic0,
+    } = c;
+    let Roots::One(g) = polished_cubic_root(cubic2 / cubic3, cubic1 / cubic3, cubic0 / cubic3)
+    else {
         return 0;
     };
     solve_root(input, measured, g, slots, updates, lifted)
@@ -159,10 +177,11 @@ fn solve_ordered(input: P3pInput, world: World, bearings: Bearings, retries: u32
     let measured = measure(world, bearings);
     let cubic = measured_cubic(measured);
     if is_unusable(cubic) {
-        if retries > 0 {
-            return solve_best_conditioned_permutation(input, retries - 1);
-        }
-        return refused(2);
+        return if retries > 0 {
+            solve_best_conditioned_permutation(input, retries - 1)
+        } else {
+            refused(2)
+        };
     }
     let mut slots = [[0.0; 12]; 4];
     let mut updates = [0u32; 4];
@@ -186,9 +205,7 @@ fn solve_best_conditioned_permutation(input: P3pInput, retries: u32) -> Answer
     if best.condition <= 64.0 * f64::EPSILON {
         return refused(2);
     }
-    let world = best.world;
-    let bearings = best.bearings;
-    solve_ordered(input, world, bearings, retries)
+    solve_ordered(input, best.world, best.bearings, retries)
 }
 
 // ---- the entry: the first turn of the cycle is written out, so that the common way through it is
@@ -196,6 +213,7 @@ fn solve_best_conditioned_permutation(input: P3pInput, retries: u32) -> Answer
 
 // The given ordering, which is usable. The slots are in a function of their own, so that they take
 // no stack beside a retry's; solve_ordered repeats these lines (docs/DECISIONS.md).
+#[tactic(auto, unfolding(crate::specs::LentSlots::held))]
 fn solve_given(input: P3pInput, measured: Measured, c: Coefficients) -> Answer
     ensures { result ≡ (Solve.solve_cubic input measured c).value }
 {
@@ -206,7 +224,8 @@ fn solve_given(input: P3pInput, measured: Measured, c: Coefficients) -> Answer
     if_kept(held(count, slots, updates, lifted))
 }
 
-// The poses of three world points and the bearings to them.
+/// The poses of three world points and the bearings to them.
+#[tactic(auto, using(crate::proofs::Retries::retried, crate::proofs::Retries::usable), unfolding(crate::specs::Solve::solve))]
 pub fn solve(world: World, bearings: Bearings) -> Answer
     ensures { result ≡ (Solve.solve world bearings).value }
 {
@@ -217,7 +236,8 @@ pub fn solve(world: World, bearings: Bearings) -> Answer
     let measured = measure(world, bearings);
     let cubic = measured_cubic(measured);
     if is_unusable(cubic) {
-        return solve_best_conditioned_permutation(input, 0);
+        solve_best_conditioned_permutation(input, 0)
+    } else {
+        solve_given(input, measured, cubic)
     }
-    solve_given(input, measured, cubic)
 }

@@ -30,8 +30,8 @@ solve_ordered-returns-then-retries-gt0 t c =
     ∙ ap (λ (n : ℕ). (solve_ordered n c.args.input c.args.world c.args.bearings).value)
     (omega arith)
 
-pub solve_ordered-returns-then-is_unusable : goal.solve_ordered-returns-then-is_unusable
-solve_ordered-returns-then-is_unusable t c =
+pub solve_ordered-returns-else-retries-gt0 : goal.solve_ordered-returns-else-retries-gt0
+solve_ordered-returns-else-retries-gt0 t c =
     let none : c.args.retries ≡ 0 = omega arith in
     rw (c.refused.ensures, none)
     (out-of-retries c.args.input c.args.world c.args.bearings c.measure-measured.ensures

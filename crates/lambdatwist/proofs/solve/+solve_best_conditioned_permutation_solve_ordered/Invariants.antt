@@ -1,6 +1,6 @@
 -- With n retries left the ordered solve calls the retry at n - 1, and the retry at n the ordered
 -- solve at n, so the measures are 2 * n and 2 * n + 1.
-use Rattle.std.proofs.Common.{ℕ, ◌+◌}
+use Rattle.std.proofs.Common.{◌+◌}
 use Rattle.lambdatwist.proofs.solve.+solve_best_conditioned_permutation_solve_ordered.Given as goal
 
 abbrev pub decreases-solve_best_conditioned_permutation :

@@ -1,9 +1,8 @@
--- `lambdatwist::solve::solve_root` meets its contract. Assumes nothing.
-use borrow.Author.Rules.{rules}
-use mathlib.Core.Path.{◌≡◌, sym, ◌∙◌}
+-- The pairs are those of the eigensystem that the definition finds, and there are none where it
+-- finds none.
+use Rattle.std.proofs.Common.{sym, ◌∙◌}
 use Rattle.eigen.specs.KnownZero.{eig_with_known_zero}
-use Rattle.eigen.proofs.EigenpairsRead.{ReadOf, eigenpairs-both, eigenpairs-neither}
-use Rattle.depths.specs.Signs.{candidates}
+use Rattle.eigen.proofs.EigenpairsRead.{eigenpairs-some, eigenpairs-none}
 use Rattle.depths.proofs.CandidateCount.{candidates-count}
 use Rattle.lambdatwist.specs.Solve.{solve_root}
 use Rattle.lambdatwist.proofs.Filling.{stops}
@@ -16,7 +15,7 @@ returns-in_default c =
     let pairs = c.eigenpairs_with_known_zero in
     rw (
       ← matrix.ensures,
-      eigenpairs-neither (eig_with_known_zero matrix.result).value
+      eigenpairs-none (eig_with_known_zero matrix.result).value
           (sym c.in_default.is ∙ pairs.ensures),
     ) (stops _ _ _)
 
@@ -24,8 +23,8 @@ pub returns-in_default-ratio_of : goal.returns-in_default-ratio_of
 unfolding solve_root
 returns-in_default-ratio_of c =
     let read =
-    eigenpairs-both (eig_with_known_zero c.singular_matrix-matrix.result).value
-    (sym c.in-Both.is ∙ c.eigenpairs_with_known_zero.ensures) in
+    eigenpairs-some (eig_with_known_zero c.singular_matrix-matrix.result).value
+    (sym c.in-Some.is ∙ c.eigenpairs_with_known_zero.ensures) in
     rw (
       ← c.singular_matrix-matrix.ensures,
       read.is_found,
@@ -38,26 +37,24 @@ returns-in_default-ratio_of c =
 pub solve_candidates-requires-clause-count_bound : goal.solve_candidates-requires-clause-count_bound
 solve_candidates-requires-clause-count_bound c =
     let read =
-    eigenpairs-both (eig_with_known_zero c.singular_matrix-matrix.result).value
-    (sym c.in-Both.is ∙ c.eigenpairs_with_known_zero.ensures) in
-    let found =
-    c.candidates-found.ensures read.eigenvectors read.first-column read.second-column in
-    rw found (candidates-count _ _ _ _ _)
+    eigenpairs-some (eig_with_known_zero c.singular_matrix-matrix.result).value
+    (sym c.in-Some.is ∙ c.eigenpairs_with_known_zero.ensures) in
+    rw (c.candidates-found.ensures read.found.vectors read.first-column read.second-column)
+    (candidates-count _ _ _ _ _)
 
 pub returns : goal.returns
 unfolding solve_root
 returns c =
     let read =
-    eigenpairs-both (eig_with_known_zero c.singular_matrix-matrix.result).value
-    (sym c.in-Both.is ∙ c.eigenpairs_with_known_zero.ensures) in
-    let found =
-    c.candidates-found.ensures read.eigenvectors read.first-column read.second-column in
+    eigenpairs-some (eig_with_known_zero c.singular_matrix-matrix.result).value
+    (sym c.in-Some.is ∙ c.eigenpairs_with_known_zero.ensures) in
     rw (
       ← c.singular_matrix-matrix.ensures,
       read.is_found,
       read.first-value,
       read.second-value,
+      read.mark,
       ← c.ratio_of.ensures,
-      c.in-Real.is,
-      ← found,
+      c.in-Some-ratio_of.is,
+      ← c.candidates-found.ensures read.found.vectors read.first-column read.second-column,
     ) c.solve_candidates.ensures
