@@ -1,8 +1,7 @@
 -- A solve with a plate that is worked out from its points is the solve of demand 2 on them, every
 -- refusal included: `plate-solves`. Assumes nothing.
 use Rattle.std.specs.Prelude.{if◌then◌else◌}
-use Prim.Native.Nat.{ℕ}
-use mathlib.Core.Path.{◌≡◌, refl, ap, sym, subst, ◌∙◌}
+use mathlib.Core.Path.{◌≡◌, refl, ap, sym, ◌∙◌}
 use mathlib.Core.Bool.{Bool, true, false, not}
 use lib.Ieee.{Float, le, binary64, mul}
 use Rattle.ieee754.specs.Literal.{sixty_four, epsilon}
@@ -13,15 +12,14 @@ use Rattle.orderings.specs.Edges.{edge_vectors, squared_edges}
 use Rattle.orderings.specs.Basis.{basis_of}
 use Rattle.orderings.specs.Cubic.{is_unusable}
 use Rattle.orderings.specs.Measure.{measure_with, measure, measured_cubic}
-use Rattle.orderings.specs.Permutation.{best_permutation}
-use Rattle.lambdatwist.specs.Solve.{refused, ordered_or, best_or, solve_ordered, solve, solve_cubic}
+use Rattle.lambdatwist.specs.Solve.{refused, ordered_or, best_or, solve_ordered, solve}
 use Rattle.plates.specs.Plate.{with_basis, plate_of, Consistent}
-use Rattle.plates.specs.Ordering.{ordered_rays, ordered_edges, best_ordering}
+use Rattle.plates.specs.Ordering.{ordered_rays, ordered_edges}
 use Rattle.plates.specs.SolvePlate.{source_of, measure_plate, measure_ordering, solve_measured}
 use Rattle.plates.specs.SolvePlate.{solve_best_ordering, solve_plate}
-use Rattle.plates.specs.Types.{World, Bearings, SquaredEdges, P3pInput, Basis, Inverse}
-use Rattle.plates.specs.Types.{Singular, Source, Made, Stored, Lacking, Measured, Answer}
-use Rattle.plates.specs.Types.{Plate, Conditioned, Ordering}
+use Rattle.plates.specs.Types.{Matrix3, World, Bearings, SquaredEdges, P3pInput, Option, Some, None}
+use Rattle.plates.specs.Types.{Source, Stored, Lacking, Measured, Answer}
+use Rattle.plates.specs.Types.{Plate, Conditioned, Ordering, Permutation}
 use Rattle.plates.proofs.SourceLaws.{Same, as-it-is, cubic-same}
 use Rattle.plates.proofs.OrderingLaws.{edges_of, ordered_world, SameOrdering, best-same}
 
@@ -44,29 +42,28 @@ module _ (input : P3pInput) where
   abbrev by_stored : Ordering → Traced Answer
   by_stored o =
       if le o.condition limit then pure (refused 2)
-      else (measure_ordering input edges o.i o.j o.k
-      >>= solve_measured (pure (refused 2)) input)
+      else (measure_ordering input edges o.order >>= solve_measured (pure (refused 2)) input)
 
   abbrev by_points : Float → World → Bearings → Traced Answer
   by_points condition world bearings =
       if le condition limit then pure (refused 2) else solve_ordered 0 input world bearings
 
   -- where the stored edges of an ordering are those of its points, it is measured alike
-  measured-same : (i j k : ℕ)
-      → edges_of (ordered_world input i j k) ≡ ordered_edges edges i j k
-      → (measure_ordering input edges i j k).value
-      ≡ (measure (ordered_world input i j k) (ordered_rays input.bearings i j k)).value
+  measured-same : (order : Permutation)
+      → edges_of (ordered_world input order) ≡ ordered_edges edges order
+      → (measure_ordering input edges order).value
+      ≡ (measure (ordered_world input order) (ordered_rays input.bearings order)).value
   unfolding measure_ordering measure edge_vectors
-  measured-same i j k e = rw e
+  measured-same order e = rw e
 
-  usable_same : (i j k : ℕ)
-      → edges_of (ordered_world input i j k) ≡ ordered_edges edges i j k
-      → Same (measure_ordering input edges i j k >>= solve_measured (pure (refused 2)) input)
-      (solve_ordered 0 input (ordered_world input i j k) (ordered_rays input.bearings i j k))
+  usable_same : (order : Permutation)
+      → edges_of (ordered_world input order) ≡ ordered_edges edges order
+      → Same (measure_ordering input edges order >>= solve_measured (pure (refused 2)) input)
+      (solve_ordered 0 input (ordered_world input order) (ordered_rays input.bearings order))
   unfolding solve_ordered ordered_or solve_measured
-  usable_same i j k e = record {
+  usable_same order e = record {
     value = ap (λ (m : Measured). (solve_measured (pure (refused 2)) input m).value)
-        (measured-same i j k e);
+        (measured-same order e);
   }
 
   ordering-same : {c : Conditioned} {o : Ordering}
@@ -74,7 +71,7 @@ module _ (input : P3pInput) where
       → Same (by_stored o) (by_points c.condition c.world c.bearings)
   ordering-same {c} {o} same = record {
     value = (if-same (le o.condition limit) as-it-is
-        (usable_same o.i o.j o.k same.squares)).value
+        (usable_same o.order same.squares)).value
         ∙ sym (λ i. (by_points (same.condition i) (same.world i) (same.bearings i)).value);
   }
 
@@ -87,7 +84,7 @@ module _ (world : World) (bearings : Bearings) where
   abbrev input : P3pInput
   input = record { world = world; bearings = bearings }
 
-  abbrev made : Basis
+  abbrev made : Option Matrix3
   made = (world_basis_inverse (edge_vectors world).value.d01 (edge_vectors world).value.d02).value
 
   given-same : (source : Source)
@@ -106,14 +103,14 @@ module _ (world : World) (bearings : Bearings) where
             (cubic-same input m source m.source basis cubic)).value;
       }
 
-  of-basis : (basis : Basis)
+  of-basis : (basis : Option Matrix3)
       → basis ≡ made
       → (solve_plate (with_basis world (edges_of world) basis) bearings).value
       ≡ (solve world bearings).value
   unfolding solve_plate solve measure_plate source_of with_basis basis_of
-  of-basis (Inverse inverse) e =
+  of-basis (Some inverse) e =
       (if-same (not (input_finite input)) as-it-is (given-same (Stored inverse) e)).value
-  of-basis Singular e =
+  of-basis None e =
       (if-same (not (input_finite input)) as-it-is (given-same Lacking e)).value
 
 -- ---- a plate worked out from points, and one that could have been

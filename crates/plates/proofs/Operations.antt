@@ -19,14 +19,14 @@ use Rattle.plates.specs.Replace.{replace}
 use Rattle.plates.specs.Exchange.{exchange}
 use Rattle.plates.specs.TimesPower.{world_scalable, times_power}
 use Rattle.plates.specs.Promise.{Keeps, worked-out, given_back}
-use Rattle.plates.specs.Types.{Vector3, World, SquaredEdges, Basis, Inverse, Singular, Plate}
+use Rattle.plates.specs.Types.{Vector3, Matrix3, World, SquaredEdges, Option, Some, None, Plate}
 
 -- ---- a plate has the points that it is worked out from
-same_points : (world : World) (edges : SquaredEdges) (basis : Basis)
+same_points : (world : World) (edges : SquaredEdges) (basis : Option Matrix3)
     → (with_basis world edges basis).world ≡ world
 unfolding with_basis
-same_points world edges (Inverse inverse) = refl
-same_points world edges Singular = refl
+same_points world edges (Some inverse) = refl
+same_points world edges None = refl
 
 pub worked-out-consistent : (world : World) → Consistent (plate_of world).value
 unfolding plate_of

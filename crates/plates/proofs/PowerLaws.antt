@@ -27,6 +27,8 @@ points-scalable k world h =
     three (point_scalable k world.p0) (point_scalable k world.p1)
     (point_scalable k world.p2) h
 
+pub ruleset scalables = (coordinates-scalable, points-scalable)
+
 pub not-refused : (plate : Plate) (k : ℤ)
     → (times_power plate k).refusal ≡ 0
     → T (world_scalable k plate.world)

@@ -1,8 +1,8 @@
--- The solve with a plate: document 02, §4, "question 1 looks at its points and the bearings, the
--- stored edges serve every ordering, and the stored inverse, or its lack, only the given one
--- (others make theirs from the points)". It is `solve` of lambdatwist's specs/Solve otherwise, with
--- its one retry written out.
-use Rattle.std.specs.Prelude.{ℕ, Bool, not, if◌then◌else◌}
+-- The solve with a plate: whether the input is finite is asked of its points and the bearings, the
+-- stored edges serve every ordering, and the stored inverse, or its lack, only the given one, while
+-- the others make theirs from the points. It is `solve` of lambdatwist's specs/Solve otherwise,
+-- with its one retry written out.
+use Rattle.std.specs.Prelude.{Bool, not, if◌then◌else◌}
 use Rattle.std.specs.Float.Ieee.{le}
 use Rattle.ieee754.specs.Literal.{sixty_four, epsilon}
 use Rattle.ieee754.specs.Traced.{Traced, pure, ◌>>=◌, ◌⊗◌, !◌}
@@ -11,10 +11,10 @@ use Rattle.p3p_common.specs.Input.{input_finite}
 use Rattle.orderings.specs.Cubic.{is_unusable}
 use Rattle.orderings.specs.Measure.{measure_with, measured_cubic}
 use Rattle.lambdatwist.specs.Solve.{refused, solve_cubic}
-use Rattle.plates.specs.Target.{target}
+use Rattle.plates.specs.Target.{number_of_target, target}
 use Rattle.plates.specs.Ordering.{ordered_rays, ordered_edges, best_ordering}
 use Rattle.plates.specs.Types.{Matrix3, Bearings, SquaredEdges, P3pInput, Source, Made}
-use Rattle.plates.specs.Types.{Stored, Lacking, Measured, Answer, Plate}
+use Rattle.plates.specs.Types.{Stored, Lacking, Measured, Answer, Plate, Permutation}
 
 -- ---- what is measured, by the stored edges
 unfoldable pub source_of : Bool → Matrix3 → Source
@@ -25,16 +25,16 @@ measure_plate plate bearings =
     measure_with plate.world.p0 (source_of plate.invertible plate.inverse) plate.edges
     bearings
 
--- targets i, j and k first, second and third: the inverse is made from the points
-unfoldable pub measure_ordering : P3pInput → SquaredEdges → ℕ → ℕ → ℕ → Traced Measured
-measure_ordering input edges i j k =
-    let p0 = target input.world i in
-    let p1 = target input.world j in
-    let p2 = target input.world k in
+-- another ordering: its inverse is made from the points
+unfoldable pub measure_ordering : P3pInput → SquaredEdges → Permutation → Traced Measured
+measure_ordering input edges order =
+    let p0 = target input.world (number_of_target order.0) in
+    let p1 = target input.world (number_of_target order.1) in
+    let p2 = target input.world (number_of_target order.2) in
     do
       d01 ← vec_sub p0 p1
       d02 ← vec_sub p0 p2
-      measure_with p0 (Made d01 d02) (ordered_edges edges i j k) (ordered_rays input.bearings i j k)
+      measure_with p0 (Made d01 d02) (ordered_edges edges order) (ordered_rays input.bearings order)
 
 -- ---- the solve of an ordering, with what is done where it is unusable
 unfoldable pub solve_measured : Traced Answer → P3pInput → Measured → Traced Answer
@@ -50,7 +50,7 @@ solve_best_ordering input edges = do
   limit ← ! sixty_four ⊗ ! epsilon
   if le best.condition limit then pure (refused 2)
       else (do
-        measured ← measure_ordering input edges best.i best.j best.k
+        measured ← measure_ordering input edges best.order
         solve_measured (pure (refused 2)) input measured)
 
 unfoldable pub solve_plate : Plate → Bearings → Traced Answer

@@ -1,22 +1,35 @@
--- Targets, and what belongs to them, by number: 0, 1 and 2. The operations refuse other numbers
--- first; here they count as 2.
-use Rattle.std.specs.Prelude.{ℕ, eqb, Float, if◌then◌else◌}
+-- The targets of a plate, and what belongs to each. Where it is named by its number, that is 0, 1
+-- or 2: the operations refuse other numbers first, which count as 2 here.
+use Rattle.std.specs.Prelude.{◌≡◌, ℕ, ◌<◌, eqb, Float, Result, MatchResult, if◌then◌else◌}
 use Rattle.frames.specs.Points.{points}
 use Rattle.plates.specs.Types.{Vector3, World, Bearings, SquaredEdges}
+use Rattle.plates.specs.Types.{Target, First, Second, Third, NoSuchTarget}
+
+abbrev pub number_of_target : Target → ℕ
+number_of_target First = 0
+number_of_target Second = 1
+number_of_target Third = 2
+
+-- the target with this number, or an error where no target has it
+abbrev pub NamesTarget : ℕ → Result Target NoSuchTarget → Type 0
+NamesTarget number r =
+    MatchResult r (λ which. number_of_target which ≡ number) (λ e. (e.0 ≡ number) × (2 < number))
 
 unfoldable pub target : World → ℕ → Vector3
 target world number =
     if eqb number 0 then world.p0 else if eqb number 1 then world.p1 else world.p2
 
 -- the bearing to a target
-unfoldable pub ray : Bearings → ℕ → Vector3
-ray bearings number =
-    if eqb number 0 then bearings.f0 else if eqb number 1 then bearings.f1 else bearings.f2
+unfoldable pub ray : Bearings → Target → Vector3
+ray bearings First = bearings.f0
+ray bearings Second = bearings.f1
+ray bearings Third = bearings.f2
 
 -- the squared edge opposite to a target, between the other two
-unfoldable pub opposite : SquaredEdges → ℕ → Float
-opposite edges number =
-    if eqb number 0 then edges.a12 else if eqb number 1 then edges.a02 else edges.a01
+unfoldable pub opposite : SquaredEdges → Target → Float
+opposite edges First = edges.a12
+opposite edges Second = edges.a02
+opposite edges Third = edges.a01
 
 -- the world with one target moved to a point
 unfoldable pub with_target : World → ℕ → Vector3 → World

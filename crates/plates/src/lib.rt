@@ -1,5 +1,5 @@
-// A plate that knows its edges: document 02, §4. Three world points with what a solve works out of
-// them alone, the operations that keep it so, and the solve with it.
+//! A plate that knows its edges: three world points with what a solve works out of them alone, the
+//! operations that keep it so, and the solve with it.
 #![tactic(auto)]
 
 pub mod exchange;

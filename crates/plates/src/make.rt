@@ -1,4 +1,4 @@
-// Making a plate of three points.
+//! Making a plate of three points.
 ghost use Rattle.std.specs.Prelude.{◌≡◌};
 ghost use Rattle.plates.specs.Make as Make;
 
@@ -6,7 +6,8 @@ use crate::outcome::{Outcome, done};
 use crate::plate::zero_plate;
 use frames::world::World;
 
-// Refused with 1 where a coordinate is not finite: the plate is one of plus zeros then.
+/// Refused with 1 where a coordinate is not finite: the plate is one of plus zeros then.
+#[tactic(auto, unfolding(crate::specs::Make::make))]
 pub fn make(world: World) -> Outcome
     ensures { result ≡ Make.make world }
 {

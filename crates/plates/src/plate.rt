@@ -1,4 +1,4 @@
-// The plate, and the one worked out from three points.
+//! The plate, and the one worked out from three points.
 ghost use Rattle.std.specs.Prelude.{◌≡◌};
 ghost use Rattle.plates.specs.Plate.{with_basis, plate_of, zero_plate};
 
@@ -7,11 +7,11 @@ use frames::world::World;
 use linalg::matrix3::Matrix3;
 use linalg::vector3::Vector3;
 use orderings::edges::{edge_vectors, squared_edges};
-use p3p_common::world_basis_inverse::{Basis, world_basis_inverse};
+use p3p_common::world_basis_inverse::world_basis_inverse;
 
-// The squared edges of the points, and the inverse basis of the given ordering: plus zeros where it
-// is not `invertible`. Those that `plate_of` makes hold what their points give; a plate made
-// otherwise may hold anything.
+/// The squared edges of the points, and the inverse basis of the given ordering: plus zeros where
+/// it is not `invertible`. Those that `plate_of` makes hold what their points give; a plate made
+/// otherwise may hold anything.
 #[derive(Clone, Copy)]
 pub struct Plate {
     pub world: World,
@@ -21,18 +21,19 @@ pub struct Plate {
 }
 
 // Points, their squared edges, and the basis of the given ordering.
-fn with_basis(world: World, edges: SquaredEdges, basis: Basis) -> Plate
+#[tactic(auto, unfolding(crate::specs::Plate::with_basis))]
+fn with_basis(world: World, edges: SquaredEdges, basis: Option<Matrix3>) -> Plate
     ensures { result ≡ with_basis world edges basis }
 {
     let zeros = Vector3::zeros();
     match basis {
-        Basis::Inverse(inverse) => Plate {
+        Some(inverse) => Plate {
             world,
             edges,
             invertible: true,
             inverse,
         },
-        Basis::Singular => Plate {
+        None => Plate {
             world,
             edges,
             invertible: false,
@@ -42,17 +43,18 @@ fn with_basis(world: World, edges: SquaredEdges, basis: Basis) -> Plate
 }
 
 // The plate of three points, worked out as solve_ordered (lambdatwist.rs) does.
+#[tactic(auto, unfolding(crate::specs::Plate::plate_of))]
 pub(crate) fn plate_of(world: World) -> Plate
     ensures { result ≡ (plate_of world).value }
 {
     let vectors = edge_vectors(world);
-    let d01 = vectors.d01;
-    let d02 = vectors.d02;
     let edges = squared_edges(vectors);
-    with_basis(world, edges, world_basis_inverse(d01, d02))
+    let basis = world_basis_inverse(vectors.d01, vectors.d02);
+    with_basis(world, edges, basis)
 }
 
 // Plus zeros, without inverse.
+#[tactic(auto, unfolding(crate::specs::Plate::zero_plate, crate::specs::Plate::zero_edges))]
 pub(crate) fn zero_plate() -> Plate
     ensures { result ≡ zero_plate }
 {
@@ -67,5 +69,5 @@ pub(crate) fn zero_plate() -> Plate
         a02: 0.0,
         a12: 0.0,
     };
-    with_basis(world, edges, Basis::Singular)
+    with_basis(world, edges, None)
 }
