@@ -3,7 +3,7 @@
 
     enums        own enums and their cases
     numbers      numbers that stand for a refusal or a kind
-    flags        functions that answer a flag, or a number of which 0 means none, and fields such as these
+    flags        functions that answer a number of which 0 means none, and fields that say a state
     twins        functions of one text but for types, names and numbers, and of three lines or more
     loops        loops, and of them those that count an index by hand
     conversions  conversions by `as`, std's functions of numbers called by path, zeros divided

@@ -1,6 +1,6 @@
 -- The choice of one pose: the lowest finite score wins, the earlier pose on a tie, as `best_by` of
--- pose/p3p/common.rs does. No score is minus zero, so the order of numbers is that of `total_cmp`. A
--- pose without a score is passed over.
+-- pose/p3p/common.rs does. No score is minus zero, so the order of numbers is that of `total_cmp`.
+-- A pose without a score is passed over.
 use Rattle.std.specs.Prelude.{ℕ, ◌+◌, min, List, [], ◌∷◌, take, Float, if◌then◌else◌}
 use Rattle.std.specs.Float.Ieee.{lt}
 use Rattle.std.specs.Float.Ieee.Scale.{finite}

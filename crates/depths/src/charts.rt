@@ -1,7 +1,7 @@
-//! The two charts of solve_ordered (lambdatwist.rs): from the null vector of one sign to at most two
-//! depth candidates, one for each root of the chart's quadratic. Where the quadratic refuses, only
-//! that sign's turn ends. No chart takes the candidates found before it, so that none waits for
-//! another. Whether the pair of roots was lifted is handed on.
+//! The two charts of solve_ordered (lambdatwist.rs): from the null vector of one sign to at most
+//! two depth candidates, one for each root of the chart's quadratic. Where the quadratic refuses,
+//! only that sign's turn ends. No chart takes the candidates found before it, so that none waits
+//! for another. Whether the pair of roots was lifted is handed on.
 ghost use Rattle.std.specs.Prelude.{◌≡◌, Bool};
 ghost use Rattle.depths.specs.DepthSlots.{push_if_positive};
 ghost use Rattle.depths.specs.Pushed.{pushed, pushed_both};

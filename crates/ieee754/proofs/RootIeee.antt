@@ -1,7 +1,7 @@
--- The `sqrt` of lib.Ieee is this crate's, at every double: `ieee-sqrt`. It rounds a number r that is
--- the root taken to 2271 binary places, and r lies among the numbers of 2270 places as the root does
--- (`twice`). Half of the smallest double is one of those, so the two are rounded alike. Assumes
--- nothing.
+-- The `sqrt` of lib.Ieee is this crate's, at every double: `ieee-sqrt`. It rounds a number r that
+-- is the root taken to 2271 binary places, and r lies among the numbers of 2270 places as the root
+-- does (`twice`). Half of the smallest double is one of those, so the two are rounded alike.
+-- Assumes nothing.
 use Prim.Native.Nat.{ℕ, zero, suc, ◌+◌, ◌-◌, ◌*◌, ◌/◌, ◌^◌, ◌≤◌, ◌<◌, compare, Ordering}
 use mathlib.Core.Path.{◌≡◌, refl, sym, ap, ap₂, ◌∙◌, subst}
 use mathlib.Core.Logic.{⊎_elim}

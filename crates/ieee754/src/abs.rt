@@ -1,9 +1,9 @@
-// Rust's f64::abs.
+//! Rust's f64::abs.
 ghost use Rattle.std.specs.Prelude.{◌≡◌};
 ghost use Rattle.ieee754.specs.Magnitude as Magnitude;
 
-// x with the sign cleared: 0 - x has it so where x is not above zero, and a NaN has none. Compilers
-// make one instruction of this.
+/// x with the sign cleared: 0 - x has it so where x is not above zero, and a NaN has none.
+/// Compilers make one instruction of this.
 pub fn abs(x: f64) -> f64
     ensures { result ≡ Magnitude.abs x }
 {

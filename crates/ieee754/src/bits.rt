@@ -1,5 +1,5 @@
-// Doubles and their bit patterns: Rust's from_bits and to_bits, but that there is one NaN. Every
-// NaN's pattern is read as it, and it is written as 7ff8000000000000.
+//! Doubles and their bit patterns: Rust's from_bits and to_bits, but that there is one NaN. Every
+//! NaN's pattern is read as it, and it is written as 7ff8000000000000.
 ghost use Rattle.std.specs.Prelude.{◌≡◌};
 ghost use Rattle.std.specs.Float.{binary64};
 ghost use Rattle.std.specs.Float.Ieee.{of_bits, to_bits};

@@ -1,7 +1,7 @@
-// Rust's f64::cbrt, C's cbrt, correctly rounded. From document 01, module 1.
-//
-// The digits of the root are those of the whole number nearest to a cube root, which integers find
-// (crate `ieee754_roots`).
+//! Rust's f64::cbrt, C's cbrt, correctly rounded.
+//!
+//! The digits of the root are those of the whole number nearest to a cube root, which integers find
+//! (crate `ieee754_roots`).
 ghost use Rattle.std.specs.Prelude.{◌≡◌, ◌*◌, ◌^◌, ◌≤◌, ◌<◌, T};
 ghost use Rattle.std.specs.Float.{binary64};
 ghost use Rattle.std.specs.Float.Ieee.Scale.{finite};
@@ -39,7 +39,7 @@ fn cbrt_finite(x: f64) -> f64
     scaled(a.negative, n.sig, n.exp)
 }
 
-// The cube root of x. An infinity and a NaN are their own.
+/// The cube root of x. An infinity and a NaN are their own.
 pub fn cbrt(x: f64) -> f64
     ensures { result ≡ Root.cbrt x }
 {

@@ -1,10 +1,10 @@
-// Rust's f64::copysign.
+//! Rust's f64::copysign.
 ghost use Rattle.std.specs.Prelude.{◌≡◌};
 ghost use Rattle.ieee754.specs.CopySign as CopySign;
 
 use ieee754_parts::format::SIGN;
 
-// Whether the sign of y is set, of a zero too; a NaN has none.
+/// Whether the sign of y is set, of a zero too; a NaN has none.
 pub fn negative(y: f64) -> bool
     ensures { result ≡ CopySign.negative y }
 {
@@ -15,8 +15,8 @@ pub fn negative(y: f64) -> bool
     }
 }
 
-// The magnitude of x with the sign of y, by their patterns: a choice between the two signs would be
-// a branch that no predictor foresees.
+/// The magnitude of x with the sign of y, by their patterns: a choice between the two signs would
+/// be a branch that no predictor foresees.
 pub fn copysign(x: f64, y: f64) -> f64
     ensures { result ≡ CopySign.copysign x y }
 {

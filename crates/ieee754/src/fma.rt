@@ -1,12 +1,11 @@
-// Rust's f64::mul_add, IEEE 754's fusedMultiplyAdd: x * y + z, rounded once. From document 01,
-// module 1.
-//
-// A finite number is ±sig * 2^exp / 2^1074, sig and exp natural numbers (`unpack`). The exact
-// product and the addend are two-word numbers (`wide`), each times a power of two, over the one
-// denominator 2^2166. Mostly their leading words decide the rounded sum (`leading`). Elsewhere the
-// one with the lower exponent is brought to the other's, and the digits that this drops leave their
-// mark in the last digit kept, the sticky bit (`jam`). They are added as two-word numbers (`sum`),
-// and the sum is rounded once (`round`). These are the parts in crate `ieee754_parts`.
+//! Rust's f64::mul_add, IEEE 754's fusedMultiplyAdd: x * y + z, rounded once.
+//!
+//! A finite number is ±sig * 2^exp / 2^1074, sig and exp natural numbers (`unpack`). The exact
+//! product and the addend are two-word numbers (`wide`), each times a power of two, over the one
+//! denominator 2^2166. Mostly their leading words decide the rounded sum (`leading`). Elsewhere the
+//! one with the lower exponent is brought to the other's, and the digits that this drops leave
+//! their mark in the last digit kept, the sticky bit (`jam`). They are added as two-word numbers
+//! (`sum`), and the sum is rounded once (`round`). These are the parts in crate `ieee754_parts`.
 ghost use Rattle.std.specs.Prelude.{◌≡◌, ◌+◌, ◌*◌, ◌^◌, ◌≤◌, ◌<◌, T};
 ghost use Rattle.std.specs.Float.Ieee.Scale.{finite};
 ghost use Rattle.ieee754.specs.Fma.{fma};
@@ -40,8 +39,8 @@ fn fma_finite(x: f64, y: f64, z: f64) -> f64
     add_leading(a.negative != b.negative, p, exp, unpack(z))
 }
 
-// x * y + z, rounded once. Where a factor is an infinity or a NaN, the product is one, and the
-// machine's operators round nothing.
+/// x * y + z, rounded once. Where a factor is an infinity or a NaN, the product is one, and the
+/// machine's operators round nothing.
 pub fn fma(x: f64, y: f64, z: f64) -> f64
     ensures { result ≡ fma x y z }
 {

@@ -1,8 +1,7 @@
-// Rust's f64::mul_add of two equal factors: x * x + z, rounded once, as `fma` has it. From document
-// 01, module 1.
-//
-// A quadratic's discriminant is such a sum, and mostly its parts' exponents are near to each other.
-// Then both are whole numbers of two words over one power of two, and no digit is cut off.
+//! Rust's f64::mul_add of two equal factors: x * x + z, rounded once, as `fma` has it.
+//!
+//! A quadratic's discriminant is such a sum, and mostly its parts' exponents are near to each
+//! other. Then both are whole numbers of two words over one power of two, and no digit is cut off.
 ghost use Rattle.std.specs.Prelude.{◌≡◌, T};
 ghost use Rattle.std.specs.Float.Ieee.Scale.{finite};
 ghost use Rattle.ieee754.specs.Fma.{fma};

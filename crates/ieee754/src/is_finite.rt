@@ -1,8 +1,8 @@
-// Rust's f64::is_finite.
+//! Rust's f64::is_finite.
 ghost use Rattle.std.specs.Prelude.{◌≡◌};
 ghost use Rattle.std.specs.Float.Ieee.Scale.{finite};
 
-// Neither a NaN nor an infinity.
+/// Neither a NaN nor an infinity.
 pub fn is_finite(x: f64) -> bool
     ensures { result ≡ finite x }
 {

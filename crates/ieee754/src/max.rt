@@ -1,4 +1,4 @@
-// Rust's f64::max, with plus zero of two zeros of opposite sign.
+//! Rust's f64::max, with plus zero of two zeros of opposite sign.
 ghost use Rattle.std.specs.Prelude.{◌≡◌, cond};
 ghost use Rattle.std.specs.Float.Ieee.{lt};
 ghost use Rattle.ieee754.specs.Maximum as Maximum;
@@ -12,7 +12,7 @@ fn larger(x: f64, y: f64) -> f64
     if x < y { y } else { x }
 }
 
-// The larger of x and y, or the one that is no NaN. The common case is asked for first.
+/// The larger of x and y, or the one that is no NaN. The common case is asked for first.
 pub fn max(x: f64, y: f64) -> f64
     ensures { result ≡ Maximum.max x y }
 {

@@ -1,11 +1,11 @@
-// Rust's f64::total_cmp, by IEEE 754's totalOrder, with NaN above every number.
+//! Rust's f64::total_cmp, by IEEE 754's totalOrder, with NaN above every number.
 ghost use Rattle.std.specs.Prelude.{◌≡◌};
 ghost use Rattle.ieee754.specs.TotalOrder.{total_order, total_cmp};
 
 use crate::copysign::negative;
 use std::cmp::Ordering;
 
-// Whether x is at or below y.
+/// Whether x is at or below y.
 #[tactic(auto, unfolding(crate::specs::TotalOrder::total_order))]
 pub fn total_order(x: f64, y: f64) -> bool
     ensures { result ≡ total_order x y }

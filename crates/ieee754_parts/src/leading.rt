@@ -1,10 +1,10 @@
-// The rounded sum of a product and an addend by the leading word of each, where these decide it.
-//
-// What the words leave out moves their sum by less than two units of its last place. Where all
-// numbers so near to it round alike, that is the answer; elsewhere all digits are added
-// (`add_scaled`). Nothing here branches on the signs or on the order of the exponents, which no
-// predictor foresees.
-ghost use Rattle.std.specs.Prelude.{◌≡◌, ◌+◌, ◌*◌, ◌/◌, ◌^◌, ◌<◌, if◌then◌else◌};
+//! The rounded sum of a product and an addend by the leading word of each, where these decide it.
+//!
+//! What the words leave out moves their sum by less than two units of its last place. Where all
+//! numbers so near to it round alike, that is the answer; elsewhere all digits are added
+//! (`add_scaled`). Nothing here branches on the signs or on the order of the exponents, which no
+//! predictor foresees.
+ghost use Rattle.std.specs.Prelude.{◌≡◌, ◌+◌, ◌*◌, ◌/◌, ◌^◌, ◌<◌, IfSome, if◌then◌else◌};
 ghost use Rattle.ieee754_parts.specs.Leading.{Settles};
 ghost use Rattle.ieee754_parts.specs.Rounded.{summed, IsProduct};
 ghost use Rattle.ieee754_parts.specs.Unpacked.{IsSignificand};
@@ -46,42 +46,40 @@ fn signed_sum(same: bool, a: u64, b: u64) -> u64
     if same { a + b } else { a.wrapping_sub(b) }
 }
 
-// The multiple of 2^10 that is nearest to each number from w to w + m, over 2^10; 0 where there is
-// no such or it has more than 53 digits.
-fn nearest_to_all(w: u64, m: u64) -> u64
+// The multiple of 2^10 that is nearest to each number from w to w + m, over 2^10, if there is one
+// and it has at most 53 digits.
+fn nearest_to_all(w: u64, m: u64) -> Option<u64>
     requires { (w < 2 ^ 63) × (m < 2 ^ 9) }
-    ensures { 0 < result → (result < 2 ^ 53) × (result * 2 ^ 10 < w + 2 ^ 9) × (w + m < result * 2 ^ 10 + 2 ^ 9) }
+    ensures { IfSome result
+        (λ q. (q < 2 ^ 53) × (q * 2 ^ 10 < w + 2 ^ 9) × (w + m < q * 2 ^ 10 + 2 ^ 9)) }
 {
     let q = (w + m + 0x200) / 0x400;
-    if ((w + 0x1ff) / 0x400 == q) & (q < PAST) {
-        q
-    } else {
-        0
-    }
+    (((w + 0x1ff) / 0x400 == q) & (q < PAST)).then_some(q)
 }
 
-// What all numbers from (sum - 1) * 2^exp to (sum + 2) * 2^exp, over 2^2166, round to. The
-// significand is 0 where they do not round alike, or where that is not told: for a sum of few
-// digits, which are too few to round, and one below the normal numbers.
-fn settle(sum: u64, exp: u64) -> Scaled
+// What all numbers from (sum - 1) * 2^exp to (sum + 2) * 2^exp, over 2^2166, round to. There is
+// none where they do not round alike, or where that is not told: for a sum of few digits, which are
+// too few to round, and one below the normal numbers.
+fn settle(sum: u64, exp: u64) -> Option<Scaled>
     requires { exp < 4900 }
-    ensures { 0 < result.sig → Settles sum exp result }
+    ensures { IfSome result (Settles sum exp) }
 {
     if (LEAST < sum) & (sum < SIGN) & (1083 < exp) {
         let low = sum - 1;
-        let n = low.leading_zeros() as u64 - 1;
-        Scaled {
-            sig: nearest_to_all(low << n, 3 << n),
+        let n = u64::from(low.leading_zeros()) - 1;
+        let sig = nearest_to_all(low << n, 3 << n)?;
+        Some(Scaled {
+            sig,
             exp: exp - n - 1082,
-        }
+        })
     } else {
-        Scaled { sig: 0, exp: 0 }
+        None
     }
 }
 
-// ±p * 2^p_exp / 2^2166 + c, rounded. The product's leading word is p / 2^62, and the addend over
-// 2^2166 is c.sig * 2^9 times 2^(c.exp + 1083). The one with the higher exponent leads, and the
-// other is cut short to it.
+/// ±p * 2^p_exp / 2^2166 + c, rounded. The product's leading word is p / 2^62, and the addend over
+/// 2^2166 is c.sig * 2^9 times 2^(c.exp + 1083). The one with the higher exponent leads, and the
+/// other is cut short to it.
 pub fn add_leading(negative: bool, p: Wide, p_exp: u64, c: Unpacked) -> f64
     requires { IsProduct (value p) p_exp × IsSignificand c.sig c.exp }
     ensures { result
@@ -95,11 +93,11 @@ pub fn add_leading(negative: bool, p: Wide, p_exp: u64, c: Unpacked) -> f64
     let exp = choose(first, a_exp, b_exp);
     let rest = shift(choose(first, b, a), exp - choose(first, b_exp, a_exp));
     let sum = signed_sum(negative == c.negative, choose(first, a, b), rest);
-    let settled = settle(sum, exp);
-    if settled.sig == 0 {
-        add_scaled(negative, p, p_exp, c)
-    } else {
-        let negative = choose(first, negative, c.negative);
-        pack(negative, settled.sig, settled.exp)
+    match settle(sum, exp) {
+        Some(settled) => {
+            let negative = choose(first, negative, c.negative);
+            pack(negative, settled.sig, settled.exp)
+        }
+        None => add_scaled(negative, p, p_exp, c),
     }
 }

@@ -1,6 +1,6 @@
-// The whole-number parts of the operations on doubles: a double taken apart, numbers of two words,
-// thirds, rounding, a double put together, and the rounded sum of a product and an addend. What
-// they return is said by the definitions of specs/, of a third by its contract.
+//! The whole-number parts of the operations on doubles: a double taken apart, numbers of two words,
+//! thirds, rounding, a double put together, and the rounded sum of a product and an addend. What
+//! they return is said by the definitions of specs/, of a third by its contract.
 #![tactic(auto)]
 
 pub mod format;

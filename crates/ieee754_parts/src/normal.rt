@@ -1,4 +1,4 @@
-// Numbers with their leading digit brought to a fixed place.
+//! Numbers with their leading digit brought to a fixed place.
 ghost use Rattle.std.specs.Prelude.{◌<◌, ◌≤◌};
 ghost use Rattle.ieee754_parts.specs.Normal.{IsNormal, IsRoundable};
 ghost use Rattle.ieee754_parts.specs.Unpacked.{IsSignificand};
@@ -6,14 +6,14 @@ ghost use Rattle.ieee754_parts.specs.Unpacked.{IsSignificand};
 use crate::format::LEADING;
 use crate::wide::{Wide, jam_wide};
 
-// sig * 2^exp.
+/// sig * 2^exp.
 #[derive(Clone, Copy)]
 pub struct Scaled {
     pub sig: u64,
     pub exp: u64,
 }
 
-// sig * 2^exp * 2^52, with 53 digits in the significand: those of a subnormal number are moved up.
+/// sig * 2^exp * 2^52, with 53 digits in the significand: those of a subnormal number are moved up.
 pub fn normalise(sig: u64, exp: u64) -> Scaled
     requires { IsSignificand sig exp × (0 < sig) }
     ensures { IsNormal sig exp result }

@@ -1,4 +1,4 @@
-// A double put together from a rounded significand.
+//! A double put together from a rounded significand.
 ghost use Rattle.std.specs.Prelude.{◌≡◌, ◌+◌, ◌*◌, ◌^◌, ◌<◌, ◌≤◌, min, from_bits};
 ghost use Rattle.std.specs.Float.{binary64};
 ghost use Rattle.std.specs.Float.Ieee.{units};
@@ -28,8 +28,8 @@ fn capped(bits: u64) -> u64
     if bits < INFINITY { bits } else { INFINITY }
 }
 
-// ±sig * 2^exp / 2^1074, which is finite. The pattern has exp for the exponent's field, to which
-// the leading digit of sig adds one, and so does a sig of 2^53, which a rounding up leaves.
+/// ±sig * 2^exp / 2^1074, which is finite. The pattern has exp for the exponent's field, to which
+/// the leading digit of sig adds one, and so does a sig of 2^53, which a rounding up leaves.
 pub fn pack_finite(negative: bool, sig: u64, exp: u64) -> f64
     requires { (sig ≤ 2 ^ 53)
         × (0 < exp → 2 ^ 52 ≤ sig)

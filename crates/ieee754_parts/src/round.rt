@@ -1,5 +1,5 @@
-// Rounding to the nearest double, a tie to the even one. Numbers are over 2^2166, where the
-// smallest double is 2^1092.
+//! Rounding to the nearest double, a tie to the even one. Numbers are over 2^2166, where the
+//! smallest double is 2^1092.
 ghost use Rattle.std.specs.Prelude.{◌≡◌, ◌*◌, ◌^◌, ◌<◌, ◌≤◌};
 ghost use Rattle.std.specs.Float.Ieee.Nearest.{closest};
 ghost use Rattle.ieee754_parts.specs.Rounded.{rounded};

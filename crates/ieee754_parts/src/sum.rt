@@ -1,4 +1,4 @@
-// The rounded sum of two signed two-word numbers, over 2^2166.
+//! The rounded sum of two signed two-word numbers, over 2^2166.
 ghost use Rattle.std.specs.Prelude.{◌≡◌, ◌+◌, ◌*◌, ◌^◌, ◌<◌, ◌≤◌};
 ghost use Rattle.ieee754_parts.specs.Rounded.{summed, IsProduct};
 ghost use Rattle.ieee754_parts.specs.Unpacked.{IsSignificand};
@@ -8,8 +8,8 @@ use crate::round::round_wide;
 use crate::unpack::Unpacked;
 use crate::wide::{Wide, add_wide, jam_wide, less_wide, sub_wide};
 
-// ±a * 2^exp / 2^2166 + ±b * 2^exp / 2^2166, rounded. A sum of zero is -0 only where both are
-// negative.
+/// ±a * 2^exp / 2^2166 + ±b * 2^exp / 2^2166, rounded. A sum of zero is -0 only where both are
+/// negative.
 pub fn sum_aligned(a_negative: bool, a: Wide, b_negative: bool, b: Wide, exp: u64) -> f64
     requires { (a.hi + b.hi + 1 < 2 ^ 64) × (64 ≤ exp) × (exp < 4900) }
     ensures { result ≡ summed a_negative (value a * 2 ^ exp) b_negative (value b * 2 ^ exp) }

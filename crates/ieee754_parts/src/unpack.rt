@@ -1,11 +1,11 @@
-// A finite double taken apart.
+//! A finite double taken apart.
 ghost use Rattle.std.specs.Prelude.{T};
 ghost use Rattle.std.specs.Float.Ieee.Scale.{finite};
 ghost use Rattle.ieee754_parts.specs.Unpacked.{IsUnpacked};
 
 use crate::format::{LEADING, SIGN};
 
-// The number ±sig * 2^exp / 2^1074.
+/// The number ±sig * 2^exp / 2^1074.
 #[derive(Clone, Copy)]
 pub struct Unpacked {
     pub negative: bool,
@@ -13,8 +13,8 @@ pub struct Unpacked {
     pub exp: u64,
 }
 
-// x by the fields of its bit pattern. The significand has a leading digit more than its field,
-// unless the exponent's field is 0.
+/// x by the fields of its bit pattern. The significand has a leading digit more than its field,
+/// unless the exponent's field is 0.
 pub fn unpack(x: f64) -> Unpacked
     requires { T (finite x) }
     ensures { IsUnpacked x result }

@@ -1,10 +1,10 @@
-// Numbers below 2^128 as two words of 64 bits: sums, differences, products, numbers moved up, and
-// what is left when digits are cut off.
+//! Numbers below 2^128 as two words of 64 bits: sums, differences, products, numbers moved up, and
+//! what is left when digits are cut off.
 ghost use Rattle.std.specs.Prelude.{◌≡◌, ◌+◌, ◌*◌, ◌/◌, ◌^◌, ◌<◌, ◌≤◌, IfSome, nat_lt};
 ghost use Rattle.ieee754_parts.specs.Jam.{jam};
 ghost use Rattle.ieee754_parts.specs.Value.{value};
 
-// hi * 2^64 + lo.
+/// hi * 2^64 + lo.
 #[derive(Clone, Copy)]
 pub struct Wide {
     pub hi: u64,
@@ -24,8 +24,8 @@ pub(crate) fn add_words(a: u64, b: u64) -> Wide
     }
 }
 
-// a * b, from halves of 32 bits. The carries go up one after the other, a form that compilers make
-// one multiplication of.
+/// a * b, from halves of 32 bits. The carries go up one after the other, a form that compilers make
+/// one multiplication of.
 pub fn product(a: u64, b: u64) -> Wide
     requires { (a < 2 ^ 62) × (b < 2 ^ 62) }
     ensures { value result ≡ a * b }
@@ -46,7 +46,7 @@ pub fn product(a: u64, b: u64) -> Wide
     }
 }
 
-// a + b.
+/// a + b.
 pub fn add_wide(a: Wide, b: Wide) -> Wide
     requires { a.hi + b.hi + 1 < 2 ^ 64 }
     ensures { value result ≡ value a + value b }
@@ -77,7 +77,7 @@ pub(crate) fn sub_wide(a: Wide, b: Wide) -> Wide
     }
 }
 
-// a - b, unless it is below 0 or does not fit a word.
+/// a - b, unless it is below 0 or does not fit a word.
 pub fn word_difference(a: Wide, b: Wide) -> Option<u64>
     requires { b.hi + 1 < 2 ^ 64 }
     ensures { IfSome result (λ rest. rest + value b ≡ value a) }
@@ -101,7 +101,7 @@ pub(crate) fn less_wide(a: Wide, b: Wide) -> bool
     }
 }
 
-// v / 2^k, where that fits a word.
+/// v / 2^k, where that fits a word.
 pub fn shift_right(v: Wide, k: u64) -> u64
     requires { (0 < k) × (k < 64) × (v.hi < 2 ^ k) }
     ensures { result ≡ value v / 2 ^ k }
@@ -109,7 +109,7 @@ pub fn shift_right(v: Wide, k: u64) -> u64
     (v.hi << (64 - k)) + (v.lo >> k)
 }
 
-// w * 2^k.
+/// w * 2^k.
 pub fn shift_left(w: u64, k: u64) -> Wide
     requires { (0 < k) × (k < 64) }
     ensures { value result ≡ w * 2 ^ k }

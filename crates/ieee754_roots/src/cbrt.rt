@@ -1,8 +1,8 @@
-// The whole number nearest to a cube root.
-//
-// A guess at the root of the significand, made with floats, is settled in integers, and where
-// neither it nor a neighbour is right the root is found by halving an interval. So nothing is
-// claimed of the floats.
+//! The whole number nearest to a cube root.
+//!
+//! A guess at the root of the significand, made with floats, is settled in integers, and where
+//! neither it nor a neighbour is right the root is found by halving an interval. So nothing is
+//! claimed of the floats.
 ghost use Rattle.std.specs.Prelude.{◌≡◌, ◌*◌, ◌^◌, ◌≤◌, ◌<◌, IfSome};
 ghost use Rattle.ieee754_roots.specs.Nearest.{IsNearest, cube_top};
 
@@ -90,7 +90,7 @@ fn guess(m: u64, t: u64) -> u64
     LEADING
 }
 
-// The whole number nearest to the cube root of m * 2^t * 2^104.
+/// The whole number nearest to the cube root of m * 2^t * 2^104.
 pub fn nearest(m: u64, t: u64) -> u64
     requires { (2 ^ 52 ≤ m) × (m < 2 ^ 53) × (t < 3) }
     ensures { IsNearest 3 (m * 2 ^ t * 2 ^ 104) result }

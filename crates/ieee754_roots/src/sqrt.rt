@@ -1,8 +1,8 @@
-// The whole number nearest to a square root.
-//
-// A guess at the root of the significand, made with floats, is tested in integers, and where
-// neither it nor the next number is right the digits are found one by one. So nothing is claimed of
-// the floats.
+//! The whole number nearest to a square root.
+//!
+//! A guess at the root of the significand, made with floats, is tested in integers, and where
+//! neither it nor the next number is right the digits are found one by one. So nothing is claimed
+//! of the floats. Crate `ieee754` has the machine's instruction in its place: nothing calls this.
 ghost use Rattle.std.specs.Prelude.{◌≡◌, true, ◌*◌, ◌^◌, ◌≤◌, ◌<◌};
 ghost use Rattle.ieee754_roots.specs.Nearest.{IsNearest};
 
@@ -74,8 +74,8 @@ fn is_nearest(n: u64, q: u64) -> bool
     }
 }
 
-// The whole number nearest to the root of m * 2^odd * 2^52. The guess is tested by a branch, so
-// that the result does not wait for the test.
+/// The whole number nearest to the root of m * 2^odd * 2^52. The guess is tested by a branch, so
+/// that the result does not wait for the test.
 pub fn nearest(m: u64, odd: u64) -> u64
     requires { (2 ^ 52 ≤ m) × (m < 2 ^ 53) × (odd < 2) }
     ensures { IsNearest 2 (m * 2 ^ odd * 2 ^ 52) result }

@@ -1,7 +1,7 @@
-// Where the square root's guess starts: lines near the curve 1 / (2 * sqrt(x)) over 64 parts of the
-// numbers from 1 up to 4. The parts from 0 on divide those from 2 up, the parts from 32 on those
-// below 2. Each line is that whose largest relative distance from the curve on its part is least;
-// none is off by more than 0.00005. Nothing is claimed of them.
+//! Where the square root's guess starts: lines near the curve 1 / (2 * sqrt(x)) over 64 parts of
+//! the numbers from 1 up to 4. The parts from 0 on divide those from 2 up, the parts from 32 on
+//! those below 2. Each line is that whose largest relative distance from the curve on its part is
+//! least; none is off by more than 0.00005. Nothing is claimed of them.
 
 // The lines: the height of each at 0, and how much it falls from 0 to 1.
 static LINES: [(f64, f64); 64] = [

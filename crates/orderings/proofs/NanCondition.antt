@@ -1,5 +1,6 @@
 -- A NaN as the condition of the first permutation is kept as best, since nothing compares greater,
--- and passes the limit, since it is not at most anything. No frame was found that reaches it, so it is stated of the choice. Assumes nothing.
+-- and passes the limit, since it is not at most anything. No frame was found that reaches it, so it
+-- is stated of the choice. Assumes nothing.
 use mathlib.Core.Path.{◌≡◌, refl}
 use mathlib.Core.Bool.{false}
 use mathlib.Core.List.{List, [], ◌∷◌}

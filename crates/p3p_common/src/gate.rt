@@ -1,6 +1,6 @@
 //! The gate that a pose recovered from edges and positive depths passes, is projected at, or does
-//! not pass: push_pose_with_cheirality of pose/p3p/common.rs with `edge_basis_with_positive_depths`,
-//! and push_valid_rotation, both without the push.
+//! not pass: push_pose_with_cheirality of pose/p3p/common.rs with
+//! `edge_basis_with_positive_depths`, and push_valid_rotation, both without the push.
 ghost use Rattle.std.specs.Prelude.{◌≡◌};
 ghost use Rattle.p3p_common.specs.Gate.{gate, projected_gate};
 

@@ -1,6 +1,6 @@
 //! A pose appended to the solutions where the gate lets it by (push_pose_with_cheirality of
-//! pose/p3p/common.rs, as push_edge_basis_pose_from_positive_depths calls it). The solve stores what
-//! the gate gives in its own slots; this is what is replayed.
+//! pose/p3p/common.rs, as push_edge_basis_pose_from_positive_depths calls it). The solve stores
+//! what the gate gives in its own slots; this is what is replayed.
 ghost use Rattle.std.specs.Prelude.{◌≡◌};
 ghost use Rattle.p3p_common.specs.PushPose.{push_pose};
 

@@ -1,5 +1,5 @@
--- One answer to every input, for the root finders: the quadratic answers with two roots, 4 or 5, the
--- cubic with one root, 4 or 6, each exactly where `QuadraticAnswer` and `CubicAnswer` say; the
+-- One answer to every input, for the root finders: the quadratic answers with two roots, 4 or 5,
+-- the cubic with one root, 4 or 6, each exactly where `QuadraticAnswer` and `CubicAnswer` say; the
 -- quadratic's two are told apart by the discriminant. That it holds of every input is
 -- `quadratic-answer` and `cubic-answer` in the proofs.
 use Rattle.std.specs.Prelude.{◌≡◌, Bool, true, not, ◌&&◌, ◌||◌, [], ◌∷◌, ℕ, T, Float}

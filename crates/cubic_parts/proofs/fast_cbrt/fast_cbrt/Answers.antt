@@ -1,4 +1,5 @@
--- `fast_cbrt`: the test on the way to the steps tells that the magnitude is finite, and so a number.
+-- `fast_cbrt`: the test on the way to the steps tells that the magnitude is finite, and so a
+-- number.
 use Rattle.ieee754_parts.proofs.Reading.{finite-not-nan}
 use Rattle.ieee754_parts.proofs.Tests.{answered}
 use Rattle.cubic_parts.proofs.fast_cbrt.fast_cbrt.Goals as goal

@@ -1,7 +1,7 @@
 -- `add_leading` meets its contract: the sum of the leading words is near to that of the terms
 -- (Sums.antt), and where all that is so near rounds alike, the sum does (`settle`). Assumes
 -- nothing.
-use Rattle.std.proofs.Common.{◌≡◌, ℕ, suc, ◌+◌, ◌-◌, ◌*◌, ◌/◌, ◌%◌, ◌^◌, ◌<◌, ◌≤◌, Bool, true, false, cond, leb, sym, refl, ap, ◌∙◌, subst, ap₂, le_trans, le_of_eq, lt_of_lt_of_le, lt_of_le_of_lt, le_of_lt, mul-le-mul_right, mod-lt, suc-mul, pos_of_ne-zero, div-add-mod', arith, pow_pos, shr_lt, leb-false, leb-true}
+use Rattle.std.proofs.Common.{◌≡◌, ℕ, suc, ◌+◌, ◌-◌, ◌*◌, ◌/◌, ◌%◌, ◌^◌, ◌<◌, ◌≤◌, Bool, true, false, cond, leb, sym, refl, ap, ◌∙◌, subst, ap₂, le_trans, le_of_eq, lt_of_lt_of_le, lt_of_le_of_lt, le_of_lt, mul-le-mul_right, mod-lt, suc-mul, div-add-mod', arith, pow_pos, shr_lt, leb-false, leb-true}
 use mathlib.Core.Bool.{beq}
 use lib.Ieee.{Float, binary64, units}
 use Rattle.ieee754_parts.specs.Types.{Scaled}
@@ -98,9 +98,9 @@ product-short p a l e = lt_of_le_of_lt (le_of_eq e) (shr_lt 62 62 l)
 addend-short : (m : ℕ) → m < 2 ^ 53 → m * 512 < 2 ^ 62
 addend-short m l = omega arith
 
-pub returns-else-settled-eq0 : goal.returns-else-settled-eq0
-returns-else-settled-eq0 c =
-    let w = c.settle-settled in
+pub returns-in-Some : goal.returns-in-Some
+returns-in-Some c =
+    let w = c.in-Some in
     let A = c.args.negative in
     let C = c.args.c.negative in
     let p = value c.args.p in
@@ -111,7 +111,7 @@ returns-else-settled-eq0 c =
     let y = c.args.c.exp + 1083 in
     let first = leb y x in
     let is : c.shift_right-a.result ≡ a = c.shift_right-a.ensures in
-    let settled = w.ensures (pos_of_ne-zero c.if-settled-eq0.false) in
+    let settled = w.ensures in
     let lead : c.choose-3.result ≡ cond first a b =
     c.choose-3.ensures ∙ ap (λ (z : ℕ). cond first z b) is in
     let rest : c.choose.result ≡ cond first b a =
@@ -121,14 +121,14 @@ returns-else-settled-eq0 c =
     ∙ ap₂ (λ (o d : ℕ). o / 2 ^ d) rest
     (ap₂ (λ (e d : ℕ). e - d) c.choose-exp.ensures c.choose-2.ensures) in
     either c.pack.result A C (p * 2 ^ c.args.p_exp) (m * 2 ^ c.args.c.exp * 2 ^ 1092) a x b
-    y c.signed_sum-sum.result w.result (product-leads p c.args.p_exp)
+    y c.signed_sum-sum.result w.settled (product-leads p c.args.p_exp)
     (addend-leads m c.args.c.exp) first refl
-    (subst (λ (e : ℕ). Settles c.signed_sum-sum.result e w.result) c.choose-exp.ensures settled)
+    (subst (λ (e : ℕ). Settles c.signed_sum-sum.result e w.settled) c.choose-exp.ensures settled)
     (subst (λ (d : ℕ).
     c.signed_sum-sum.result + cond (beq A C) 0 d ≡ cond first a b + cond (beq A C) d 0)
     low
     (c.signed_sum-sum.ensures settled.word
     ∙ ap (λ (l : ℕ). l + cond (beq A C) c.shift-rest.result 0) lead))
     (c.pack.ensures
-    ∙ ap (λ (z : Bool). units binary64 z w.result.sig w.result.exp)
+    ∙ ap (λ (z : Bool). units binary64 z w.settled.sig w.settled.exp)
     c.choose-negative.ensures)

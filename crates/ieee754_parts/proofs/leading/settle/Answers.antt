@@ -1,14 +1,13 @@
 -- `settle` meets its contract: the word is moved up until it has 63 digits, and what is nearest to
 -- both ends of the range is what all of it rounds to (Rounding.antt). Assumes nothing.
-use Rattle.std.proofs.Common.{◌≡◌, ℕ, ◌+◌, ◌-◌, ◌*◌, ◌%◌, ◌^◌, ◌<◌, ◌≤◌, sym, ap, ◌∙◌, subst, le_trans, lt_trans, le_of_eq, mod-eq_of_lt, add-mul, arith, lit<, lit≤, pow_mono, ltb-true}
+use Rattle.std.proofs.Common.{◌≡◌, ℕ, ◌+◌, ◌-◌, ◌*◌, ◌%◌, ◌^◌, ◌<◌, ◌≤◌, sym, ap, ◌∙◌, subst, le_trans, lt_trans, le_of_eq, mod-eq_of_lt, add-mul, arith, lit<, lit≤, pow_mono, ltb, ltb-true, ◌&&◌, true}
 use lib.Count.{count_leading_zeros}
 use Rattle.ieee754_parts.specs.Leading.{Settles}
 use Rattle.ieee754_parts.specs.Rounded.{rounded}
 use Rattle.ieee754_parts.proofs.Tests.{both}
 use Rattle.ieee754_parts.proofs.Rounding.{round-between}
 use Rattle.ieee754_parts.proofs.Sizes.{shl-shl, zeros-ge, zeros-le, shifted-ge, shifted-lt}
-use Rattle.ieee754_parts.proofs.leading.settle.Statement.{statement}
-use Rattle.ieee754_parts.proofs.leading.settle.Tie as tie
+use Rattle.ieee754_parts.proofs.leading.settle.Goals as goal
 
 -- ---- a word of 61 to 63 digits, moved up until it has 63
 
@@ -76,71 +75,50 @@ module _ (sum exp q : ℕ) (least : 2 ^ 60 < sum) (short : sum < 2 ^ 63) (high :
       }
 
 -- ---- the function
-tests : (c : tie.Then-sum-exp)
-    → (2 ^ 60 < c.before.args.sum)
-    × (c.before.args.sum < 2 ^ 63)
-    × (1083 < c.before.args.exp)
-tests c =
-    let h = both c.if-sum-exp.true in
-    let g = both h.0 in
-    (ltb-true _ _ g.0, ltb-true _ _ g.1, ltb-true _ _ h.1)
+tests : {s e : ℕ} → ltb (2 ^ 60) s && ltb s (2 ^ 63) && ltb 1083 e ≡ true
+    → (2 ^ 60 < s) × (s < 2 ^ 63) × (1083 < e)
+tests h =
+    let f = both h in
+    let g = both f.0 in (ltb-true _ _ g.0, ltb-true _ _ g.1, ltb-true _ _ f.1)
 
-count : (c : tie.Then-sum-exp)
-    → (1 ≤ count_leading_zeros 64 (c.before.args.sum - 1))
-    × (count_leading_zeros 64 (c.before.args.sum - 1) ≤ 3)
-count c = let t = tests c in zeros (c.before.args.sum - 1) (omega arith) (omega arith)
+count : (sum : ℕ)
+    → 2 ^ 60 < sum
+    → sum < 2 ^ 63
+    → (1 ≤ count_leading_zeros 64 (sum - 1)) × (count_leading_zeros 64 (sum - 1) ≤ 3)
+count sum l h = zeros (sum - 1) (omega arith) (omega arith)
 
-sub_low : tie.Need-overflow_sub-low
-sub_low c = let t = tests c in omega arith
+pub overflow_sub-n : goal.overflow_sub-n
+overflow_sub-n c = let t = tests {s = c.args.sum} {e = c.args.exp} c.if-sum-exp.true in omega (arith, count c.args.sum t.0 t.1, c.from-n.ensures)
 
-cast-n : tie.Need-overflow_cast-n
-cast-n c = omega (arith, count c)
-
-sub-n : tie.Need-overflow_sub-n
-sub-n c = (count c).0
-
-shl-nearest-to-all : tie.Need-overflow_shl-low
-shl-nearest-to-all c = omega (arith, count c)
-
-shl-nearest-to-all-2 : tie.Need-overflow_shl-n
-shl-nearest-to-all-2 c = omega (arith, count c)
-
-nearest-to-all-requires : tie.Need-nearest_to_all-requires
-nearest-to-all-requires c κs =
-    let t = tests c in
-    let low = c.before.args.sum - 1 in
-    let a : 2 ^ 60 ≤ low = omega arith in
-    let b : low < 2 ^ 63 = omega arith in (
+pub nearest_to_all-requires : goal.nearest_to_all-requires
+nearest_to_all-requires c =
+    let t = tests {s = c.args.sum} {e = c.args.exp} c.if-sum-exp.true in
+    let low = c.args.sum - 1 in
+    let a : 2 ^ 60 ≤ low = omega (arith, t.0) in
+    let b : low < 2 ^ 63 = omega (arith, t.1) in
+    let e : c.from-n.result - 1 ≡ up low = ap (λ (x : ℕ). x - 1) c.from-n.ensures in
+    rw e (
       subst (λ (x : ℕ). x < 2 ^ 63) (sym (same low a b)) (moved low a b).1,
       subst (λ (x : ℕ). x < 2 ^ 9) (sym (margin-same low a b)) (margin low a b),
     )
 
-sub-t15 : tie.Need-overflow_sub-result
-sub-t15 c = omega (arith, count c.before, tests c.before)
+pub overflow_sub-result-then-sum-exp : goal.overflow_sub-result-then-sum-exp
+overflow_sub-result-then-sum-exp c = let t = tests {s = c.args.sum} {e = c.args.exp} c.if-sum-exp.true in omega (arith, t, count c.args.sum t.0 t.1, c.from-n.ensures)
 
-sub-t16 : tie.Need-overflow_sub-result-then-sum-exp
-sub-t16 c = omega (arith, count c.before, tests c.before)
-
-returns : tie.Need-returns-then-sum-exp
-returns c =
-    let t = tests c.before in
-    let s = c.before.before in
-    let r = c.nearest_to_all in
-    let low = s.args.sum - 1 in
-    let a : 2 ^ 60 ≤ low = omega arith in
-    let b : low < 2 ^ 63 = omega arith in
-    let e : (x y : ℕ) → (q : ℕ) → Type 0 =
+pub returns-in_ok-sig : goal.returns-in_ok-sig
+returns-in_ok-sig c =
+    let t = tests {s = c.args.sum} {e = c.args.exp} c.if-sum-exp.true in
+    let low = c.args.sum - 1 in
+    let a : 2 ^ 60 ≤ low = omega (arith, t.0) in
+    let b : low < 2 ^ 63 = omega (arith, t.1) in
+    let i : c.from-n.result - 1 ≡ up low = ap (λ (x : ℕ). x - 1) c.from-n.ensures in
+    let e : (x y q : ℕ) → Type 0 =
     λ x y q. (q < 2 ^ 53) × (q * 2 ^ 10 < x + 2 ^ 9) × (x + y < q * 2 ^ 10 + 2 ^ 9) in
-    λ g. settles s.args.sum s.args.exp r.result t.0 t.1 t.2 s.requires
-    (subst (λ (x : ℕ). e x (3 * 2 ^ up low) r.result)
+    let r : e (low * 2 ^ up low % 2 ^ 64) (3 * 2 ^ up low % 2 ^ 64) c.in_ok-sig.sig =
+    subst (λ (n : ℕ). e (low * 2 ^ n % 2 ^ 64) (3 * 2 ^ n % 2 ^ 64) c.in_ok-sig.sig) i c.in_ok-sig.ensures in
+    subst (λ (n : ℕ). Settles c.args.sum c.args.exp record { sig = c.in_ok-sig.sig; exp = c.args.exp - n - 1082 }) (sym i)
+    (settles c.args.sum c.args.exp c.in_ok-sig.sig t.0 t.1 t.2 c.requires
+    (subst (λ (x : ℕ). e x (3 * 2 ^ up low) c.in_ok-sig.sig)
     (same low a b)
-    (subst (λ (y : ℕ). e (low * 2 ^ up low % 2 ^ 64) y r.result)
-    (margin-same low a b) (r.ensures g)))
-
-returns-2 : tie.Need-returns-else-sum-exp
-returns-2 c = λ g. absurd (omega (arith, g))
-
-pub settle_spec : {M : Type 1} → statement M
-settle_spec =
-    tie.close (tie.spec sub_low cast-n sub-n shl-nearest-to-all shl-nearest-to-all-2
-    nearest-to-all-requires sub-t15 sub-t16 returns returns-2)
+    (subst (λ (y : ℕ). e (low * 2 ^ up low % 2 ^ 64) y c.in_ok-sig.sig)
+    (margin-same low a b) r)))
