@@ -6,7 +6,7 @@ use mathlib.Core.Bool.{Bool}
 use mathlib.Core.List.{List}
 use lib.ListN.{length, get_or}
 use Rattle.frames.specs.Poses.{zero_pose}
-use Rattle.frames.proofs.Entries.{inside-same}
+use Rattle.std.proofs.lemmas.List.{get_or_default}
 use Rattle.replay_records.specs.Types.{Pose}
 
 module _ (asked : Pose → Bool) (poses : List Pose) (i : ℕ) (d : Pose) where
@@ -14,4 +14,4 @@ module _ (asked : Pose → Bool) (poses : List Pose) (i : ℕ) (d : Pose) where
       → i < length poses
       → r ≡ asked (get_or poses i d)
       → r ≡ asked (get_or poses i zero_pose)
-  slot_same h e = e ∙ ap asked (inside-same poses i d zero_pose h)
+  slot_same h e = e ∙ ap asked (get_or_default poses i d zero_pose h)
