@@ -1,12 +1,12 @@
--- The lines of the listing, as bytes, and what putting one into a slice leaves. From document 01,
--- "Frame records and their listing", and document 02, §8.
-use Rattle.std.specs.Prelude.{ℕ, ◌+◌, ◌-◌, ◌≤◌, ◌≡◌, Bool, cond, List, ◌++◌, leb, length, take, drop, Float}
+-- The lines of the listing, as bytes, and what putting one behind those that wait leaves.
+use Rattle.std.specs.Prelude.{ℕ, ◌+◌, ◌-◌, ◌≤◌, ◌≡◌, Bool, cond, List, ◌++◌, leb, length, decimal, Float}
 use Rattle.std.specs.Float.{binary64}
 use Rattle.std.specs.Float.Ieee.{to_bits}
-use Rattle.listing.specs.Types.{Vector3, Pose, Slot}
+use Rattle.listing.specs.Types.{Vector3, Pose, Slot, Line, Header, Refused, Accepted, PoseLine}
+use Rattle.listing.specs.Types.{Stop, End}
 use Rattle.linalg.specs.Matrices.{column0, column1, column2}
-use Rattle.listing.specs.Bytes.{ascii}
-use Rattle.listing.specs.Digits.{decimal, hexadecimal}
+use Rattle.listing.specs.Bytes.{ascii, capacity}
+use Rattle.listing.specs.Digits.{hexadecimal}
 
 -- a space and a double's bit pattern; that of a NaN, which no pose holds, is 7ff8000000000000
 unfoldable pub word_of : Float → List ℕ
@@ -52,17 +52,21 @@ stop_line r n = ascii "stop " ++ decimal r ++ ascii " at " ++ decimal n ++ ascii
 unfoldable pub end_line : ℕ → List ℕ
 end_line n = ascii "end " ++ decimal n ++ ascii "\n"
 
--- whether so many bytes are left of a slice from a position on
-abbrev pub roomy : ℕ → List ℕ → ℕ → Bool
-roomy room s at = leb room (length s - at)
+abbrev pub text : Line → List ℕ
+text Header = header_line
+text (Refused n r) = refused_line n r
+text (Accepted n k j) = accepted_line n k j
+text (PoseLine n j slot) = pose_line n j slot
+text (Stop r n) = stop_line r n
+text (End n) = end_line n
 
--- After a text has been put from a position on, which is done where there is room: the next
--- position, and what the slice holds. Without room nothing is put. The room is a number of bytes
--- that every such text fits in: 320 for a line.
-pub record Written (room : ℕ) (before : List ℕ) (at : ℕ) (text : List ℕ) (next : ℕ) (after : List ℕ)
-    : Type 0 where
-  pub next-at : next ≡ cond (roomy room before at) (at + length text) at
-  pub holds : after
-      ≡ cond (roomy room before at) (take at before ++ text ++ drop (at + length text) before)
-      before
-  pub fits : next ≤ at + room
+-- whether so many bytes are left behind those that wait
+abbrev pub roomy : ℕ → List ℕ → Bool
+roomy room waiting = leb room (capacity - length waiting)
+
+-- What waits after a text has been put behind what waited, which is done where there is room.
+-- Without room nothing is put. The room is a number of bytes that every such text fits in: 320 for
+-- a line.
+pub record Written (room : ℕ) (before text after : List ℕ) : Type 0 where
+  pub holds : after ≡ cond (roomy room before) (before ++ text) before
+  pub fits : length after ≤ length before + room

@@ -1,3 +1,3 @@
 -- The laws of this crate, in reading order.
-pub mod PoseLines
-pub mod AnswerLines
+pub mod Hexadecimal
+pub mod Writing
