@@ -1,4 +1,4 @@
-// How the program is called: what its arguments ask for, and the answer to it.
+//! How the program is called: what its arguments ask for, and the answer to it.
 ghost use Rattle.std.specs.Prelude.{◌≡◌};
 ghost use Rattle.listing_program.specs.Requests.{request_of, request_of_one};
 
@@ -8,14 +8,14 @@ use std::env::FillError;
 use std::io::{Read, Write};
 use std::rt::Env;
 
-// What the arguments ask for.
-#[derive(Clone, Copy)]
+/// What the arguments ask for.
+#[derive(Clone, Copy, Debug, PartialEq, Eq)]
 pub enum Request {
-    // The listing of standard input.
+    /// The listing of standard input.
     Listing,
     Help,
     Version,
-    // No call that the program knows: it says how it is called.
+    /// No call that the program knows: it says how it is called.
     Usage,
 }
 
@@ -32,18 +32,18 @@ fn requested_by(argument: &[u8]) -> Request
     Request::Usage
 }
 
-// What is asked for, by the number of words that the program is started with, its own name among
-// them, and the first of the others.
+/// What is asked for, by the number of words that the program is started with, its own name among
+/// them, and the first of the others.
 pub fn requested(words: usize, argument: &[u8]) -> Request
     ensures { result ≡ request_of words argument.now }
 {
     if words < 2 {
-        return Request::Listing;
+        Request::Listing
+    } else if 2 < words {
+        Request::Usage
+    } else {
+        requested_by(argument)
     }
-    if 2 < words {
-        return Request::Usage;
-    }
-    requested_by(argument)
 }
 
 fn put<R, W: Write, E: Write>(text: &[u8], streams: &mut Streams<R, W, E>) {
@@ -64,7 +64,7 @@ fn put_help<R, W: Write, E: Write>(streams: &mut Streams<R, W, E>) {
     );
 }
 
-// Lists the input, or says what is asked for in its place.
+/// Lists the input, or says what is asked for in its place.
 pub fn answer<R: Read, W: Write, E: Write>(request: Request, streams: &mut Streams<R, W, E>) {
     match request {
         Request::Listing => list(streams),
@@ -83,16 +83,13 @@ fn is_given<V: Env>(env: &V, place: usize) -> bool {
 
 // The number of words that the program is started with.
 fn words<V: Env>(env: &V) -> usize {
-    for place in 0..usize::MAX {
-        if !is_given(env, place) {
-            return place;
-        }
-    }
-    usize::MAX
+    (0..usize::MAX)
+        .find(|place| !is_given(env, *place))
+        .unwrap_or(usize::MAX)
 }
 
-// The program. An argument that does not fit the array is none that it knows, and is taken as an
-// empty one.
+/// The program. An argument that does not fit the array is none that it knows, and is taken as an
+/// empty one.
 pub fn start<V: Env, R: Read, W: Write, E: Write>(env: &V, streams: &mut Streams<R, W, E>) {
     let mut argument = [0u8; 16];
     let length = env.arg(1, &mut argument).unwrap_or(0);

@@ -1,11 +1,11 @@
-// The input and the listing's output, in parts.
-ghost use Rattle.std.specs.Prelude.{◌≡◌, ◌<◌, false, length, take};
+//! The input and the listing's output, in parts.
+ghost use Rattle.std.specs.Prelude.{◌≡◌, length, take};
 ghost use Rattle.listing_program.specs.Goes.{Fills};
 
 use std::io;
 use std::io::{ErrorKind, Read, Write};
 
-// What a run reads, what it writes, and what it says on standard error.
+/// What a run reads, what it writes, and what it says on standard error.
 #[derive(Drop)]
 pub struct Streams<R, W, E> {
     pub input: R,
@@ -13,12 +13,12 @@ pub struct Streams<R, W, E> {
     pub errors: E,
 }
 
-// What reading once leads to.
-#[derive(Clone, Copy)]
+/// What reading once leads to.
+#[derive(Clone, Copy, Debug, PartialEq, Eq)]
 pub enum Filling {
-    // So many bytes of the buffer are filled. A read that a signal interrupts fills none.
+    /// So many bytes of the buffer are filled. A read that a signal interrupts fills none.
     Filled(usize),
-    // The input has ended.
+    /// The input has ended.
     End,
     Failed,
 }
@@ -55,29 +55,21 @@ fn failed<E: Write>(errors: &mut E, error: io::Error) -> Filling
     Filling::Failed
 }
 
-// Writes the first `n` bytes of `out`, and answers whether all were written. Where they were not,
-// standard error says why; an `n` beyond the end does not occur.
+// Writes what waits, and answers whether all of it was written. Where it was not, standard error
+// says why.
 pub(crate) fn flush<R, W: Write, E: Write>(
     streams: &mut Streams<R, W, E>,
-    out: &[u8],
-    n: usize,
-) -> bool
-    ensures { length out.now < n → result ≡ false }
-{
-    let written = if n <= out.len() {
-        streams.output.write_all(&out[..n])
-    } else {
-        Err(io::Error::from(ErrorKind::InvalidInput))
-    };
-    match written {
-        Ok(()) => true,
+    waiting: &[u8],
+) -> Option<()> {
+    match streams.output.write_all(waiting) {
+        Ok(()) => Some(()),
         Err(error) => {
             failures::say(
                 &mut streams.errors,
                 "poses: cannot write the listing",
                 error,
             );
-            false
+            None
         }
     }
 }

@@ -1,5 +1,4 @@
--- The lines of a frame: its solve, the choice by the checking target, and the poses. From document
--- 01, "Frame records and their listing", and document 02, §8.
+-- The lines of a frame: its solve, the choice by the checking target, and the poses.
 use Rattle.std.specs.Prelude.{ℕ, zero, suc, min, Bool, false, List, [], ◌++◌, eqb, get_or, if◌then◌else◌}
 use Rattle.frames.specs.Poses.{zero_pose}
 use Rattle.lambdatwist.specs.Solve.{solve}

@@ -7,6 +7,7 @@ pub use Rattle.lambdatwist.specs.declared.solve.Answer.{Answer}
 pub use Rattle.listing.specs.declared.line.Slot.{Slot}
 pub use Rattle.records.specs.declared.record.Record.{Record}
 pub use Rattle.records.specs.declared.record.Record.TheVariants.{End, Stop, Skip, Accepted}
+pub use Rattle.records.specs.declared.refusal.RecordRefusal.TheVariants.{Length, Version, Short}
 pub use Rattle.listing_records.specs.declared.record.Course.{Course}
 pub use Rattle.listing_records.specs.declared.record.Course.TheVariants.{Write, Read, Next}
 pub use Rattle.listing_records.specs.declared.record.Course.TheVariants.{Closed}

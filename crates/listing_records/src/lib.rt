@@ -1,5 +1,4 @@
-// What is listed of a record, and whether the run goes on after it: document 01, "Frame records and
-// their listing".
+//! What is listed of a record, and whether the run goes on after it.
 #![tactic(auto)]
 
 pub mod frame;

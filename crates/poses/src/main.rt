@@ -1,5 +1,4 @@
-// Reads frame records from standard input and lists their poses on standard output: document 01,
-// "Frame records and their listing".
+//! Reads frame records from standard input and lists their poses on standard output.
 #![tactic(auto)]
 
 use listing_program::command::start;

@@ -1,8 +1,8 @@
-// Goes through the replies of the program `poses`, the first as the argument in args asks for, and
-// lists the files of data/ as it lists its input, the name of each before its listing. A stored run
-// is held to standard output alone, so what is said on standard error goes into a file of the run's
-// folder, and is written out last. tests/poses/make.py made the files, and what is expected: the
-// listings from the Rust's answers.
+//! Goes through the replies of the program `poses`, the first as the argument in args asks for, and
+//! lists the files of data/ as it lists its input, the name of each before its listing. A stored run
+//! is held to standard output alone, so what is said on standard error goes into a file of the run's
+//! folder, and is written out last. tests/poses/make.py made the files, and what is expected: the
+//! listings from the Rust's answers.
 #![tactic(auto)]
 
 use listing_program::command::{answer, requested, start};
@@ -10,6 +10,26 @@ use listing_program::stream::Streams;
 use std::io::{Read, Write};
 use std::rt::{Env, Files};
 use std::{fs, io};
+
+// The files, in the order of the listings; the last is a folder, from which a read fails.
+const LISTED: [&str; 16] = [
+    "empty",
+    "lone_byte",
+    "two_bytes",
+    "length_192",
+    "length_194",
+    "length_194_alone",
+    "truncated",
+    "truncated_by_one",
+    "version_2",
+    "answers",
+    "behind",
+    "lifted",
+    "buffer",
+    "buffer_and_byte",
+    "thousand",
+    ".",
+];
 
 // Lists a file, behind its name. One that does not open is named among the errors and passed over.
 // An error is that of the writing of the name: the file is not listed then. No other error comes.
@@ -59,22 +79,8 @@ fn main(rt: HostRuntime) -> io::Result<()> {
         errors: &mut said,
     };
     reply(&rt, &mut streams);
-    list(&rt, &mut said, "empty")?;
-    list(&rt, &mut said, "lone_byte")?;
-    list(&rt, &mut said, "two_bytes")?;
-    list(&rt, &mut said, "length_192")?;
-    list(&rt, &mut said, "length_194")?;
-    list(&rt, &mut said, "length_194_alone")?;
-    list(&rt, &mut said, "truncated")?;
-    list(&rt, &mut said, "truncated_by_one")?;
-    list(&rt, &mut said, "version_2")?;
-    list(&rt, &mut said, "answers")?;
-    list(&rt, &mut said, "behind")?;
-    list(&rt, &mut said, "lifted")?;
-    list(&rt, &mut said, "buffer")?;
-    list(&rt, &mut said, "buffer_and_byte")?;
-    list(&rt, &mut said, "thousand")?;
-    // a folder, from which a read fails
-    list(&rt, &mut said, ".")?;
+    for name in LISTED {
+        list(&rt, &mut said, name)?;
+    }
     show(&rt, "said")
 }

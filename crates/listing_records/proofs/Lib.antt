@@ -1,0 +1,2 @@
+-- The laws of this crate, in reading order.
+pub mod PoseLines
