@@ -5,8 +5,9 @@ use std::fmt::InlineText;
 use std::io;
 use std::io::Write;
 
-/// Writes a line: what failed, as the caller names it, a colon and the system's words for the error,
-/// without the number that std puts after them. Where that cannot be written, nothing is said.
+/// Writes a line: what failed, as the caller names it, a colon and the system's words for the
+/// error, without the number that std puts after them. Where that cannot be written, nothing is
+/// said.
 pub fn say<E: Write>(errors: &mut E, what: &str, error: io::Error) {
     let text = InlineText::<256>::of(error);
     let all = text.as_str();

@@ -1,7 +1,7 @@
 -- The solve of eighteen doubles: `solve_ordered`, `solve_best_conditioned_permutation`, and
--- `solve_validated` with `solve_solver_minimal` as `solve`, of lambdatwist.rs, with its refusals. An
--- ordering is solved with an allowance of retries; where it is unusable and one is left, the best
--- conditioned of the other orderings is solved with one less.
+-- `solve_validated` with `solve_solver_minimal` as `solve`, of lambdatwist.rs, with its refusals.
+-- An ordering is solved with an allowance of retries; where it is unusable and one is left, the
+-- best conditioned of the other orderings is solved with one less.
 use Rattle.std.specs.Prelude.{ℕ, zero, suc, not, eqb, Float, if◌then◌else◌}
 use Rattle.std.specs.Float.Ieee.{le}
 use Rattle.ieee754.specs.Literal.{sixty_four, epsilon}

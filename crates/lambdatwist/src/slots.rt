@@ -1,6 +1,6 @@
-//! The slots that a solve fills: for each of four poses its twelve entries, its updates, and whether
-//! a pair of roots that it came from was lifted. Arrays of numbers are lent to the stages: what is
-//! lent is not copied from stage to stage.
+//! The slots that a solve fills: for each of four poses its twelve entries, its updates, and
+//! whether a pair of roots that it came from was lifted. Arrays of numbers are lent to the stages:
+//! what is lent is not copied from stage to stage.
 ghost use Rattle.std.specs.Prelude.{◌≡◌, ◌+◌, ◌<◌};
 ghost use Rattle.p3p_common.specs.Slots.{push};
 ghost use Rattle.lambdatwist.specs.LentSlots.{held};

@@ -24,8 +24,8 @@ use polynomial::Roots;
 use polynomial::cubic::polished_cubic_root;
 
 /// `refusal` is 0 where there is a pose, and otherwise 1, 2 or 3, with count 0 and plus zeros in
-/// every slot. `lifted` says of each pose whether the pair of eigenvalues or of depth ratios that it
-/// came from was lifted. Slots beyond the count hold plus zeros and false.
+/// every slot. `lifted` says of each pose whether the pair of eigenvalues or of depth ratios that
+/// it came from was lifted. Slots beyond the count hold plus zeros and false.
 #[derive(Clone, Copy)]
 pub struct Answer {
     pub refusal: u32,

@@ -25,8 +25,8 @@ pub enum Course {
     Closed,
 }
 
-// Puts the lines of what stands next in the input: the record `number`, after `listed` others. Where
-// more may still come, the input's end and a record that is cut short wait.
+// Puts the lines of what stands next in the input: the record `number`, after `listed` others.
+// Where more may still come, the input's end and a record that is cut short wait.
 #[tactic(auto, using(listing::proofs::Writing::appended), unfolding(crate::specs::RecordLines::turn_lines, crate::specs::RecordLines::turn_course, crate::specs::RecordLines::waits, crate::specs::RecordLines::record_lines, crate::specs::RecordLines::following))]
 fn put_found(out: &mut Buffer, ended: bool, listed: u64, number: u64, found: Record) -> Course
     requires { length out.old.items + 1600 ≤ capacity }

@@ -1,5 +1,5 @@
-//! The solve with a plate: the solve of lambdatwist.rs by the stored squared edges, and in the given
-//! ordering by the stored inverse basis.
+//! The solve with a plate: the solve of lambdatwist.rs by the stored squared edges, and in the
+//! given ordering by the stored inverse basis.
 ghost use Rattle.std.specs.Prelude.{◌≡◌};
 ghost use Rattle.lambdatwist.specs.Solve.{solve_cubic};
 ghost use Rattle.plates.specs.SolvePlate as SolvePlate;

@@ -1,8 +1,8 @@
 //! Goes through the replies of the program `poses`, the first as the argument in args asks for, and
-//! lists the files of data/ as it lists its input, the name of each before its listing. A stored run
-//! is held to standard output alone, so what is said on standard error goes into a file of the run's
-//! folder, and is written out last. tests/poses/make.py made the files, and what is expected: the
-//! listings from the Rust's answers.
+//! lists the files of data/ as it lists its input, the name of each before its listing. A stored
+//! run is held to standard output alone, so what is said on standard error goes into a file of the
+//! run's folder, and is written out last. tests/poses/make.py made the files, and what is expected:
+//! the listings from the Rust's answers.
 #![tactic(auto)]
 
 use listing_program::command::{answer, requested, start};

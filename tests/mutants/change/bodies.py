@@ -51,6 +51,9 @@ class Body(Expressions):
     def statement(self):
         if self.passes("let"):
             return self.let()
+        if self.passes("use"):
+            self.used()
+            return "()"
         if self.passes("return"):
             if not self.sees(";"):
                 join(self.expression(), self.f.result)

@@ -3,7 +3,7 @@ from change.changes import changed_bytes, near_floats, near_numbers
 from change.places import Marks, signature
 from syntax.library import CONSTANTS, FUNCTIONS, METHODS, OPERATORS
 from syntax.tokens import LEVELS, number_parts
-from syntax.types import INTEGERS, Number, bare, join
+from syntax.types import INTEGERS, Number, bare, join, of_type
 
 
 class Expressions(Marks):
@@ -218,13 +218,11 @@ class Expressions(Marks):
             return visible[path[0]]
         if len(path) > 1:
             owner = self.file.named(path[:-1], self.owner)
-            if owner in self.world.enums:
+            if path[-1] in self.world.enums.get(owner, ()):
                 return self.variant(owner, path[-1], end)
-            method = (
-                self.world.functions.get(owner[:2] + (owner[2] + "::" + path[-1],))
-                if owner in self.world.structs
-                else None
-            )
+            method = self.world.functions.get(of_type(owner, path[-1]))
+            if method and not self.sees("("):
+                return "closure"
             if method:
                 return self.given(*signature(method))
             if "::".join(path) in FUNCTIONS:

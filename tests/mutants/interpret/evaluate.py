@@ -20,7 +20,9 @@ def fits(pattern, value):
     if pattern[0] == "tuple":
         return fits_all(pattern[1], value)
     if isinstance(value, Struct):
-        return fits_fields(pattern[2], value.fields)
+        if isinstance(pattern[2], dict):
+            return fits_fields(pattern[2], value.fields)
+        return fits_all(pattern[2], value.fields.values())
     if value.name != pattern[1]:
         return None
     if isinstance(pattern[2], dict):
@@ -91,6 +93,9 @@ class Evaluate:
             return Struct(target, {})
         if len(path) == 1:
             raise Outside()  # a constant of a library outside
+        key = of_type(self.named(path[:-1]), path[-1])
+        if key in self.world.overloads:
+            return lambda *values: self.call(self.chosen(key, values), list(values))
         return Variant(self.named(path[:-1]), path[-1], [])
 
     def constant(self, target):

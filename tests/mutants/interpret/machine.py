@@ -82,6 +82,9 @@ class Machine(Evaluate):
             raise Trap("an else block that goes on")
         env.update(bound)
 
+    def do_use(self, env, paths):
+        env.update({path[-1]: self.on_path(env, path) for path in paths})
+
     def do_return(self, env, e):
         raise Return(None if e is None else taken(held(self.run(e, env))))
 

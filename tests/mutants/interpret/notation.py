@@ -17,7 +17,7 @@ import struct
 from fractions import Fraction
 
 from interpret.operations import NAN
-from interpret.values import OPTION, RESULT, Cell, Struct, Variant, held, plain, taken
+from interpret.values import OPTION, RESULT, Bounded, Cell, Struct, Variant, held, plain, taken
 from syntax.tokens import Cursor, literal, tokens
 from syntax.types import settled
 
@@ -52,13 +52,21 @@ class Notation(Cursor):
             return self.filled(kind, itertools.repeat(0))
         if self.passes("frame"):
             return self.stored(kind)
+        if kind == "()":
+            self.expect("(")
+            self.expect(")")
+            return None
         if isinstance(kind, str):
             return self.number(kind)
         if kind[0] == "ref":
             inner = self.value(kind[1])
             return inner if isinstance(inner, list) or len(kind) < 3 else Cell(inner)
         if kind[0] == "array":
-            return self.array(kind[1])
+            out = self.array(kind[1])
+            if len(kind) > 3 and not isinstance(out, Prefix):
+                out = Bounded(out)
+                out.capacity = int(kind[3])
+            return out
         if kind[0] == "tuple":
             return tuple(self.fields(dict(enumerate(kind[1]))).values())
         if kind[0] in ("option", "result"):

@@ -78,6 +78,13 @@ def narrowed(bits):
     return try_from
 
 
+def extended(own, more):
+    if len(own) + len(more) > own.capacity:
+        return Variant(RESULT, "Err", [NONE])
+    own.extend(more)
+    return Variant(RESULT, "Ok", [NONE])
+
+
 def signed(n):
     return n - (1 << 64) if n >= 1 << 63 else n
 
@@ -97,6 +104,7 @@ BUILT_IN = {
     "u32::from_be_bytes": lambda s: int.from_bytes(bytes(s), "big"),
     "BigEndian::read_u64": lambda s: int.from_bytes(bytes(s[:8]), "big"),
     "BigEndian::read_u16": lambda s: int.from_bytes(bytes(s[:2]), "big"),
+    "itoa::Buffer::new": list,
     "u8::try_from": narrowed(8),
     "u32::try_from": narrowed(32),
     "i32::try_from": lambda n: Variant(RESULT, "Ok", [n])
@@ -135,6 +143,13 @@ METHODS = {
     "ok_or": lambda o, e: Variant(RESULT, "Ok", o.parts) if o.name == "Some"
     else Variant(RESULT, "Err", [e]),
     "ok": lambda o: some(o.parts[0]) if o.name == "Ok" else NONE,
+    # of arrays with a capacity, and of texts
+    "push": lambda s, x: s.append(x),
+    "clear": lambda s: s.clear(),
+    "remaining_capacity": lambda s: s.capacity - len(s),
+    "try_extend_from_slice": extended,
+    "as_bytes": lambda t: list(t.encode()),
+    "format": lambda _, n: str(n),
     # of slices and of what goes through them
     "len": len,
     "is_empty": lambda s: not s,

@@ -28,6 +28,8 @@ class Parser(Grammar):
     def statement(self):
         if self.passes("let"):
             return self.let()
+        if self.passes("use"):
+            return ("use", self.used())
         if self.passes("return"):
             value = None if self.sees(";") else self.expression()
             self.passes(";")

@@ -31,6 +31,12 @@ class Variant:
         self.key, self.name, self.parts = key, name, parts
 
 
+class Bounded(list):
+    """An array with a capacity, and as many entries as it holds."""
+
+    capacity = 0
+
+
 class Cell:
     """What a `&mut` of a number or a struct refers to."""
 

@@ -32,6 +32,21 @@ class Grammar(Types):
             return self.returned()
         return self.path_expression()
 
+    def used(self):
+        """The paths that a `use` within a body brings, up to its end."""
+        path, out = self.names_before("{"), []
+        if self.passes("{"):
+            out = [path + [self.take()] for _ in self.each("}")]
+        self.expect(";")
+        return out or [path]
+
+    def names_before(self, bracket):
+        """The names of a path up to a bracket or its end."""
+        out = [self.take()]
+        while self.passes("::") and not self.sees(bracket):
+            out.append(self.take())
+        return out
+
     def pattern(self):
         out = [self.one_pattern()]
         while self.passes("|"):
@@ -48,6 +63,8 @@ class Grammar(Types):
             return ("literal", literal(kind, word))
         if self.passes("("):
             return ("tuple", [self.pattern() for _ in self.each(")")])
+        if self.passes("["):
+            return ("tuple", [self.pattern() for _ in self.each("]")])
         path = self.names()
         if self.passes("("):
             return ("variant", path[-1], [self.pattern() for _ in self.each(")")], path)

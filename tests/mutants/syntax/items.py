@@ -260,7 +260,7 @@ class Items(Types):
             for n, t in params
         ]
         f.result = self.type_at(result, owner) if result is not None else "()"
-        if owner and owner[0] != "[":
+        if owner:
             self.world.add(of_type(self.file.named([owner]), f.path.split("::")[-1]), f)
 
     def own(self, owner, lent, mutable):

@@ -47,7 +47,7 @@ def literal(kind, word):
         digits, _, double = number_parts(word)
         return float(digits.replace("_", "")) if double else int(digits.replace("_", ""), 0)
     if kind == "str":
-        return word
+        return word[1:-1].encode().decode("unicode_escape")
     if kind in ("bytes", "byte"):
         text = word[2:-1].encode().decode("unicode_escape").encode("latin1")
         return list(text) if kind == "bytes" else text[0]

@@ -1,6 +1,7 @@
 """The types of Rattle as the parsers keep them, and the reading of one. A type is the name of a
 built-in one, the crate, module and name of a declared one, ("ref", type) or ("ref", type, "mut"),
-("array", type, length), ("tuple", types), ("option", type), ("result", type, type) or "closure"."""
+("array", type, length), ("array", type, None, capacity), ("tuple", types), ("option", type),
+("result", type, type) or "closure"."""
 from syntax.tokens import Cursor
 
 INTEGERS = {"u8", "u16", "u32", "u64", "usize", "i8", "i16", "i32", "i64", "isize"}
@@ -94,6 +95,8 @@ class Types(Cursor):
             return "closure"
         names = self.names()
         given = self.given_types(owner) if self.passes("<") else []
+        if names[-1] == "ArrayVec":
+            return ("array", given[0], None, given[1])
         if names[-1] in ("Option", "Result"):
             return (names[-1].lower(), *given)
         found = self.file.named(names, owner)
