@@ -1,6 +1,7 @@
 -- The depth candidates: as many, and of the same depths in the same order, where they are marked
 -- and where they are not. Assumes nothing.
-use Rattle.std.proofs.Common.{◌≡◌, ℕ, zero, suc, ◌+◌, Bool, ◌&&◌, ◌||◌, ltb, List, [], ◌∷◌, map, set, refl, ap, ◌∙◌}
+use Rattle.std.proofs.Common.{◌≡◌, ℕ, ◌+◌, Bool, ◌&&◌, ◌||◌, ltb, List, map, set, refl, ap, ◌∙◌}
+use Rattle.std.proofs.lemmas.List.{map-set}
 use lib.Ieee.{Float, neg, lt, le}
 use Rattle.ieee754.specs.Literal.{plus_zero, one, two}
 use Rattle.ieee754.specs.Magnitude.{abs}
@@ -19,8 +20,8 @@ use Rattle.unmarked.specs.Charts as before
 use Rattle.unmarked.specs.Signs as before-signs
 use Rattle.unmarked.specs.Types as unmarked
 use Rattle.unmarked.specs.Types.{Vector3, Matrix3, SquaredEdges, Factors}
-use Rattle.unmarked.proofs.Forgets.{Forgets, choose, pure, if◌then◌else◌, ◌>>=◌, ◌>>≡◌}
-use Rattle.unmarked.proofs.Quadratic.{SameRoots, with_pair-forgets}
+use Rattle.unmarked.proofs.Forgets.{Forgets, choose, pure, if◌then◌else◌, ◌>>=◌, ◌>>≡◌, with_some}
+use Rattle.unmarked.proofs.Quadratic.{SameRoots, pair_of-forgets}
 use Rattle.unmarked.proofs.Quadratic.{quadratic_real_monic-forgets}
 
 abbrev pub depths_of : List Candidate → List Vector3
@@ -31,13 +32,6 @@ pub record SameCandidates (c : Candidates) (c' : unmarked.Candidates) : Type 0 w
   pub depths : depths_of c.slots ≡ c'.depths
 
 -- ---- the slots
-depths-set : (slots : List Candidate) (i : ℕ) (c : Candidate)
-    → depths_of (set slots i c) ≡ set (depths_of slots) i c.depths
-depths-set [] i c = refl
-depths-set (x ∷ slots) zero c = refl
-depths-set (x ∷ slots) (suc i) c =
-    ap (λ (r : List Vector3). x.depths ∷ r) (depths-set slots i c)
-
 no_candidates-forgets : (lifted : Bool)
     → SameCandidates (no_candidates lifted) before-slots.no_candidates
 unfolding no_candidates before-slots.no_candidates
@@ -51,7 +45,7 @@ module _ {c : Candidates} {c' : unmarked.Candidates} (C : SameCandidates c c') w
       choose SameCandidates (ap (λ (n : ℕ). lt plus_zero depth && ltb n 4) C.count)
       (record {
         count = ap (λ (n : ℕ). n + 1) C.count;
-        depths = depths-set c.slots c.count (candidate c v lifted)
+        depths = map-set (λ (x : Candidate). x.depths) c.slots c.count (candidate c v lifted)
             ∙ λ i. set (C.depths i) (C.count i) v;
       })
       C
@@ -75,9 +69,9 @@ for_roots-forgets : {r : Roots} {r' : unmarked.Roots}
     → Forgets SameCandidates (for_roots r turn c) (before.for_roots r' turn' c')
 unfolding for_roots before.for_roots
 for_roots-forgets roots turn found =
-    with_pair-forgets roots (pure found) (λ first second lifted.
-    turn lifted _ _ first found >>= λ _ _ once.
-    turn lifted _ _ second once)
+    with_some _ (pair_of-forgets roots) (pure found) (λ pair.
+    turn pair.lifted _ _ pair.first found >>= λ _ _ once.
+    turn pair.lifted _ _ pair.second once)
 
 module _ (squares : SquaredEdges) (factors : Factors) where
   -- ---- the chart for u0.abs() < u1.abs()

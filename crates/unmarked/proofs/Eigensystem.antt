@@ -4,110 +4,83 @@ use Rattle.std.proofs.Common.{Bool, not, ◌||◌, refl}
 use lib.Ieee.{Float, lt, eq}
 use Rattle.ieee754.specs.Literal.{plus_zero}
 use Rattle.ieee754.specs.Magnitude.{abs}
-use Rattle.ieee754.specs.Traced.{Traced, ◌⊗◌, !◌, ⊝◌}
+use Rattle.ieee754.specs.Traced as traced
+use Rattle.ieee754.specs.Traced.{◌⊗◌, !◌, ⊝◌}
 use Rattle.linalg.specs.Vectors.{vector}
 use Rattle.linalg.specs.Matrices.{trace, from_columns, mat_finite}
-use Rattle.eigen.specs.RowCrosses.{with_vector}
+use Rattle.polynomial.specs.declared.pair.RootPair.{RootPair}
 use Rattle.eigen.specs.ZeroVector.{zero_vector}
-use Rattle.eigen.specs.EigenPair.{with_eigenvalues, pair_coefficient, nonzero_pair, by_magnitude}
-use Rattle.eigen.specs.EigenPair.{eigenvalue_pair}
+use Rattle.eigen.specs.EigenPair.{pair_coefficient, nonzero_pair, by_magnitude, eigenvalue_pair}
 use Rattle.eigen.specs.EigenvectorOf.{precompute, eigenvector_of}
-use Rattle.eigen.specs.KnownZero.{with_system, system_of_pair, eig_with_known_zero}
-use Rattle.eigen.specs.declared.eigenvalues.Eigenvalues.{Eigenvalues}
-use Rattle.eigen.specs.declared.eigenvalues.Eigenvalues.TheVariants.{Pair, NoPair}
+use Rattle.eigen.specs.KnownZero.{system_of_pair, eig_with_known_zero}
 use Rattle.eigen.specs.declared.known_zero.Eigensystem.{Eigensystem}
-use Rattle.eigen.specs.declared.known_zero.Eigensystem.TheVariants.{Found, NotFound}
-use Rattle.eigen.specs.declared.row_crosses.Eigenvector.{Eigenvector}
-use Rattle.eigen.specs.declared.row_crosses.Eigenvector.TheVariants.{Normalised, Missing}
 use Rattle.unmarked.specs.EigenPair as before
 use Rattle.unmarked.specs.KnownZero as before-system
 use Rattle.unmarked.specs.Types as unmarked
 use Rattle.unmarked.specs.Types.{Vector3, Matrix3}
-use Rattle.unmarked.proofs.Forgets.{Forgets, choose, pure, if◌then◌else◌, ◌>>=◌, ◌>>≡◌}
-use Rattle.unmarked.proofs.Quadratic.{with_pair-forgets, quadratic_real_monic-forgets}
+use Rattle.unmarked.proofs.Forgets.{Forgets, WithoutMarks, some-forgotten, none-forgotten, choose}
+use Rattle.unmarked.proofs.Forgets.{pure, if◌then◌else◌, ◌>>=◌, ◌>>≡◌, with_same, with_some}
+use Rattle.unmarked.proofs.Quadratic.{forget_pair, pair_of-forgets, quadratic_real_monic-forgets}
 
-pub data SameEigenvalues : Eigenvalues → unmarked.Eigenvalues → Type 0 where
-  pair : (x y : Float) (lifted : Bool) → SameEigenvalues (Pair x y lifted) (unmarked.Pair x y)
-  no-pair : SameEigenvalues NoPair unmarked.NoPair
-
-pub data SameSystem : Eigensystem → unmarked.Eigensystem → Type 0 where
-  found : (m : Matrix3) (v : Vector3) (lifted : Bool)
-      → SameSystem (Found m v lifted) (unmarked.Found m v)
-  not_found : SameSystem NotFound unmarked.NotFound
-
--- ---- what follows a vector, the eigenvalues and the system
-module _ {A B : Type 0} {R : A → B → Type 0} {none : Traced A} {none' : Traced B} where
-  with_vector-forgets : (v : Eigenvector) {k : Vector3 → Traced A} {k' : Vector3 → Traced B}
-      → Forgets R none none'
-      → ((x : Vector3) → Forgets R (k x) (k' x))
-      → Forgets R (with_vector v none k) (with_vector v none' k')
-  with_vector-forgets (Normalised x) none next = next x
-  with_vector-forgets Missing none next = none
-
-  with_eigenvalues-forgets : {e : Eigenvalues} {e' : unmarked.Eigenvalues}
-      {k : Float → Float → Bool → Traced A} {k' : Float → Float → Traced B}
-      → SameEigenvalues e e'
-      → Forgets R none none'
-      → ((x y : Float) (lifted : Bool) → Forgets R (k x y lifted) (k' x y))
-      → Forgets R (with_eigenvalues e none k) (before.with_eigenvalues e' none' k')
-  with_eigenvalues-forgets (pair x y lifted) none next = next x y lifted
-  with_eigenvalues-forgets no-pair none next = none
-
-  pub with_system-forgets : {s : Eigensystem} {s' : unmarked.Eigensystem}
-      {k : Matrix3 → Vector3 → Bool → Traced A} {k' : Matrix3 → Vector3 → Traced B}
-      → SameSystem s s'
-      → Forgets R none none'
-      → ((m : Matrix3) (v : Vector3) (lifted : Bool) → Forgets R (k m v lifted) (k' m v))
-      → Forgets R (with_system s none k) (before-system.with_system s' none' k')
-  with_system-forgets (found m v lifted) none next = next m v lifted
-  with_system-forgets not_found none next = none
+abbrev pub forget_system : Eigensystem → unmarked.Eigensystem
+forget_system system = record { vectors = system.vectors; values = system.values }
 
 -- ---- the eigenvalues
 nonzero_pair-forgets : (x y : Float) (lifted : Bool)
-    → SameEigenvalues (nonzero_pair x y lifted) (before.nonzero_pair x y)
+    → WithoutMarks forget_pair (nonzero_pair x y lifted) (before.nonzero_pair x y)
 unfolding nonzero_pair before.nonzero_pair
 nonzero_pair-forgets x y lifted =
-    choose SameEigenvalues (refl {a = eq x plus_zero || eq y plus_zero}) no-pair (pair x y lifted)
+    choose (WithoutMarks forget_pair) (refl {a = eq x plus_zero || eq y plus_zero})
+    none-forgotten (some-forgotten (record { first = x; second = y; lifted = lifted }))
 
 by_magnitude-forgets : (x y : Float) (lifted : Bool)
-    → SameEigenvalues (by_magnitude x y lifted) (before.by_magnitude x y)
+    → WithoutMarks forget_pair (by_magnitude x y lifted) (before.by_magnitude x y)
 unfolding by_magnitude before.by_magnitude
 by_magnitude-forgets x y lifted =
-    choose SameEigenvalues (refl {a = lt (abs x) (abs y)}) (nonzero_pair-forgets y x lifted)
-    (nonzero_pair-forgets x y lifted)
+    choose (WithoutMarks forget_pair) (refl {a = lt (abs x) (abs y)})
+    (nonzero_pair-forgets y x lifted) (nonzero_pair-forgets x y lifted)
 
 module _ (m : Matrix3) where
   eigenvalue_pair-forgets : (square : Float)
-      → Forgets SameEigenvalues (eigenvalue_pair m square) (before.eigenvalue_pair m square)
+      → Forgets (WithoutMarks forget_pair) (eigenvalue_pair m square) (before.eigenvalue_pair m square)
   unfolding eigenvalue_pair before.eigenvalue_pair
   eigenvalue_pair-forgets square =
       ⊝ trace m >>≡ λ trace_coefficient.
       pair_coefficient m square >>≡ λ pair_term.
       quadratic_real_monic-forgets trace_coefficient pair_term >>= λ _ _ roots.
-      with_pair-forgets roots (pure no-pair) (λ x y lifted. pure (by_magnitude-forgets x y lifted))
+      with_some (λ pair. traced.pure (before.by_magnitude pair.first pair.second))
+      (pair_of-forgets roots) (pure none-forgotten) (λ pair.
+      pure (by_magnitude-forgets pair.first pair.second pair.lifted))
 
   -- ---- the system
-  system_of_pair-forgets : (zero : Vector3) (square x y : Float) (lifted : Bool)
-      → Forgets SameSystem
-      (system_of_pair m zero square x y lifted)
-      (before-system.system_of_pair m zero square x y)
+  system_of_pair-forgets : (zero : Vector3) (square : Float) (pair : RootPair)
+      → Forgets (WithoutMarks forget_system)
+      (system_of_pair m zero square pair)
+      (before-system.system_of_pair m zero square (forget_pair pair))
   unfolding system_of_pair before-system.system_of_pair
-  system_of_pair-forgets zero square x y lifted =
+  system_of_pair-forgets zero square pair =
       precompute m square >>≡ λ p.
-      eigenvector_of m p x >>≡ λ first.
-      with_vector-forgets first (pure not_found) (λ column0.
-      eigenvector_of m p y >>≡ λ second.
-      with_vector-forgets second (pure not_found) (λ column1.
-      pure (found (from_columns column0 column1 zero) (vector x y plus_zero) lifted)))
+      eigenvector_of m p pair.first >>≡ λ first.
+      with_same first (pure none-forgotten) (λ column0.
+      eigenvector_of m p pair.second >>≡ λ second.
+      with_same second (pure none-forgotten) (λ column1.
+      pure (some-forgotten (record {
+        vectors = from_columns column0 column1 zero;
+        values = vector pair.first pair.second plus_zero;
+        lifted = pair.lifted;
+      }))))
 
   pub eig_with_known_zero-forgets
-      : Forgets SameSystem (eig_with_known_zero m) (before-system.eig_with_known_zero m)
+      : Forgets (WithoutMarks forget_system)
+      (eig_with_known_zero m)
+      (before-system.eig_with_known_zero m)
   unfolding eig_with_known_zero before-system.eig_with_known_zero
   eig_with_known_zero-forgets =
-      if not (mat_finite m) then pure not_found
+      if not (mat_finite m) then pure none-forgotten
       else (
       zero_vector m >>≡ λ known.
-      with_vector-forgets known (pure not_found) (λ zero.
+      with_same known (pure none-forgotten) (λ zero.
       ! m.m01 ⊗ ! m.m01 >>≡ λ square.
-      eigenvalue_pair-forgets square >>= λ _ _ values.
-      with_eigenvalues-forgets values (pure not_found) (system_of_pair-forgets zero square)))
+      eigenvalue_pair-forgets square >>= λ _ _ pair.
+      with_some (before-system.system_of_pair m zero square) pair (pure none-forgotten)
+      (system_of_pair-forgets zero square)))

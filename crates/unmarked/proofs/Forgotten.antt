@@ -10,35 +10,32 @@ use Rattle.polynomial.specs.PolishedRoot.{polished_cubic_root}
 use Rattle.polynomial.specs.declared.Roots.{Roots}
 use Rattle.polynomial.specs.declared.Roots.TheVariants.{Two, Double, Lifted, One, Refused}
 use Rattle.p3p_common.specs.Input.{input_finite}
-use Rattle.p3p_common.specs.WorldBasisInverse.{with_inverse}
 use Rattle.orderings.specs.Basis.{basis_of}
 use Rattle.p3p_common.specs.declared.solutions.Solutions.{Solutions}
-use Rattle.p3p_common.specs.declared.world_basis_inverse.Basis.{Basis}
-use Rattle.p3p_common.specs.declared.world_basis_inverse.Basis.TheVariants.{Inverse, Singular}
 use Rattle.orderings.specs.Measure.{measure, measured_cubic}
 use Rattle.orderings.specs.Cubic.{is_unusable}
 use Rattle.orderings.specs.Permutation.{best_permutation}
 use Rattle.depths.specs.Matrix.{singular_matrix}
-use Rattle.depths.specs.RatioOf.{with_ratio, ratio_of}
+use Rattle.depths.specs.RatioOf.{ratio_of}
 use Rattle.depths.specs.declared.candidates.Candidates.{Candidates}
-use Rattle.depths.specs.declared.ratio.Ratio.{Ratio}
-use Rattle.depths.specs.declared.ratio.Ratio.TheVariants.{Real, NotReal}
 use Rattle.lambdatwist.specs.Solve.{answered, refused, if_kept, stopped, solve_candidates, solve_root}
 use Rattle.lambdatwist.specs.Solve.{solve_cubic, ordered_or, best_or, solve_ordered, solve}
 use Rattle.lambdatwist.specs.declared.solve.Answer.{Answer}
+use Rattle.unmarked.specs.Signs as before-signs
 use Rattle.unmarked.specs.Solve as before
 use Rattle.unmarked.specs.Types as unmarked
 use Rattle.unmarked.specs.Types.{Matrix3, World, Bearings, P3pInput, Measured, Coefficients}
 use Rattle.unmarked.specs.Forget.{forget, Forgotten}
 use Rattle.unmarked.proofs.Forgets.{Forgets, choose, pure, if◌then◌else◌, ◌>>=◌, ◌>>≡◌}
-use Rattle.unmarked.proofs.Eigensystem.{with_system-forgets, eig_with_known_zero-forgets}
+use Rattle.unmarked.proofs.Forgets.{with_same, with_some}
+use Rattle.unmarked.proofs.Eigensystem.{eig_with_known_zero-forgets}
 use Rattle.unmarked.proofs.Candidates.{SameCandidates, candidates-forgets}
 use Rattle.unmarked.proofs.Poses.{SameSolutions, empty-forgets, poses-forgets}
 
 abbrev Same : Answer → unmarked.Answer → Type 0
 Same a a' = forget a ≡ a'
 
--- ---- what follows a root of the cubic, a ratio and a basis, which have no marks
+-- ---- what follows a root of the cubic, which has no marks
 module _ {none : Traced Answer} {none' : Traced unmarked.Answer} where
   with_root-forgets : (r : Roots) {k : Float → Traced Answer} {k' : Float → Traced unmarked.Answer}
       → Forgets Same none none'
@@ -49,21 +46,6 @@ module _ {none : Traced Answer} {none' : Traced unmarked.Answer} where
   with_root-forgets (Lifted x) none next = none
   with_root-forgets (One x) none next = next x
   with_root-forgets (Refused n) none next = none
-
-  with_ratio-forgets : (r : Ratio) {k : Float → Traced Answer} {k' : Float → Traced unmarked.Answer}
-      → Forgets Same none none'
-      → ((x : Float) → Forgets Same (k x) (k' x))
-      → Forgets Same (with_ratio r none k) (with_ratio r none' k')
-  with_ratio-forgets (Real x) none next = next x
-  with_ratio-forgets NotReal none next = none
-
-  with_inverse-forgets : (basis : Basis) {k : Matrix3 → Traced Answer}
-      {k' : Matrix3 → Traced unmarked.Answer}
-      → Forgets Same none none'
-      → ((m : Matrix3) → Forgets Same (k m) (k' m))
-      → Forgets Same (with_inverse basis none k) (with_inverse basis none' k')
-  with_inverse-forgets (Inverse m) none next = next m
-  with_inverse-forgets Singular none next = none
 
 -- ---- answers
 answered-forgets : (number : ℕ) {s : Solutions} {s' : unmarked.Solutions}
@@ -102,7 +84,7 @@ module _ (input : P3pInput) where
     unfolding solve_candidates before.solve_candidates
     solve_candidates-forgets found =
         basis_of measured.source >>≡ λ basis.
-        with_inverse-forgets basis stops (λ world_inverse.
+        with_same basis stops (λ world_inverse.
         poses-forgets input measured world_inverse found >>= λ _ _ solutions.
         pure (if_kept-forgets solutions))
 
@@ -112,10 +94,16 @@ module _ (input : P3pInput) where
     solve_root-forgets g =
         singular_matrix measured.squares measured.factors g >>≡ λ matrix.
         eig_with_known_zero-forgets matrix >>= λ _ _ system.
-        with_system-forgets system stops (λ eigenvectors eigenvalues lifted.
-        ratio_of eigenvalues.x eigenvalues.y >>≡ λ ratio.
-        with_ratio-forgets ratio stops (λ real.
-        candidates-forgets measured.squares measured.factors eigenvectors real lifted >>=
+        with_some (λ eigen.
+        traced.◌>>=◌ (ratio_of eigen.values.x eigen.values.y) (λ ratio.
+        traced.with_some ratio before.stopped (λ real.
+        traced.◌>>=◌
+        (before-signs.candidates measured.squares measured.factors eigen.vectors real)
+        (before.solve_candidates input measured))))
+        system stops (λ eigen.
+        ratio_of eigen.values.x eigen.values.y >>≡ λ ratio.
+        with_same ratio stops (λ real.
+        candidates-forgets measured.squares measured.factors eigen.vectors real eigen.lifted >>=
         λ _ _ found.
         solve_candidates-forgets found))
 

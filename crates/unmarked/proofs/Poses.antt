@@ -1,6 +1,7 @@
 -- The poses: as many, the same in the same order and after the same updates, where they are marked
 -- and where they are not. Assumes nothing.
-use Rattle.std.proofs.Common.{◌≡◌, ℕ, zero, suc, ◌+◌, Bool, not, ltb, List, [], ◌∷◌, take, set, refl, ap}
+use Rattle.std.proofs.Common.{◌≡◌, ℕ, ◌+◌, Bool, not, ltb, List, [], ◌∷◌, take, set, refl, ap}
+use Rattle.std.proofs.lemmas.List.{take-map}
 use Rattle.linalg.specs.Vectors.{vec_sub, vec_mul}
 use Rattle.linalg.specs.Matrices.{mat_vec}
 use Rattle.refinement.specs.RefineDepths.{refine_depths}
@@ -61,13 +62,6 @@ module _ {s : Solutions} {s' : unmarked.Solutions} (S : SameSolutions s s') wher
       pure (push_gated-forgets gated updates lifted)
 
 -- ---- the turns
-depths-take : (n : ℕ) (slots : List Candidate)
-    → depths_of (take n slots) ≡ take n (depths_of slots)
-depths-take zero slots = refl
-depths-take (suc n) [] = refl
-depths-take (suc n) (c ∷ slots) =
-    ap (λ (r : List Vector3). c.depths ∷ r) (depths-take n slots)
-
 module _ (input : P3pInput) (measured : Measured) (world_inverse : Matrix3) where
   module _ {s : Solutions} {s' : unmarked.Solutions} (S : SameSolutions s s') where
     push_depths-forgets : (refined : Refined) (lifted : Bool)
@@ -117,6 +111,6 @@ module _ (input : P3pInput) (measured : Measured) (world_inverse : Matrix3) wher
       rw (
         ← found.count,
         ← found.depths,
-        ← depths-take c.count c.slots,
+        take-map (λ (x : Candidate). x.depths) c.count c.slots,
       )
       (pose_turns-forgets (take c.count c.slots) empty-forgets)

@@ -9,14 +9,16 @@ use Rattle.ieee754.specs.CopySign.{copysign}
 use Rattle.ieee754.specs.Maximum.{max}
 use Rattle.ieee754.specs.Traced.{Traced, !◌, ⊝◌, √◌, ◌⊗◌, ◌⊘◌, ◌⊕◌}
 use Rattle.ieee754.proofs.Tests.{either_way}
-use Rattle.polynomial.specs.Answer.{pair_of, with_pair}
+use Rattle.polynomial.specs.Answer.{pair_of}
 use Rattle.polynomial.specs.Quadratic.{discriminant_of, band_of, double_root, quadratic_pair}
 use Rattle.polynomial.specs.Quadratic.{quadratic_real_monic_computed, quadratic_real_monic}
 use Rattle.polynomial.specs.declared.Roots.{Roots}
 use Rattle.polynomial.specs.declared.Roots.TheVariants.{Two, Double, Lifted, Refused}
+use Rattle.polynomial.specs.declared.pair.RootPair.{RootPair}
 use Rattle.unmarked.specs.Quadratic as before
 use Rattle.unmarked.specs.Types as unmarked
-use Rattle.unmarked.proofs.Forgets.{Forgets, pure, if◌then◌else◌, ◌>>≡◌}
+use Rattle.unmarked.proofs.Forgets.{Forgets, WithoutMarks, some-forgotten, none-forgotten, pure}
+use Rattle.unmarked.proofs.Forgets.{if◌then◌else◌, ◌>>≡◌}
 
 pub data SameRoots : Roots → unmarked.Roots → Type 0 where
   two : (x y : Float) → SameRoots (Two x y) (unmarked.Two x y)
@@ -24,18 +26,17 @@ pub data SameRoots : Roots → unmarked.Roots → Type 0 where
   lifted : (x : Float) → SameRoots (Lifted x) (unmarked.Two x x)
   refused : (n : ℕ) → SameRoots (Refused n) (unmarked.Refused n)
 
--- what follows the roots, lifted or not
-pub with_pair-forgets : {A B : Type 0} {R : A → B → Type 0} {none : Traced A} {none' : Traced B}
-    {k : Float → Float → Bool → Traced A} {k' : Float → Float → Traced B} {r : Roots}
-    {r' : unmarked.Roots}
+-- the pair, lifted or not
+abbrev pub forget_pair : RootPair → unmarked.RootPair
+forget_pair pair = record { first = pair.first; second = pair.second }
+
+pub pair_of-forgets : {r : Roots} {r' : unmarked.Roots}
     → SameRoots r r'
-    → Forgets R none none'
-    → ((x y : Float) (lifted : Bool) → Forgets R (k x y lifted) (k' x y))
-    → Forgets R (with_pair (pair_of r) none k) (before.with_pair r' none' k')
-with_pair-forgets (two x y) none next = next x y false
-with_pair-forgets (double x) none next = next x x false
-with_pair-forgets (lifted x) none next = next x x true
-with_pair-forgets (refused n) none next = none
+    → WithoutMarks forget_pair (pair_of r) (before.pair_of r')
+pair_of-forgets (two x y) = some-forgotten (record { first = x; second = y; lifted = false })
+pair_of-forgets (double x) = some-forgotten (record { first = x; second = x; lifted = false })
+pair_of-forgets (lifted x) = some-forgotten (record { first = x; second = x; lifted = true })
+pair_of-forgets (refused n) = none-forgotten
 
 double_root-forgets : (root computed : Float)
     → SameRoots (double_root root computed) (unmarked.Two root root)

@@ -5,18 +5,17 @@
 use Rattle.std.specs.Prelude.{ℕ, zero, suc, not, ◌==◌, Float, if◌then◌else◌}
 use Rattle.std.specs.Float.Ieee.{le}
 use Rattle.ieee754.specs.Literal.{sixty_four, epsilon}
-use Rattle.ieee754.specs.Traced.{Traced, pure, ◌>>=◌, ◌⊗◌, ◌⊘◌, !◌}
+use Rattle.ieee754.specs.Traced.{Traced, pure, with_some, ◌>>=◌, ◌⊗◌, ◌⊘◌, !◌}
 use Rattle.polynomial.specs.Answer.{with_root}
 use Rattle.polynomial.specs.PolishedRoot.{polished_cubic_root}
 use Rattle.p3p_common.specs.Input.{input_finite}
-use Rattle.p3p_common.specs.WorldBasisInverse.{with_inverse}
 use Rattle.orderings.specs.Basis.{basis_of}
 use Rattle.orderings.specs.Measure.{measure, measured_cubic}
 use Rattle.orderings.specs.Cubic.{is_unusable}
 use Rattle.depths.specs.Matrix.{singular_matrix}
-use Rattle.depths.specs.RatioOf.{with_ratio, ratio_of}
+use Rattle.depths.specs.RatioOf.{ratio_of}
 use Rattle.orderings.specs.Permutation.{best_permutation}
-use Rattle.unmarked.specs.KnownZero.{with_system, eig_with_known_zero}
+use Rattle.unmarked.specs.KnownZero.{eig_with_known_zero}
 use Rattle.unmarked.specs.Signs.{candidates}
 use Rattle.unmarked.specs.Slots.{empty}
 use Rattle.unmarked.specs.Poses.{poses}
@@ -51,7 +50,7 @@ stopped = pure (refused 3)
 unfoldable pub solve_candidates : P3pInput → Measured → Candidates → Traced Answer
 solve_candidates input measured found = do
   basis ← basis_of measured.source
-  with_inverse basis stopped (λ world_inverse. do
+  with_some basis stopped (λ world_inverse. do
     solutions ← poses input measured world_inverse found
     pure (if_kept solutions))
 
@@ -60,10 +59,10 @@ unfoldable pub solve_root : P3pInput → Measured → Float → Traced Answer
 solve_root input measured g = do
   matrix ← singular_matrix measured.squares measured.factors g
   system ← eig_with_known_zero matrix
-  with_system system stopped (λ eigenvectors eigenvalues. do
-    ratio ← ratio_of eigenvalues.x eigenvalues.y
-    with_ratio ratio stopped (λ real. do
-      found ← candidates measured.squares measured.factors eigenvectors real
+  with_some system stopped (λ eigen. do
+    ratio ← ratio_of eigen.values.x eigen.values.y
+    with_some ratio stopped (λ real. do
+      found ← candidates measured.squares measured.factors eigen.vectors real
       solve_candidates input measured found))
 
 -- let Some(g) = polished_cubic_root(cubic2 / cubic3, cubic1 / cubic3, cubic0 / cubic3) else { .. }
