@@ -9,7 +9,7 @@ use lib.Dec.{T}
 use lib.ListN.{get_or}
 use lib.Ieee.{of_bits}
 use Rattle.ieee754_parts.proofs.Tests.{lt-or-ge}
-use Rattle.linalg.specs.Vectors.{all_finite}
+use Rattle.linalg.specs.Vectors.{zeros, all_finite}
 use Rattle.frames.specs.Poses.{zero_pose}
 use Rattle.p3p_common.specs.PoseSlots as slots
 use Rattle.p3p_common.proofs.SlotLaws.{none_filled}
@@ -22,9 +22,9 @@ use Rattle.theorems.proofs.OneAnswer.{one_answer}
 abbrev pub FiniteTranslations : List Pose → Type 0
 FiniteTranslations l = (i : ℕ) → T (all_finite (get_or l i zero_pose).translation)
 
-zero_pose-finite : T (all_finite zero_pose.translation)
+pub zeros-finite : T (all_finite zeros)
 unfolding all_finite of_bits
-zero_pose-finite = tt
+zeros-finite = tt
 
 filled-finite : (n : ℕ) (l : List Pose)
     → slots.Filled slots.FinitePose zero_pose n l
@@ -32,7 +32,7 @@ filled-finite : (n : ℕ) (l : List Pose)
 filled-finite n l s i =
     ⊎_elim (λ below. (s.held i below).translation)
     (λ beyond.
-    subst⁻¹ (λ (p : Pose). T (all_finite p.translation)) (s.rest i beyond) zero_pose-finite)
+    subst⁻¹ (λ (p : Pose). T (all_finite p.translation)) (s.rest i beyond) zeros-finite)
     (lt-or-ge i n)
 
 refused-finite : {n : ℕ} {a : Answer} → Refused n a → FiniteTranslations a.poses

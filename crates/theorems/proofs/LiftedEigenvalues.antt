@@ -4,31 +4,31 @@ use mathlib.Core.Path.{◌≡◌, refl}
 use mathlib.Core.Bool.{Bool}
 use lib.Dec.{T}
 use lib.Ieee.{Float}
-use Rattle.ieee754.specs.Traced.{Traced, ◌>>=◌}
-use Rattle.eigen.specs.KnownZero.{with_system, eig_with_known_zero}
+use Rattle.ieee754.specs.Traced.{Traced, with_some, ◌>>=◌}
+use Rattle.eigen.specs.KnownZero.{eig_with_known_zero}
 use Rattle.eigen.proofs.EqualEigenvalues.{EqualValues, lifted-equal}
 use Rattle.depths.specs.Matrix.{singular_matrix}
-use Rattle.depths.specs.RatioOf.{with_ratio, ratio_of}
+use Rattle.depths.specs.RatioOf.{ratio_of}
 use Rattle.depths.specs.Signs.{candidates}
 use Rattle.depths.proofs.EqualRatio.{equal-not-real}
 use Rattle.lambdatwist.specs.Solve.{refused, stopped, solve_candidates, solve_root}
 use Rattle.theorems.specs.LiftedEigenvalues.{is_lifted, eigenvalues_lifted, LiftedStops}
-use Rattle.theorems.specs.Types.{Vector3, Matrix3, P3pInput, Measured, Eigensystem, Found}
-use Rattle.theorems.specs.Types.{NotFound, Answer}
+use Rattle.theorems.specs.Types.{Matrix3, Eigensystem, Answer, Option, Some, None}
 
 -- whatever is made of a real ratio
-after-system : (s : Eigensystem) (after : Matrix3 → Bool → Float → Traced Answer)
-    → EqualValues s
-    → T (is_lifted s)
-    → (with_system s stopped (λ (e : Matrix3) (v : Vector3) (lifted : Bool).
-    ratio_of v.x v.y >>= λ ratio. with_ratio ratio stopped (after e lifted))).value
+after-system : (o : Option Eigensystem) (after : Matrix3 → Bool → Float → Traced Answer)
+    → EqualValues o
+    → T (is_lifted o)
+    → (with_some o stopped (λ (s : Eigensystem).
+    ratio_of s.values.x s.values.y >>= λ ratio.
+    with_some ratio stopped (after s.vectors s.lifted))).value
     ≡ refused 3
-after-system (Found e v lifted) after equal is-lifted =
+after-system (Some s) after equal is-lifted =
     rw (
       equal is-lifted,
-      equal-not-real v.y,
+      equal-not-real s.values.y,
     )
-after-system NotFound after equal is-lifted = refl
+after-system None after equal is-lifted = refl
 
 pub lifted-stops : LiftedStops
 unfolding LiftedStops eigenvalues_lifted solve_root

@@ -10,16 +10,15 @@ use mir.Facts.{T_not-not}
 use lib.Ieee.{Float, binary64, mul, le}
 use lib.Ieee.Fits.{and_i, eq→eqb}
 use Rattle.ieee754.specs.Literal.{sixty_four, epsilon}
-use Rattle.ieee754.specs.Traced.{Traced, pure, ◌>>=◌, ◌⊘◌, !◌}
+use Rattle.ieee754.specs.Traced.{Traced, pure, with_some, ◌>>=◌, ◌⊘◌, !◌}
 use Rattle.ieee754.proofs.Tests.{or_left, or_right, neither, not-both-left, not-both-right}
 use Rattle.ieee754.proofs.Tests.{either_way}
 use Rattle.polynomial.specs.declared.Roots.TheVariants as roots
 use Rattle.polynomial.specs.Answer.{with_root}
 use Rattle.polynomial.specs.PolishedRoot.{polished_cubic_root}
 use Rattle.p3p_common.specs.Input.{input_finite}
-use Rattle.p3p_common.specs.WorldBasisInverse.{with_inverse}
-use Rattle.eigen.specs.KnownZero.{with_system, eig_with_known_zero}
-use Rattle.depths.specs.RatioOf.{with_ratio, ratio_of}
+use Rattle.eigen.specs.KnownZero.{eig_with_known_zero}
+use Rattle.depths.specs.RatioOf.{ratio_of}
 use Rattle.depths.specs.Matrix.{singular_matrix}
 use Rattle.depths.specs.Signs.{candidates}
 use Rattle.lambdatwist.specs.Poses.{poses}
@@ -32,10 +31,8 @@ use Rattle.lambdatwist.specs.Solve.{solve_cubic, ordered_or, best_or, solve_orde
 use Rattle.theorems.specs.OneAnswer.{Accepted, Refused, ordering_unusable, no_ordering}
 use Rattle.theorems.specs.OneAnswer.{NamedAnswer, refused-1, refused-2, refused-3, accepted}
 use Rattle.theorems.specs.OneAnswer.{OneAnswer}
-use Rattle.theorems.specs.Types.{Vector3, Matrix3, Roots, World, Bearings, P3pInput, Basis}
-use Rattle.theorems.specs.Types.{Inverse, Singular, Solutions, Eigensystem, Found, NotFound}
-use Rattle.theorems.specs.Types.{Ratio, Real, NotReal, Coefficients, Candidates, Answer}
-use Rattle.theorems.specs.Types.{Measured}
+use Rattle.theorems.specs.Types.{Matrix3, Roots, World, Bearings, P3pInput, Solutions, Eigensystem}
+use Rattle.theorems.specs.Types.{Coefficients, Candidates, Answer, Measured, Option, Some, None}
 use Rattle.lambdatwist.proofs.KeptPoses.{poses-kept}
 
 -- ---- the two kinds of answer
@@ -76,29 +73,17 @@ module _ (P : Answer → Type 0) (three : P (refused 3))
   with_root-gives (roots.Lifted x) f h = three
   with_root-gives (roots.Refused n) f h = three
 
-  with_system-gives : (s : Eigensystem) (f : Matrix3 → Vector3 → Bool → Traced Answer)
-      → ((m : Matrix3) (v : Vector3) (lifted : Bool) → Gives (f m v lifted))
-      → Gives (with_system s stopped f)
-  with_system-gives (Found m v lifted) f h = h m v lifted
-  with_system-gives NotFound f h = three
-
-  with_ratio-gives : (r : Ratio) (f : Float → Traced Answer)
-      → ((x : Float) → Gives (f x))
-      → Gives (with_ratio r stopped f)
-  with_ratio-gives (Real x) f h = h x
-  with_ratio-gives NotReal f h = three
-
-  with_inverse-gives : (basis : Basis) (f : Matrix3 → Traced Answer)
-      → ((m : Matrix3) → Gives (f m))
-      → Gives (with_inverse basis stopped f)
-  with_inverse-gives (Inverse m) f h = h m
-  with_inverse-gives Singular f h = three
+  with_some-gives : {A : Type 0} (o : Option A) (f : A → Traced Answer)
+      → ((x : A) → Gives (f x))
+      → Gives (with_some o stopped f)
+  with_some-gives (Some x) f h = h x
+  with_some-gives None f h = three
 
   module _ (input : P3pInput) (measured : Measured) where
     solve_candidates-gives : (c : Candidates) → Gives (solve_candidates input measured c)
     unfolding solve_candidates
     solve_candidates-gives c =
-        with_inverse-gives (basis_of measured.source).value
+        with_some-gives (basis_of measured.source).value
         (λ (m : Matrix3). poses input measured m c >>= λ solutions. pure (if_kept solutions))
         (λ m. if_kept-so P three found _ (poses-kept input measured m c))
 
@@ -110,11 +95,12 @@ module _ (P : Answer → Type 0) (three : P (refused 3))
         = λ e lifted x.
         candidates measured.squares measured.factors e x lifted >>= λ found.
         solve_candidates input measured found in
-        with_system-gives (eig_with_known_zero matrix).value
-        (λ (e : Matrix3) (v : Vector3) (lifted : Bool).
-        ratio_of v.x v.y >>= λ ratio. with_ratio ratio stopped (after e lifted))
-        (λ e v lifted.
-        with_ratio-gives (ratio_of v.x v.y).value (after e lifted)
+        with_some-gives (eig_with_known_zero matrix).value
+        (λ (s : Eigensystem).
+        ratio_of s.values.x s.values.y >>= λ ratio.
+        with_some ratio stopped (after s.vectors s.lifted))
+        (λ s.
+        with_some-gives (ratio_of s.values.x s.values.y).value (after s.vectors s.lifted)
         (λ x. solve_candidates-gives _))
 
     solve_cubic-gives : (c : Coefficients) → Gives (solve_cubic input measured c)

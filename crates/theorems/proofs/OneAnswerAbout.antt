@@ -5,7 +5,6 @@
 use mathlib.Core.Path.{◌≡◌, refl, ap, subst⁻¹, ◌∙◌}
 use Prim.Native.Nat.{ℕ, suc}
 use lib.Dec.{T, T_not, not_T}
-use lib.Ieee.{of_bits}
 use lib.Ieee.Fits.{and_i, and_l, and_r}
 use Rattle.ieee754.proofs.Tests.{three}
 use Rattle.linalg.specs.Vectors.{zeros, all_finite}
@@ -22,7 +21,7 @@ use Rattle.theorems.specs.OneAnswerAbout.{about_first, differences_finite, OneAn
 use Rattle.theorems.specs.OneAnswerAbout.{refused-1, refused-2, refused-3, accepted}
 use Rattle.theorems.specs.Types.{Vector3, World, Bearings, P3pInput, Answer, AnswerAbout}
 use Rattle.theorems.proofs.OneAnswer.{one_answer}
-use Rattle.theorems.proofs.FiniteTranslation.{FiniteTranslations, solve-finite}
+use Rattle.theorems.proofs.FiniteTranslation.{FiniteTranslations, zeros-finite, solve-finite}
 
 module _ (world : World) (bearings : Bearings) where
   abbrev given : P3pInput
@@ -76,10 +75,6 @@ module _ (world : World) (bearings : Bearings) where
       ap (λ (a : AnswerAbout). a.answer) (about-solves world bearings)
       ∙ origin-keeps world.p0 (solve moved bearings).value in
       subst⁻¹ (λ (a : Answer). FiniteTranslations a.poses) answer (solve-finite moved bearings)
-
-  zeros-finite : T (all_finite zeros)
-  unfolding all_finite of_bits
-  zeros-finite = tt
 
   first-finite : T (differences_finite given) → T (all_finite world.p0)
   unfolding differences_finite world_finite

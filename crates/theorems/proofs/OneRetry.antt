@@ -7,6 +7,7 @@ use mathlib.Core.Bool.{Bool, true, false}
 use lib.Ieee.{binary64, mul, le}
 use Rattle.ieee754.specs.Literal.{sixty_four, epsilon}
 use Rattle.ieee754.specs.Traced.{Traced, pure}
+use Rattle.ieee754_laws.proofs.Degrees.{choose}
 use Rattle.orderings.specs.Measure.{measure, measured_cubic}
 use Rattle.orderings.specs.Cubic.{is_unusable}
 use Rattle.orderings.specs.Permutation.{best_permutation}
@@ -15,13 +16,6 @@ use Rattle.theorems.specs.Types.{World, Bearings, P3pInput, Measured, Coefficien
 
 abbrev Same : Traced Answer → Traced Answer → Type 0
 Same a b = a.value ≡ b.value
-
--- two retries of one value, asked for where an ordering is unusable
-retried-alike : (unusable : Bool) (a b goes_on : Traced Answer)
-    → Same a b
-    → Same (if unusable then a else goes_on) (if unusable then b else goes_on)
-retried-alike true a b goes_on h = h
-retried-alike false a b goes_on h = refl
 
 -- The best ordering with a retry left is the best ordering with none: where it is unusable, the
 -- retry answers what it would have answered itself.
@@ -57,7 +51,5 @@ module _ (input : P3pInput) where
   one-retry n world bearings =
       let measured : Measured = (measure world bearings).value in
       let cubic : Coefficients = (measured_cubic measured).value in
-      retried-alike (is_unusable cubic).value
-      (best_or (solve_ordered n) input) (best_or (solve_ordered 0) input)
-      (solve_cubic input measured cubic)
-      (retries-alike n)
+      choose Same (refl {a = (is_unusable cubic).value}) (retries-alike n)
+      (refl {a = (solve_cubic input measured cubic).value})

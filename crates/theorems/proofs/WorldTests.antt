@@ -1,13 +1,14 @@
 -- What the scaling rule asks of two worlds' coordinates, by tests that compute: that they are
 -- doubles (`double-world`), and that the second's are 2 ^ k times the first's (`times-world`).
 -- Assumes nothing.
-use mathlib.Core.Path.{◌≡◌, refl}
-use mathlib.Core.Bool.{Bool, true, false, ◌&&◌, beq}
+use mathlib.Core.Bool.{Bool, false, ◌&&◌, beq}
 use Prim.Native.Nat.{◌*◌}
 use lib.IntN.{ℤ}
 use lib.Dec.{T, eqb, eqb→eq}
 use lib.Ieee.{Float, nan, inf, fin, binary64, fits, up, down}
 use lib.Ieee.Fits.{and_l, and_r}
+use denote.Floats.{is_true}
+use Rattle.std.specs.Cmp.{booleans_Decides}
 use Rattle.ieee754.proofs.Tests.{three}
 use Rattle.linalg.specs.Doubles.{Doubles}
 use Rattle.theorems.specs.ScalingRule.{Times, TimesVector, TimesWorld, DoubleWorld}
@@ -53,17 +54,14 @@ module _ (k : ℤ) where
       is_times_vector w.p0 w'.p0 && is_times_vector w.p1 w'.p1
       && is_times_vector w.p2 w'.p2
 
-  same_sign : (s t : Bool) → T (beq s t) → s ≡ t
-  same_sign true true h = refl
-  same_sign true false h = absurd h
-  same_sign false true h = absurd h
-  same_sign false false h = refl
-
   times : (x y : Float) → T (is_times x y) → Times k x y
   times (fin s m e) (fin t n d) h =
       let sign = beq s t in
       let value = eqb (n * up d * (down e * down k)) (m * up e * (down d * up k)) in
-      (same_sign s t (and_l sign value h), eqb→eq _ _ (and_r sign value h))
+      (
+        (booleans_Decides s t).0 (is_true sign (and_l sign value h)),
+        eqb→eq _ _ (and_r sign value h),
+      )
   times (fin s m e) (inf t) h = h
   times (fin s m e) nan h = h
   times (inf s) y h = h

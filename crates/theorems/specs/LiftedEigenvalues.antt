@@ -4,11 +4,11 @@ use Rattle.std.specs.Prelude.{◌≡◌, Bool, false, T, Float}
 use Rattle.eigen.specs.KnownZero.{eig_with_known_zero}
 use Rattle.depths.specs.Matrix.{singular_matrix}
 use Rattle.lambdatwist.specs.Solve.{refused, solve_root}
-use Rattle.theorems.specs.Types.{P3pInput, Measured, Eigensystem, Found, NotFound}
+use Rattle.theorems.specs.Types.{P3pInput, Measured, Eigensystem, Option, Some, None}
 
-abbrev pub is_lifted : Eigensystem → Bool
-is_lifted (Found eigenvectors eigenvalues lifted) = lifted
-is_lifted NotFound = false
+abbrev pub is_lifted : Option Eigensystem → Bool
+is_lifted (Some system) = system.lifted
+is_lifted None = false
 
 -- at a root g of the cubic: the pair of eigenvalues of the singular matrix was lifted
 unfoldable pub eigenvalues_lifted : Measured → Float → Bool
