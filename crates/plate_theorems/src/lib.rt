@@ -1,3 +1,2 @@
-// Theorems about plates (document 02, §4). There is no code here: specs/ states them, proofs/
-// proves them.
+//! Theorems about plates: specs/ states them, proofs/ proves them. There is no code here.
 #![tactic(auto)]
