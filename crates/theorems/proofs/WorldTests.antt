@@ -57,8 +57,7 @@ module _ (k : ℤ) where
   times : (x y : Float) → T (is_times x y) → Times k x y
   times (fin s m e) (fin t n d) h =
       let sign = beq s t in
-      let value = eqb (n * up d * (down e * down k)) (m * up e * (down d * up k)) in
-      (
+      let value = eqb (n * up d * (down e * down k)) (m * up e * (down d * up k)) in (
         (booleans_Decides s t).0 (is_true sign (and_l sign value h)),
         eqb→eq _ _ (and_r sign value h),
       )

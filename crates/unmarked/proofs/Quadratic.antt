@@ -1,13 +1,13 @@
 -- The quadratic gives the same two roots in the same order, or the same refusal, where its pair is
 -- told apart and where it is not. Assumes nothing.
-use Rattle.std.proofs.Common.{ℕ, Bool, true, false, not, ◌||◌}
+use Rattle.std.proofs.Common.{ℕ, true, false, not, ◌||◌}
 use lib.Ieee.{Float, neg, lt, eq}
 use lib.Ieee.Scale.{finite}
 use Rattle.ieee754.specs.Literal.{plus_zero, half}
 use Rattle.ieee754.specs.Magnitude.{abs}
 use Rattle.ieee754.specs.CopySign.{copysign}
 use Rattle.ieee754.specs.Maximum.{max}
-use Rattle.ieee754.specs.Traced.{Traced, !◌, ⊝◌, √◌, ◌⊗◌, ◌⊘◌, ◌⊕◌}
+use Rattle.ieee754.specs.Traced.{!◌, ⊝◌, √◌, ◌⊗◌, ◌⊘◌, ◌⊕◌}
 use Rattle.ieee754.proofs.Tests.{either_way}
 use Rattle.polynomial.specs.Answer.{pair_of}
 use Rattle.polynomial.specs.Quadratic.{discriminant_of, band_of, double_root, quadratic_pair}
