@@ -26,19 +26,21 @@ abbrev pub forget_system : Eigensystem → unmarked.Eigensystem
 forget_system system = record { vectors = system.vectors; values = system.values }
 
 -- ---- the eigenvalues
-nonzero_pair-forgets : (x y : Float) (lifted : Bool)
-    → WithoutMarks forget_pair (nonzero_pair x y lifted) (before.nonzero_pair x y)
+nonzero_pair-forgets : (pair : RootPair)
+    → WithoutMarks forget_pair (nonzero_pair pair) (before.nonzero_pair (forget_pair pair))
 unfolding nonzero_pair before.nonzero_pair
-nonzero_pair-forgets x y lifted =
-    choose (WithoutMarks forget_pair) (refl {a = eq x plus_zero || eq y plus_zero})
-    none-forgotten (some-forgotten (record { first = x; second = y; lifted = lifted }))
+nonzero_pair-forgets pair =
+    choose (WithoutMarks forget_pair) (refl {a = eq pair.first plus_zero || eq pair.second plus_zero})
+    none-forgotten (some-forgotten pair)
 
-by_magnitude-forgets : (x y : Float) (lifted : Bool)
-    → WithoutMarks forget_pair (by_magnitude x y lifted) (before.by_magnitude x y)
+by_magnitude-forgets : (pair : RootPair)
+    → WithoutMarks forget_pair (by_magnitude pair) (before.by_magnitude (forget_pair pair))
 unfolding by_magnitude before.by_magnitude
-by_magnitude-forgets x y lifted =
-    choose (WithoutMarks forget_pair) (refl {a = lt (abs x) (abs y)})
-    (nonzero_pair-forgets y x lifted) (nonzero_pair-forgets x y lifted)
+by_magnitude-forgets pair =
+    choose (WithoutMarks forget_pair) (refl {a = lt (abs pair.first) (abs pair.second)})
+    (nonzero_pair-forgets
+    (record { first = pair.second; second = pair.first; lifted = pair.lifted }))
+    (nonzero_pair-forgets pair)
 
 module _ (m : Matrix3) where
   eigenvalue_pair-forgets : (square : Float)
@@ -48,9 +50,8 @@ module _ (m : Matrix3) where
       ⊝ trace m >>≡ λ trace_coefficient.
       pair_coefficient m square >>≡ λ pair_term.
       quadratic_real_monic-forgets trace_coefficient pair_term >>= λ _ _ roots.
-      with_some (λ pair. traced.pure (before.by_magnitude pair.first pair.second))
-      (pair_of-forgets roots) (pure none-forgotten) (λ pair.
-      pure (by_magnitude-forgets pair.first pair.second pair.lifted))
+      with_some (λ pair. traced.pure (before.by_magnitude pair)) (pair_of-forgets roots)
+      (pure none-forgotten) (λ pair. pure (by_magnitude-forgets pair))
 
   -- ---- the system
   system_of_pair-forgets : (zero : Vector3) (square : Float) (pair : RootPair)

@@ -12,17 +12,17 @@ use Rattle.unmarked.specs.Quadratic.{pair_of, quadratic_real_monic}
 use Rattle.unmarked.specs.Types.{Matrix3, RootPair, Option, Some, None}
 
 -- if first_value == 0.0 || second_value == 0.0 { return None; }
-unfoldable pub nonzero_pair : Float → Float → Option RootPair
-nonzero_pair first_value second_value =
-    if eq first_value plus_zero || eq second_value plus_zero then None
-    else Some (record { first = first_value; second = second_value })
+unfoldable pub nonzero_pair : RootPair → Option RootPair
+nonzero_pair pair =
+    if eq pair.first plus_zero || eq pair.second plus_zero then None else Some pair
 
 -- if first_value.abs() < second_value.abs() {
 --     std::mem::swap(&mut first_value, &mut second_value); }
-unfoldable pub by_magnitude : Float → Float → Option RootPair
-by_magnitude first_value second_value =
-    if lt (abs first_value) (abs second_value) then nonzero_pair second_value first_value
-    else nonzero_pair first_value second_value
+unfoldable pub by_magnitude : RootPair → Option RootPair
+by_magnitude pair =
+    if lt (abs pair.first) (abs pair.second) then
+    nonzero_pair (record { first = pair.second; second = pair.first })
+    else nonzero_pair pair
 
 unfoldable pub eigenvalue_pair : Matrix3 → Float → Traced (Option RootPair)
 eigenvalue_pair m off_diagonal_squared = do
@@ -30,4 +30,4 @@ eigenvalue_pair m off_diagonal_squared = do
   trace_coefficient ← ⊝ trace m
   pair_term ← pair_coefficient m off_diagonal_squared
   roots ← quadratic_real_monic trace_coefficient pair_term
-  with_some (pair_of roots) (pure None) (λ pair. pure (by_magnitude pair.first pair.second))
+  with_some (pair_of roots) (pure None) (λ pair. pure (by_magnitude pair))

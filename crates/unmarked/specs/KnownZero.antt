@@ -19,12 +19,11 @@ system_of_pair m zero off_diagonal_squared pair = do
   first ← eigenvector_of m p pair.first
   with_some first (pure None) (λ column0. do
     second ← eigenvector_of m p pair.second
-    with_some second (pure None) (λ column1. do
-      let eigenvalues : Vector3 = vector pair.first pair.second plus_zero
-      pure (Some (record {
-        vectors = from_columns column0 column1 zero;
-        values = eigenvalues;
-      }))))
+    with_some second (pure None) (λ column1.
+        pure (Some (record {
+          vectors = from_columns column0 column1 zero;
+          values = vector pair.first pair.second plus_zero;
+        }))))
 
 unfoldable pub eig_with_known_zero : Matrix3 → Traced (Option Eigensystem)
 eig_with_known_zero m =
