@@ -34,7 +34,7 @@ module _ (plate : Plate) (bearings : Bearings) where
       let edges = plate.edges in
       let best = (best_ordering edges bearings).value in
       let low : Bool = le best.condition (mul binary64 sixty_four epsilon) in
-      let other = measure_ordering input edges best.i best.j best.k in
+      let other = measure_ordering input edges best.order in
       orderings-one (input_finite input) (unusable (measure_plate plate bearings).value) low
       (unusable other.value) (solve_best_ordering input edges)
       (other >>= solve_measured (pure (refused 2)) input) input _ _ finite refl

@@ -34,7 +34,7 @@ no_ordering plate bearings =
     unusable (measure_plate plate bearings).value
     && (le best.condition (mul binary64 sixty_four epsilon)
     || unusable
-    (measure_ordering (given plate bearings) edges best.i best.j best.k).value)
+    (measure_ordering (given plate bearings) edges best.order).value)
 
 -- question 1 is of the points and the bearings, and not of the stored numbers
 abbrev pub OneAnswerPlate : Plate → Bearings → Answer → Type 0
