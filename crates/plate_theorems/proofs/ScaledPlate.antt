@@ -1,21 +1,18 @@
 -- A plate multiplied by 2 ^ k is solved as the scaling rule says, as specs/ScaledPlate.antt states
 -- it: its points are exactly 2 ^ k times the old ones, and doubles. Assumes nothing.
-use mathlib.Core.Path.{refl, sym, ap, ◌∙◌, subst, subst⁻¹}
+use mathlib.Core.Path.{refl, ap, ◌∙◌, subst⁻¹}
 use lib.IntN.{ℤ}
 use lib.Dec.{T}
-use lib.Ieee.{Float, nan, inf, fin, binary64, fits}
+use lib.Ieee.{Float, nan, inf, fin}
 use lib.Ieee.Scale.{finite}
 use Rattle.scaleb.specs.Scalable.{scalable}
 use Rattle.scaleb.proofs.TimesLaws.{scale-fits}
 use Rattle.linalg.specs.Doubles.{Doubles}
 use Rattle.linalg.specs.declared.vector3.Vector3.{Vector3}
 use Rattle.frames.specs.declared.world.World.{World}
-use Rattle.frames.specs.declared.bearings.Bearings.{Bearings}
 use Rattle.lambdatwist.specs.declared.solve.Answer.{Answer}
 use Rattle.lambdatwist.specs.Solve.{solve}
-use Rattle.plates.specs.declared.plate.Plate.{Plate}
 use Rattle.plates.specs.declared.outcome.Outcome.{Outcome}
-use Rattle.plates.specs.Plate.{plate_of}
 use Rattle.plates.specs.Outcome.{done}
 use Rattle.plates.specs.TimesPower.{point_scalable, world_scalable, scaled_point, scaled_world}
 use Rattle.plates.specs.TimesPower.{times_power}

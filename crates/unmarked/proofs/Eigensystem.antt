@@ -1,6 +1,6 @@
 -- The eigensystem is the same where its eigenvalues are marked and where they are not. Assumes
 -- nothing.
-use Rattle.std.proofs.Common.{Bool, not, ◌||◌, refl}
+use Rattle.std.proofs.Common.{not, ◌||◌, refl}
 use lib.Ieee.{Float, lt, eq}
 use Rattle.ieee754.specs.Literal.{plus_zero}
 use Rattle.ieee754.specs.Magnitude.{abs}

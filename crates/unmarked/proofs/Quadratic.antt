@@ -7,7 +7,7 @@ use Rattle.ieee754.specs.Literal.{plus_zero, half}
 use Rattle.ieee754.specs.Magnitude.{abs}
 use Rattle.ieee754.specs.CopySign.{copysign}
 use Rattle.ieee754.specs.Maximum.{max}
-use Rattle.ieee754.specs.Traced.{!◌, ⊝◌, √◌, ◌⊗◌, ◌⊘◌, ◌⊕◌}
+use Rattle.ieee754.specs.Traced.{⊝◌, √◌, !◌, ◌⊗◌, ◌⊘◌, ◌⊕◌}
 use Rattle.ieee754.proofs.Tests.{either_way}
 use Rattle.polynomial.specs.Answer.{pair_of}
 use Rattle.polynomial.specs.Quadratic.{discriminant_of, band_of, double_root, quadratic_pair}
