@@ -1,4 +1,2 @@
--- The definitions that the contracts of this crate cite, in reading order.
-pub mod Types
-pub mod SubjectRecords
+-- The definitions that the contracts of this crate cite.
 pub mod Reading

@@ -4,8 +4,8 @@
 use Rattle.std.specs.Prelude.{ℕ, ◌+◌, ◌*◌, Bool, List}
 use Rattle.about.specs.ChooseAbout.{choose_about}
 use Rattle.replay_words.specs.Words.{word_at}
-use Rattle.replay_records.specs.Contents.{narrow, vector_at}
-use Rattle.replay_pieces.specs.ChoiceRecords.{choice_agrees, poses_at}
+use Rattle.replay_records.specs.Contents.{narrow, vector_at, poses_at}
+use Rattle.replay_pieces.specs.ChoiceRecords.{choice_agrees}
 
 unfoldable pub choose_about_holds : List ℕ → Bool
 choose_about_holds s =

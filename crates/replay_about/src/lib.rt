@@ -1,5 +1,5 @@
-// Whether stored answers are those of the solve about the first target and of the choice that goes
-// with it.
+//! Whether stored answers are those of the solve about the first target and of the choice that goes
+//! with it.
 #![tactic(auto)]
 
 pub mod chosen_about;

@@ -12,7 +12,8 @@ use Rattle.preview.specs.Preview.{preview}
 use Rattle.replay_words.specs.Words.{word_at}
 use Rattle.replay_records.specs.Contents.{narrow, vector_at, world_at, bearings_at}
 use Rattle.replay_stages.specs.AnswerRecords.{answer_agrees}
-use Rattle.replay_plates.specs.PlateContents.{plate_at, squares_agree, outcome_agrees}
+use Rattle.replay_records.specs.Agreement.{squares_agree}
+use Rattle.replay_plates.specs.PlateContents.{plate_at, outcome_agrees}
 use Rattle.replay_plates.specs.Exponents.{is_exponent, exponent}
 use Rattle.replay_plates.specs.Types.{Shown, Handling, Make, Replace, Exchange, Scale}
 use Rattle.replay_plates.specs.Types.{Solve, Preview}

@@ -4,9 +4,9 @@
 use Rattle.std.specs.Prelude.{ℕ, ◌+◌, Bool, not, ◌&&◌, List, eqb}
 use Rattle.replay_words.specs.Words.{word_at}
 use Rattle.replay_records.specs.Contents.{world_at, squares_at, matrix_at}
-use Rattle.replay_records.specs.Agreement.{number_agrees, flag, double_agrees, vector_agrees}
-use Rattle.replay_records.specs.Agreement.{matrix_agrees}
-use Rattle.replay_plates.specs.Types.{World, SquaredEdges, Plate, Outcome}
+use Rattle.replay_records.specs.Agreement.{number_agrees, flag, matrix_agrees, world_agrees}
+use Rattle.replay_records.specs.Agreement.{squares_agree}
+use Rattle.replay_plates.specs.Types.{Plate, Outcome}
 
 -- the plate that a record begins with: any number but 0 says that there is an inverse
 unfoldable pub plate_at : List ℕ → Plate
@@ -16,18 +16,6 @@ plate_at s = record {
   invertible = not (eqb (word_at s 168) 0);
   inverse = matrix_at s 96;
 }
-
-unfoldable pub world_agrees : World → List ℕ → ℕ → Bool
-world_agrees world s at =
-    vector_agrees world.p0 s at
-    && vector_agrees world.p1 s (at + 24)
-    && vector_agrees world.p2 s (at + 48)
-
-unfoldable pub squares_agree : SquaredEdges → List ℕ → ℕ → Bool
-squares_agree edges s at =
-    double_agrees edges.a01 s at
-    && double_agrees edges.a02 s (at + 8)
-    && double_agrees edges.a12 s (at + 16)
 
 unfoldable pub plate_agrees : Plate → List ℕ → ℕ → Bool
 plate_agrees plate s at =

@@ -1,7 +1,5 @@
 -- The structs and enums that definitions of this crate name: those of its src/, and those of the
 -- crates below.
-pub use Rattle.frames.specs.declared.squared_edges.SquaredEdges.{SquaredEdges}
-pub use Rattle.frames.specs.declared.world.World.{World}
 pub use Rattle.plates.specs.declared.plate.Plate.{Plate}
 pub use Rattle.plates.specs.declared.outcome.Outcome.{Outcome}
 pub use Rattle.preview.specs.declared.preview.Shown.{Shown}

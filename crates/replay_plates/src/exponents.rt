@@ -1,21 +1,12 @@
-// The exponent of a power of two in a word: a number of 32 bits, in two's complement of 64.
-ghost use Rattle.std.specs.Prelude.{◌≡◌, T};
+//! The exponent of a power of two in a word: a number of 32 bits, in two's complement of 64.
+ghost use Rattle.std.specs.Prelude.{◌≡◌, is_some, IfSome};
 ghost use Rattle.replay_plates.specs.Exponents as Exponents;
 
-// Whether a word is such a number.
-pub(crate) fn is_exponent(w: u64) -> bool
-    ensures { result ≡ Exponents.is_exponent w }
+// The number, where the word is one of 32 bits.
+#[tactic(auto, unfolding(crate::specs::Exponents::is_exponent, crate::specs::Exponents::exponent))]
+pub(crate) fn exponent(w: u64) -> Option<i32>
+    ensures some { is_some result ≡ Exponents.is_exponent w }
+    ensures value { IfSome result (λ k. k ≡ Exponents.exponent w) }
 {
-    (w < 0x8000_0000) | (0xffff_ffff_7fff_ffff < w)
-}
-
-// The number. A word above 2^63 is below zero by what it lacks to 2^64.
-pub(crate) fn exponent(w: u64) -> i32
-    requires { T (Exponents.is_exponent w) }
-    ensures { result ≡ Exponents.exponent w }
-{
-    if w < 0x8000_0000 {
-        return w as i32;
-    }
-    -1 - (0xffff_ffff_ffff_ffff - w) as i32
+    i32::try_from(w.cast_signed()).ok()
 }

@@ -1,5 +1,5 @@
-// Whether stored answers are those of the operations on a plate, of the solve with it and of the
-// preview of a moved target.
+//! Whether stored answers are those of the operations on a plate, of the solve with it and of the
+//! preview of a moved target.
 #![tactic(auto)]
 
 mod exponents;

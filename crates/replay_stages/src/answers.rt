@@ -1,26 +1,26 @@
-// An answer of the solve in a record: the refusal number and the count, and apart from them four
-// slots, each of the updates, the mark and the pose.
+//! An answer of the solve in a record: the refusal number and the count, and apart from them four
+//! slots, each of the updates, the mark and the pose.
 ghost use Rattle.std.specs.Prelude.{◌≡◌, ◌≤◌};
 ghost use Rattle.replay_stages.specs.AnswerRecords.{slot_agrees, slots_agree, answer_agrees};
 
 use frames::pose::Pose;
 use lambdatwist::solve::Answer;
-use replay_records::agreement::{flag, number_agrees, pose_agrees};
+use replay_records::Record;
+use replay_records::agreement::Compared;
 
-fn slot_agrees(pose: Pose, updates: u32, lifted: bool, s: &[u8; 768], at: usize) -> bool
+#[tactic(auto, unfolding(crate::specs::AnswerRecords::slot_agrees))]
+fn slot_agrees(pose: Pose, updates: u32, lifted: bool, s: &Record, at: usize) -> bool
     requires { at ≤ 656 }
     ensures { result ≡ slot_agrees pose updates lifted s.now at }
 {
-    number_agrees(updates as u64, s, at)
-        & number_agrees(flag(lifted), s, at + 8)
-        & pose_agrees(pose, s, at + 16)
+    updates.agrees(s, at) & lifted.agrees(s, at + 8) & pose.agrees(s, at + 16)
 }
 
 fn slots_agree(
     poses: [Pose; 4],
     updates: [u32; 4],
     lifted: [bool; 4],
-    s: &[u8; 768],
+    s: &Record,
     at: usize,
 ) -> bool
     requires { at ≤ 320 }
@@ -33,15 +33,20 @@ fn slots_agree(
     first & second & third & fourth
 }
 
-// The refusal number and the count begin at `at`, the slots at `slots`.
-pub fn answer_agrees(answer: Answer, s: &[u8; 768], at: usize, slots: usize) -> bool
+/// Whether the answer is the record's: the refusal number and the count begin at `at`, the slots at
+/// `slots`.
+#[tactic(auto, unfolding(crate::specs::AnswerRecords::answer_agrees))]
+pub fn answer_agrees(answer: Answer, s: &Record, at: usize, slots: usize) -> bool
     requires { (at ≤ 752) × (slots ≤ 320) }
     ensures { result ≡ answer_agrees answer s.now at slots }
 {
-    let poses = answer.poses;
-    let updates = answer.updates;
-    let lifted = answer.lifted;
-    let number = number_agrees(answer.refusal as u64, s, at);
-    let count = number_agrees(answer.count as u64, s, at + 8);
-    number & count & slots_agree(poses, updates, lifted, s, slots)
+    let Answer {
+        refusal,
+        count,
+        poses,
+        updates,
+        lifted,
+    } = answer;
+    let numbers = refusal.agrees(s, at) & count.agrees(s, at + 8);
+    numbers & slots_agree(poses, updates, lifted, s, slots)
 }

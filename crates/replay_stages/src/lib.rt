@@ -1,4 +1,4 @@
-// Whether stored answers are those of the solve and of three of its stages.
+//! Whether stored answers are those of the solve and of three of its stages.
 #![tactic(auto)]
 
 pub mod answers;
