@@ -20,8 +20,8 @@ use Rattle.unmarked.specs.Charts as before
 use Rattle.unmarked.specs.Signs as before-signs
 use Rattle.unmarked.specs.Types as unmarked
 use Rattle.unmarked.specs.Types.{Vector3, Matrix3, SquaredEdges, Factors}
-use Rattle.unmarked.proofs.Forgets.{Forgets, choose, pure, if◌then◌else◌, ◌>>=◌, ◌>>≡◌, with_some}
-use Rattle.unmarked.proofs.Quadratic.{SameRoots, pair_of-forgets}
+use Rattle.unmarked.proofs.Forgets.{Forgets, choose, pure, if◌then◌else◌, ◌>>=◌, ◌>>≡◌}
+use Rattle.unmarked.proofs.Quadratic.{SameRoots, with_pair-forgets}
 use Rattle.unmarked.proofs.Quadratic.{quadratic_real_monic-forgets}
 
 abbrev pub depths_of : List Candidate → List Vector3
@@ -69,9 +69,9 @@ for_roots-forgets : {r : Roots} {r' : unmarked.Roots}
     → Forgets SameCandidates (for_roots r turn c) (before.for_roots r' turn' c')
 unfolding for_roots before.for_roots
 for_roots-forgets roots turn found =
-    with_some _ (pair_of-forgets roots) (pure found) (λ pair.
-    turn pair.lifted _ _ pair.first found >>= λ _ _ once.
-    turn pair.lifted _ _ pair.second once)
+    with_pair-forgets _ roots (pure found) (λ first second lifted.
+    turn lifted _ _ first found >>= λ _ _ once.
+    turn lifted _ _ second once)
 
 module _ (squares : SquaredEdges) (factors : Factors) where
   -- ---- the chart for u0.abs() < u1.abs()

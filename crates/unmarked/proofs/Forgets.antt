@@ -1,8 +1,8 @@
 -- A computation with marks and one without: their values are in a relation R, which forgets the
 -- marks, and both meet the premise of the scaling rule or neither does. A rule for each form of a
 -- definition, so that the proof of a stage is its definition again: `>>≡` after a step without
--- marks, which is the same in both, and `>>=` after one with marks; `with_same` and `with_some`
--- where the step can stop. Assumes nothing.
+-- marks, which is the same in both, and `>>=` after one with marks; `with_same` where a step without
+-- marks can stop. Assumes nothing.
 use Rattle.std.proofs.Common.{◌≡◌, Bool, true, false, ◌&&◌, refl, ap, ap₂, true≢false}
 use mathlib.Core.Bool.{false≢true}
 use Rattle.std.specs.Prelude as prelude
@@ -55,11 +55,7 @@ module _ {A C D : Type 0} {S : C → D → Type 0} where
       let rest = next m.value in
       record { value = rest.value; regular = ap (λ (r : Bool). m.regular && r) rest.regular }
 
--- one value of two is the other without its marks, or both have none
-pub data WithoutMarks {A B : Type 0} (forget : A → B) : Option A → Option B → Type 0 where
-  some-forgotten : (x : A) → WithoutMarks forget (Some x) (Some (forget x))
-  none-forgotten : WithoutMarks forget None None
-
+-- what follows a step that can stop, with one value in both
 module _ {A C D : Type 0} {S : C → D → Type 0} {none : Traced C} {none' : Traced D} where
   pub with_same : (o : Option A) {k : A → Traced C} {k' : A → Traced D}
       → Forgets S none none'
@@ -67,13 +63,3 @@ module _ {A C D : Type 0} {S : C → D → Type 0} {none : Traced C} {none' : Tr
       → Forgets S (traced.with_some o none k) (traced.with_some o none' k')
   with_same (Some x) none next = next x
   with_same None none next = none
-
-module _ {A B C D : Type 0} {forget : A → B} {S : C → D → Type 0} {none : Traced C}
-    {none' : Traced D} {k : A → Traced C} where
-  pub with_some : {o : Option A} {o' : Option B} (k' : B → Traced D)
-      → WithoutMarks forget o o'
-      → Forgets S none none'
-      → ((x : A) → Forgets S (k x) (k' (forget x)))
-      → Forgets S (traced.with_some o none k) (traced.with_some o' none' k')
-  with_some k' (some-forgotten x) none next = next x
-  with_some k' none-forgotten none next = none

@@ -17,18 +17,18 @@ use Rattle.orderings.specs.Cubic.{is_unusable}
 use Rattle.orderings.specs.Permutation.{best_permutation}
 use Rattle.depths.specs.Matrix.{singular_matrix}
 use Rattle.depths.specs.RatioOf.{ratio_of}
+use Rattle.depths.specs.Signs.{candidates}
 use Rattle.depths.specs.declared.candidates.Candidates.{Candidates}
 use Rattle.lambdatwist.specs.Solve.{answered, refused, if_kept, stopped, solve_candidates, solve_root}
 use Rattle.lambdatwist.specs.Solve.{solve_cubic, ordered_or, best_or, solve_ordered, solve}
 use Rattle.lambdatwist.specs.declared.solve.Answer.{Answer}
-use Rattle.unmarked.specs.Signs as before-signs
 use Rattle.unmarked.specs.Solve as before
 use Rattle.unmarked.specs.Types as unmarked
 use Rattle.unmarked.specs.Types.{Matrix3, World, Bearings, P3pInput, Measured, Coefficients}
 use Rattle.unmarked.specs.Forget.{forget, Forgotten}
 use Rattle.unmarked.proofs.Forgets.{Forgets, choose, pure, if◌then◌else◌, ◌>>=◌, ◌>>≡◌}
-use Rattle.unmarked.proofs.Forgets.{with_same, with_some}
-use Rattle.unmarked.proofs.Eigensystem.{eig_with_known_zero-forgets}
+use Rattle.unmarked.proofs.Forgets.{with_same}
+use Rattle.unmarked.proofs.Eigensystem.{with_system-forgets, eig_with_known_zero-forgets}
 use Rattle.unmarked.proofs.Candidates.{SameCandidates, candidates-forgets}
 use Rattle.unmarked.proofs.Poses.{SameSolutions, empty-forgets, poses-forgets}
 
@@ -94,16 +94,14 @@ module _ (input : P3pInput) where
     solve_root-forgets g =
         singular_matrix measured.squares measured.factors g >>≡ λ matrix.
         eig_with_known_zero-forgets matrix >>= λ _ _ system.
-        with_some (λ eigen.
-        traced.◌>>=◌ (ratio_of eigen.values.x eigen.values.y) (λ ratio.
-        traced.with_some ratio before.stopped (λ real.
-        traced.◌>>=◌
-        (before-signs.candidates measured.squares measured.factors eigen.vectors real)
-        (before.solve_candidates input measured))))
-        system stops (λ eigen.
-        ratio_of eigen.values.x eigen.values.y >>≡ λ ratio.
+        with_system-forgets (λ system. traced.◌>>=◌ (ratio_of system.values.x system.values.y)
+        (λ ratio. traced.with_some ratio stopped (λ real. traced.◌>>=◌
+        (candidates measured.squares measured.factors system.vectors real system.lifted)
+        (solve_candidates input measured))))
+        system stops (λ eigenvectors eigenvalues lifted.
+        ratio_of eigenvalues.x eigenvalues.y >>≡ λ ratio.
         with_same ratio stops (λ real.
-        candidates-forgets measured.squares measured.factors eigen.vectors real eigen.lifted >>=
+        candidates-forgets measured.squares measured.factors eigenvectors real lifted >>=
         λ _ _ found.
         solve_candidates-forgets found))
 

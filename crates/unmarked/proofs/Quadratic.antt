@@ -1,13 +1,13 @@
 -- The quadratic gives the same two roots in the same order, or the same refusal, where its pair is
 -- told apart and where it is not. Assumes nothing.
-use Rattle.std.proofs.Common.{ℕ, true, false, not, ◌||◌}
+use Rattle.std.proofs.Common.{ℕ, Bool, true, false, not, ◌||◌}
 use lib.Ieee.{Float, neg, lt, eq}
 use lib.Ieee.Scale.{finite}
 use Rattle.ieee754.specs.Literal.{plus_zero, half}
 use Rattle.ieee754.specs.Magnitude.{abs}
 use Rattle.ieee754.specs.CopySign.{copysign}
 use Rattle.ieee754.specs.Maximum.{max}
-use Rattle.ieee754.specs.Traced.{⊝◌, √◌, !◌, ◌⊗◌, ◌⊘◌, ◌⊕◌}
+use Rattle.ieee754.specs.Traced.{Traced, with_some, ⊝◌, √◌, !◌, ◌⊗◌, ◌⊘◌, ◌⊕◌}
 use Rattle.ieee754.proofs.Tests.{either_way}
 use Rattle.polynomial.specs.Answer.{pair_of}
 use Rattle.polynomial.specs.Quadratic.{discriminant_of, band_of, double_root, quadratic_pair}
@@ -17,8 +17,7 @@ use Rattle.polynomial.specs.declared.Roots.TheVariants.{Two, Double, Lifted, Ref
 use Rattle.polynomial.specs.declared.pair.RootPair.{RootPair}
 use Rattle.unmarked.specs.Quadratic as before
 use Rattle.unmarked.specs.Types as unmarked
-use Rattle.unmarked.proofs.Forgets.{Forgets, WithoutMarks, some-forgotten, none-forgotten, pure}
-use Rattle.unmarked.proofs.Forgets.{if◌then◌else◌, ◌>>≡◌}
+use Rattle.unmarked.proofs.Forgets.{Forgets, pure, if◌then◌else◌, ◌>>≡◌}
 
 pub data SameRoots : Roots → unmarked.Roots → Type 0 where
   two : (x y : Float) → SameRoots (Two x y) (unmarked.Two x y)
@@ -26,17 +25,18 @@ pub data SameRoots : Roots → unmarked.Roots → Type 0 where
   lifted : (x : Float) → SameRoots (Lifted x) (unmarked.Two x x)
   refused : (n : ℕ) → SameRoots (Refused n) (unmarked.Refused n)
 
--- the pair, lifted or not
-abbrev pub forget_pair : RootPair → unmarked.RootPair
-forget_pair pair = record { first = pair.first; second = pair.second }
-
-pub pair_of-forgets : {r : Roots} {r' : unmarked.Roots}
+-- what follows the roots, lifted or not
+pub with_pair-forgets : {A B : Type 0} {R : A → B → Type 0} {none : Traced A} {none' : Traced B}
+    {k' : Float → Float → Traced B} {r : Roots} {r' : unmarked.Roots} (k : RootPair → Traced A)
     → SameRoots r r'
-    → WithoutMarks forget_pair (pair_of r) (before.pair_of r')
-pair_of-forgets (two x y) = some-forgotten (record { first = x; second = y; lifted = false })
-pair_of-forgets (double x) = some-forgotten (record { first = x; second = x; lifted = false })
-pair_of-forgets (lifted x) = some-forgotten (record { first = x; second = x; lifted = true })
-pair_of-forgets (refused n) = none-forgotten
+    → Forgets R none none'
+    → ((x y : Float) (lifted : Bool)
+    → Forgets R (k (record { first = x; second = y; lifted = lifted })) (k' x y))
+    → Forgets R (with_some (pair_of r) none k) (before.with_pair r' none' k')
+with_pair-forgets k (two x y) none next = next x y false
+with_pair-forgets k (double x) none next = next x x false
+with_pair-forgets k (lifted x) none next = next x x true
+with_pair-forgets k (refused n) none next = none
 
 double_root-forgets : (root computed : Float)
     → SameRoots (double_root root computed) (unmarked.Two root root)

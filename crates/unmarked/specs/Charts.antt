@@ -5,10 +5,10 @@ use Rattle.std.specs.Prelude.{◌||◌, Float, if◌then◌else◌}
 use Rattle.std.specs.Float.Ieee.{lt, le}
 use Rattle.ieee754.specs.Literal.{plus_zero, one, two}
 use Rattle.ieee754.specs.Magnitude.{abs}
-use Rattle.ieee754.specs.Traced.{Traced, pure, with_some, ◌>>=◌, ◌⊗◌, ◌⊕◌, ◌⊖◌, ◌⊘◌, !◌, ⊝◌, √◌}
+use Rattle.ieee754.specs.Traced.{Traced, pure, ◌>>=◌, ◌⊗◌, ◌⊕◌, ◌⊖◌, ◌⊘◌, !◌, ⊝◌, √◌}
 use Rattle.linalg.specs.Vectors.{vector}
 use Rattle.depths.specs.Charts.{no_divisor}
-use Rattle.unmarked.specs.Quadratic.{pair_of, quadratic_real_monic}
+use Rattle.unmarked.specs.Quadratic.{with_pair, quadratic_real_monic}
 use Rattle.unmarked.specs.DepthSlots.{push_if_positive}
 use Rattle.unmarked.specs.Types.{Vector3, SquaredEdges, Roots, Factors, Candidates}
 
@@ -16,9 +16,9 @@ use Rattle.unmarked.specs.Types.{Vector3, SquaredEdges, Roots, Factors, Candidat
 unfoldable pub for_roots : Roots → (Candidates → Float → Traced Candidates) → Candidates
     → Traced Candidates
 for_roots roots turn found =
-    with_some (pair_of roots) (pure found) (λ pair. do
-      once ← turn found pair.first
-      turn once pair.second)
+    with_pair roots (pure found) (λ first second. do
+      once ← turn found first
+      turn once second)
 
 -- ---- the chart for u0.abs() < u1.abs(): the depths of a root, then the chart
 unfoldable pub first_chart_depths : SquaredEdges → Factors → Vector3 → Candidates → Float

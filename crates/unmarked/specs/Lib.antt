@@ -1,5 +1,5 @@
--- The solve without marks: what has a mark elsewhere or is built on that, line for line as it stands
--- there but for the mark. The rest is imported.
+-- The solve without marks: what has a mark elsewhere or is built on that, text for text as it was
+-- before the marks, but for `basis_of` and `with_some`, which came later. The rest is imported.
 pub mod Types
 pub mod Quadratic
 pub mod EigenPair

@@ -1,5 +1,5 @@
 -- `quadratic_real_monic` and `quadratic_real_monic_computed` of polynomial.rs: the real roots of
--- x^2 + b*x + c, and the pair of them. A pair is not told apart.
+-- x^2 + b*x + c, and what follows them. Document 01, module 2. A pair is not told apart.
 use Rattle.std.specs.Prelude.{not, ◌||◌, Float, if◌then◌else◌}
 use Rattle.std.specs.Float.Ieee.{neg, lt, eq}
 use Rattle.std.specs.Float.Ieee.Scale.{finite}
@@ -9,7 +9,7 @@ use Rattle.ieee754.specs.CopySign.{copysign}
 use Rattle.ieee754.specs.Maximum.{max}
 use Rattle.ieee754.specs.Traced.{Traced, pure, ◌>>=◌, !◌, ⊝◌, √◌, ◌⊗◌, ◌⊘◌, ◌⊕◌}
 use Rattle.polynomial.specs.Quadratic.{discriminant_of, band_of}
-use Rattle.unmarked.specs.Types.{Roots, Two, One, Refused, RootPair, Option, Some, None}
+use Rattle.unmarked.specs.Types.{Roots, Two, One, Refused}
 
 -- ---- the refusals of the quadratic
 
@@ -21,11 +21,12 @@ not_finite = Refused 4
 abbrev pub no_real_roots : Roots
 no_real_roots = Refused 5
 
--- ---- the pair of roots
-abbrev pub pair_of : Roots → Option RootPair
-pair_of (Two x y) = Some (record { first = x; second = y })
-pair_of (One x) = None
-pair_of (Refused n) = None
+-- ---- what follows a root finder: what `k` makes of the two roots in their order, and `none` for
+--      any other answer
+abbrev pub with_pair : {A : Type 0} → Roots → Traced A → (Float → Float → Traced A) → Traced A
+with_pair (Two x y) none k = k x y
+with_pair (One x) none k = none
+with_pair (Refused n) none k = none
 
 -- ---- the root finder
 

@@ -15,7 +15,7 @@ use Rattle.orderings.specs.Cubic.{is_unusable}
 use Rattle.depths.specs.Matrix.{singular_matrix}
 use Rattle.depths.specs.RatioOf.{ratio_of}
 use Rattle.orderings.specs.Permutation.{best_permutation}
-use Rattle.unmarked.specs.KnownZero.{eig_with_known_zero}
+use Rattle.unmarked.specs.KnownZero.{with_system, eig_with_known_zero}
 use Rattle.unmarked.specs.Signs.{candidates}
 use Rattle.unmarked.specs.Slots.{empty}
 use Rattle.unmarked.specs.Poses.{poses}
@@ -59,10 +59,10 @@ unfoldable pub solve_root : P3pInput → Measured → Float → Traced Answer
 solve_root input measured g = do
   matrix ← singular_matrix measured.squares measured.factors g
   system ← eig_with_known_zero matrix
-  with_some system stopped (λ eigen. do
-    ratio ← ratio_of eigen.values.x eigen.values.y
+  with_system system stopped (λ eigenvectors eigenvalues. do
+    ratio ← ratio_of eigenvalues.x eigenvalues.y
     with_some ratio stopped (λ real. do
-      found ← candidates measured.squares measured.factors eigen.vectors real
+      found ← candidates measured.squares measured.factors eigenvectors real
       solve_candidates input measured found))
 
 -- let Some(g) = polished_cubic_root(cubic2 / cubic3, cubic1 / cubic3, cubic0 / cubic3) else { .. }

@@ -1,7 +1,6 @@
 -- What the stages of the solve answer with, without marks: elsewhere these are structs and enums of
 -- src/ in polynomial, eigen, depths, p3p_common and lambdatwist. The others are those crates' own.
 use Rattle.std.specs.Prelude.{ℕ, List, Float}
-pub use Rattle.std.specs.Prelude.{Option, Some, None}
 pub use Rattle.linalg.specs.declared.matrix3.Matrix3.{Matrix3}
 pub use Rattle.linalg.specs.declared.vector3.Vector3.{Vector3}
 pub use Rattle.frames.specs.declared.pose.Pose.{Pose}
@@ -22,14 +21,13 @@ pub data Roots : Type 0 where
   One : Float → Roots
   Refused : ℕ → Roots
 
--- two roots in their order, and the two eigenvalues that are not known
-pub record RootPair : Type 0 where
-  pub first : Float
-  pub second : Float
+pub data Eigenvalues : Type 0 where
+  Pair : Float → Float → Eigenvalues
+  NoPair : Eigenvalues
 
-pub record Eigensystem : Type 0 where
-  pub vectors : Matrix3
-  pub values : Vector3
+pub data Eigensystem : Type 0 where
+  Found : Matrix3 → Vector3 → Eigensystem
+  NotFound : Eigensystem
 
 pub record Candidates : Type 0 where
   pub count : ℕ
