@@ -1,13 +1,11 @@
-// The program that README names: the poses of a plate, the one that its fourth target confirms, and
-// where the camera sees a hole that is to be drilled.
+//! The program that README names: the poses of a plate, the one that its fourth target confirms,
+//! and where the camera sees a hole that is to be drilled.
 #![tactic(auto)]
 
-use choice::choose::{Choice, choose};
+use choice::choose::choose;
 use frames::bearings::Bearings;
 use frames::pose::Pose;
 use frames::world::World;
-use ieee754::abs::abs;
-use ieee754::bits::to_bits;
 use lambdatwist::solve::solve;
 use linalg::vector3::Vector3;
 use std::io;
@@ -40,49 +38,37 @@ fn confirmed(score: f64) -> bool {
     score <= 3e-8
 }
 
-// Prints a length to the nearest millimetre. Beside 2^52 a double has no fraction: it is rounded,
-// and its last 52 bits are the whole number. An error is that of the writing: what was written
-// before stays written. No other error comes.
-fn print_millimetres(rt: &impl Print, metres: f64) -> io::Result<()> {
-    let sum = abs(metres) * 1000.0 + 4503599627370496.0;
-    let sign = if metres < 0.0 { "-" } else { "" };
-    let whole = to_bits(sum) % 4503599627370496;
-    print!(rt; " {sign}{whole}")
-}
-
-// An error is that of the first write that fails: what was written before stays written, and
-// nothing after it is done. No other error comes.
+// An error is that of the write: nothing was written then, or a part of the line. No other error
+// comes.
 fn main(rt: HostRuntime) -> io::Result<()> {
     // Three targets of the plate, and the bearings at which the camera sees them.
-    let p0 = point(0.0, 0.0, 0.0);
-    let p1 = point(0.5, 0.0, 0.0);
-    let p2 = point(0.0, 0.375, 0.0);
-    let f0 = seen(-0.25, -0.125, 2.0);
-    let f1 = seen(0.15, -0.125, 2.3);
-    let f2 = seen(-0.25, 0.25, 2.0);
-    let answer = solve(World { p0, p1, p2 }, Bearings { f0, f1, f2 });
+    let world = World {
+        p0: point(0.0, 0.0, 0.0),
+        p1: point(0.5, 0.0, 0.0),
+        p2: point(0.0, 0.375, 0.0),
+    };
+    let bearings = Bearings {
+        f0: seen(-0.25, -0.125, 2.0),
+        f1: seen(0.15, -0.125, 2.3),
+        f2: seen(-0.25, 0.25, 2.0),
+    };
+    let answer = solve(world, bearings);
 
     // The pose that the fourth target confirms. None is chosen of a refused solve, nor where all
     // poses put the target behind the camera.
     let target = point(0.5, 0.375, 0.125);
     let bearing = seen(0.075, 0.25, 2.4);
-    let poses = answer.poses;
-    let choice = choose(poses, answer.count, target, bearing);
-    let Choice::Best(place, score) = choice else {
+    let Some(best) = choose(answer.poses, answer.count, target, bearing) else {
         return println!(rt; "no pose chosen");
     };
-    let best = at_place(poses, place);
-    if !confirmed(score) {
+    if !confirmed(best.score) {
         return println!(rt; "not confirmed");
     }
 
-    // Where a hole of the plate lies before the camera.
-    let hole = best.camera_point(point(0.25, -0.5, 0.0));
-
+    // Where a hole of the plate lies before the camera, in millimetres.
+    let pose = at_place(answer.poses, best.place);
+    let Vector3 { x, y, z } = pose.camera_point(point(0.25, -0.5, 0.0)) * 1000.0;
     let count = answer.count;
-    print!(rt; "poses {count} best {place} hole")?;
-    print_millimetres(&rt, hole.x)?;
-    print_millimetres(&rt, hole.y)?;
-    print_millimetres(&rt, hole.z)?;
-    println!(rt; " mm")
+    let place = best.place;
+    println!(rt; "poses {count} best {place} hole {x:.0} {y:.0} {z:.0} mm")
 }
