@@ -1,5 +1,5 @@
-// The solve about the first target: the present solve of the differences, and the point that was
-// subtracted beside its answer.
+//! The solve about the first target: the present solve of the differences, and the point that was
+//! subtracted beside its answer.
 ghost use Rattle.std.specs.Prelude.{◌≡◌};
 ghost use Rattle.about.specs.SolveAbout as SolveAbout;
 
@@ -10,16 +10,17 @@ use lambdatwist::solve::{Answer, refused, solve};
 use linalg::vector3::Vector3;
 use p3p_common::input::P3pInput;
 
-// The poses of `answer` take x - origin to the camera. `origin` is the first world point as it was
-// given, and plus zeros where the answer is refused.
+/// The poses of `answer` take x - origin to the camera. `origin` is the first world point as it was
+/// given, and plus zeros where the answer is refused.
 #[derive(Clone, Copy)]
 pub struct AnswerAbout {
     pub answer: Answer,
     pub origin: Vector3,
 }
 
-// The answer by itself: question 1, of the eighteen numbers and then of the differences, and the
-// solve of these.
+/// The answer by itself: whether the eighteen numbers are finite, and then the differences, and the
+/// solve of these.
+#[tactic(auto, unfolding(crate::specs::SolveAbout::answer_about))]
 pub fn answer_about(world: World, bearings: Bearings) -> Answer
     ensures { result ≡ (SolveAbout.answer_about world bearings).value }
 {
@@ -35,22 +36,24 @@ pub fn answer_about(world: World, bearings: Bearings) -> Answer
 }
 
 // An answer of the solve with the point that was subtracted.
+#[tactic(auto, unfolding(crate::specs::SolveAbout::with_origin))]
 fn with_origin(origin: Vector3, answer: Answer) -> AnswerAbout
     ensures { result ≡ SolveAbout.with_origin origin answer }
 {
-    if answer.refusal != 0 {
-        return AnswerAbout {
+    if answer.refusal == 0 {
+        AnswerAbout { answer, origin }
+    } else {
+        AnswerAbout {
             answer,
             origin: Vector3::zeros(),
-        };
+        }
     }
-    AnswerAbout { answer, origin }
 }
 
-// The poses, about the first, of three world points and the bearings to them.
+/// The poses, about the first, of three world points and the bearings to them.
+#[tactic(auto, unfolding(crate::specs::SolveAbout::solve_about))]
 pub fn solve_about(world: World, bearings: Bearings) -> AnswerAbout
     ensures { result ≡ (SolveAbout.solve_about world bearings).value }
 {
-    let p0 = world.p0;
-    with_origin(p0, answer_about(world, bearings))
+    with_origin(world.p0, answer_about(world, bearings))
 }
