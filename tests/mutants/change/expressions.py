@@ -266,6 +266,9 @@ class Expressions(Marks):
         self.expect("{")
         kept, self.structs = self.structs, True
         for _ in self.each("}"):
+            if self.passes(".."):
+                self.expression()
+                continue
             start, end = self.start(), self.end()
             field, visible = self.take(), self.visible()
             if self.passes(":"):

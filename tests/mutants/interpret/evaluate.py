@@ -156,8 +156,9 @@ class Evaluate:
         value = held(self.run(e, env))
         return [taken(value) for _ in range(self.run(n, env))]
 
-    def on_struct(self, env, path, fields):
-        values = {k: taken(held(self.run(v, env))) for k, v in fields.items()}
+    def on_struct(self, env, path, fields, rest):
+        values = taken(held(self.run(rest, env))).fields if rest else {}
+        values.update({k: taken(held(self.run(v, env))) for k, v in fields.items()})
         if len(path) > 1 and self.named(path[:-1]) in self.world.enums:
             return Variant(self.named(path[:-1]), path[-1], values)
         return Struct(self.named(path), values)
@@ -243,7 +244,7 @@ class Evaluate:
             return built_in(path)(*map(held, values))
         if len(path) > 1:
             above = self.named(path[:-1])
-            if above in self.world.enums:
+            if path[-1] in self.world.enums.get(above, ()):
                 return Variant(above, path[-1], [taken(held(v)) for v in values])
             if of_type(above, path[-1]) in self.world.overloads:
                 return self.call(self.chosen(of_type(above, path[-1]), values), values)

@@ -195,9 +195,12 @@ class Parser(Grammar):
             return ("call", path, self.arguments())
         if self.sees("{") and self.structs and path[-1][0].isupper() and not path[-1].isupper():
             self.expect("{")
-            fields = {}
+            fields, rest = {}, None
             for _ in self.each("}"):
-                field = self.take()
-                fields[field] = self.expression() if self.passes(":") else ("path", [field])
-            return ("struct", path, fields)
+                if self.passes(".."):
+                    rest = self.expression()
+                else:
+                    field = self.take()
+                    fields[field] = self.expression() if self.passes(":") else ("path", [field])
+            return ("struct", path, fields, rest)
         return ("path", path)
