@@ -17,19 +17,19 @@ use Rattle.plates.specs.Replace.{replace}
 use Rattle.plates.proofs.AsSolve.{points-solve}
 use Rattle.preview.specs.Preview.{edges_shown, answer_shown, preview}
 use Rattle.preview.specs.Shows.{edges_of, Shows, not_finite, no-such-target, moved}
-use Rattle.preview.specs.Types.{Vector3, World, Bearings, SquaredEdges, Basis, Inverse}
-use Rattle.preview.specs.Types.{Singular, Plate, Outcome, Shown}
+use Rattle.preview.specs.Types.{Vector3, Matrix3, World, Bearings, SquaredEdges, Option, Some}
+use Rattle.preview.specs.Types.{None, Plate, Outcome, Shown}
 
 -- what is shown of an outcome
 abbrev shown_of : Bearings → Outcome → Shown
 shown_of bearings copy = record { answer = answer_shown copy bearings; edges = edges_shown copy }
 
 -- a plate has the edges that it is worked out with
-same_edges : (world : World) (edges : SquaredEdges) (basis : Basis)
+same_edges : (world : World) (edges : SquaredEdges) (basis : Option Matrix3)
     → (with_basis world edges basis).edges ≡ edges
 unfolding with_basis
-same_edges world edges (Inverse inverse) = refl
-same_edges world edges Singular = refl
+same_edges world edges (Some inverse) = refl
+same_edges world edges None = refl
 
 done-shown : (world : World) (bearings : Bearings)
     → shown_of bearings (done world)
