@@ -1,7 +1,8 @@
--- The structs and enums that definitions and laws of this crate name: those of the crates below.
+-- The structs and enums that definitions and laws of this crate name: those of std and of the crates
+-- below.
+pub use Rattle.std.specs.Prelude.{Option, Some, None}
 pub use Rattle.frames.specs.declared.pose.Pose.{Pose}
 pub use Rattle.lambdatwist.specs.declared.solve.Answer.{Answer}
-pub use Rattle.choice.specs.declared.choose.Choice.{Choice}
-pub use Rattle.choice.specs.declared.choose.Choice.TheVariants.{Best, Refused}
+pub use Rattle.choice.specs.declared.choose.Best.{Best}
 pub use Rattle.plates.specs.declared.plate.Plate.{Plate}
 pub use Rattle.plates.specs.declared.outcome.Outcome.{Outcome}

@@ -1,5 +1,5 @@
-// Answers in lent memory, in the layout of include/p3p.h: what the functions that C and Rust link
-// have in common. A refused answer writes nothing.
+//! Answers in lent memory, in the layout of include/p3p.h: what the functions that C and Rust link
+//! have in common. A refused answer writes nothing.
 #![tactic(auto)]
 
 pub mod chosen;

@@ -1,15 +1,17 @@
-// A plate over a lent array and a lent number: nine doubles of points, the three squared edges,
-// nine of the inverse by columns; and whether there is an inverse.
+//! A plate over a lent array and a lent number: nine doubles of points, the three squared edges,
+//! nine of the inverse by columns; and whether there is an inverse.
 ghost use Rattle.std.specs.Prelude.{◌≡◌};
 ghost use Rattle.lent_answers.specs.Plated as Plated;
 
 use frames::lent::{vector_at, world_at};
 use frames::squared_edges::SquaredEdges;
+use frames::world::World;
 use linalg::matrix3::Matrix3;
 use plates::outcome::Outcome;
 use plates::plate::Plate;
 
-// Any number but 0 says that there is an inverse.
+/// Any number but 0 says that there is an inverse.
+#[tactic(auto, unfolding(crate::specs::Plated::plate_in))]
 pub fn plate_in(xs: &[f64; 21], has_inverse: u32) -> Plate
     ensures { result ≡ Plated.plate_in xs.now has_inverse }
 {
@@ -31,16 +33,17 @@ pub fn plate_in(xs: &[f64; 21], has_inverse: u32) -> Plate
     }
 }
 
-// The doubles of a plate, as `plate_in` reads them.
+/// The doubles of a plate, as `plate_in` reads them.
+#[tactic(auto, unfolding(crate::specs::Plated::plate_entries))]
 pub fn plate_entries(plate: Plate) -> [f64; 21]
     ensures { result ≡ Plated.plate_entries plate }
 {
-    let world = plate.world;
-    let edges = plate.edges;
-    let inverse = plate.inverse;
-    let p0 = world.p0;
-    let p1 = world.p1;
-    let p2 = world.p2;
+    let Plate {
+        world: World { p0, p1, p2 },
+        edges,
+        inverse,
+        ..
+    } = plate;
     [
         p0.x,
         p0.y,
@@ -66,19 +69,17 @@ pub fn plate_entries(plate: Plate) -> [f64; 21]
     ]
 }
 
-// Writes the plate of an operation. Returns its refusal number, 0 where it was written.
+/// Writes the plate of an operation. Returns its refusal number, 0 where it was written.
+#[tactic(auto, unfolding(crate::specs::Plated::plate_after, crate::specs::Plated::inverse_after))]
 pub fn write_plate(outcome: Outcome, plate: &mut [f64; 21], has_inverse: &mut u32) -> u32
     ensures value { result ≡ outcome.refusal }
     ensures plate_after { plate.new ≡ Plated.plate_after outcome plate.old }
     ensures has_inverse_after { has_inverse.new
         ≡ Plated.inverse_after outcome has_inverse.old }
 {
-    let refusal = outcome.refusal;
-    if refusal != 0 {
-        return refusal;
+    if outcome.refusal == 0 {
+        *plate = plate_entries(outcome.plate);
+        *has_inverse = u32::from(outcome.plate.invertible);
     }
-    let made = outcome.plate;
-    *has_inverse = made.invertible as u32;
-    *plate = plate_entries(made);
-    0
+    outcome.refusal
 }

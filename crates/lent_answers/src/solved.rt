@@ -1,4 +1,4 @@
-// The answer of a solve over lent arrays.
+//! The answer of a solve over lent arrays.
 ghost use Rattle.std.specs.Prelude.{◌≡◌, map, ◌++◌};
 ghost use Rattle.frames.specs.Lent.{entries};
 ghost use Rattle.lent_answers.specs.Solved.{flag, poses_after, updates_after};
@@ -8,6 +8,7 @@ use frames::pose::Pose;
 use lambdatwist::solve::Answer;
 
 // The four slots one after another, each by the columns of its rotation and then its translation.
+#[tactic(auto, unfolding(frames::specs::Lent::entries))]
 fn all_entries(p0: Pose, p1: Pose, p2: Pose, p3: Pose) -> [f64; 48]
     ensures { result ≡ entries p0 ++ entries p1 ++ entries p2 ++ entries p3 }
 {
@@ -31,16 +32,12 @@ fn all_entries(p0: Pose, p1: Pose, p2: Pose, p3: Pose) -> [f64; 48]
 fn flags(lifted: [bool; 4]) -> [u32; 4]
     ensures { result ≡ map flag lifted }
 {
-    [
-        lifted[0] as u32,
-        lifted[1] as u32,
-        lifted[2] as u32,
-        lifted[3] as u32,
-    ]
+    lifted.map(u32::from)
 }
 
-// Writes an answer. Returns its refusal number, 0 where it was written. Put into its callers: an
-// answer that is handed on is copied by memcpy, which the library is not to need.
+/// Writes an answer. Returns its refusal number, 0 where it was written. Put into its callers: an
+/// answer that is handed on is copied by memcpy, which the library is not to need.
+#[tactic(auto, unfolding(crate::specs::Solved::poses_after, crate::specs::Solved::updates_after, crate::specs::Solved::lifted_after, crate::specs::Solved::count_after))]
 #[inline]
 pub fn write_answer(
     answer: Answer,
@@ -55,20 +52,12 @@ pub fn write_answer(
     ensures lifted_after { lifted.new ≡ lifted_after answer lifted.old }
     ensures count_after { count.new ≡ count_after answer count.old }
 {
-    let refusal = answer.refusal;
-    if refusal != 0 {
-        return refusal;
+    if answer.refusal == 0 {
+        let [p0, p1, p2, p3] = answer.poses;
+        *poses = all_entries(p0, p1, p2, p3);
+        *updates = answer.updates;
+        *lifted = flags(answer.lifted);
+        *count = answer.count;
     }
-    let found = answer.poses;
-    let p0 = found[0];
-    let p1 = found[1];
-    let p2 = found[2];
-    let p3 = found[3];
-    *poses = all_entries(p0, p1, p2, p3);
-    let taken = answer.updates;
-    *updates = taken;
-    *count = answer.count;
-    let marks = answer.lifted;
-    *lifted = flags(marks);
-    0
+    answer.refusal
 }
