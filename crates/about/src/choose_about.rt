@@ -6,8 +6,8 @@ use choice::choose::{Best, choose};
 use frames::pose::Pose;
 use linalg::vector3::Vector3;
 
-/// The choice among the first `count` poses, which are about `origin`. The difference is not tested:
-/// where it is not finite no score is, and the choice is refused with 10.
+/// The choice among the first `count` poses, which are about `origin`. The difference is not
+/// tested: where it is not finite no score is, and the choice is refused with 10.
 #[tactic(auto, unfolding(crate::specs::ChooseAbout::choose_about))]
 pub fn choose_about(
     poses: [Pose; 4],

@@ -1,8 +1,8 @@
 -- A computation with marks and one without: their values are in a relation R, which forgets the
 -- marks, and both meet the premise of the scaling rule or neither does. A rule for each form of a
 -- definition, so that the proof of a stage is its definition again: `>>≡` after a step without
--- marks, which is the same in both, and `>>=` after one with marks; `with_same` where a step without
--- marks can stop. Assumes nothing.
+-- marks, which is the same in both, and `>>=` after one with marks; `with_same` where a step
+-- without marks can stop. Assumes nothing.
 use Rattle.std.proofs.Common.{◌≡◌, Bool, true, false, ◌&&◌, refl, ap, ap₂, true≢false}
 use mathlib.Core.Bool.{false≢true}
 use Rattle.std.specs.Prelude as prelude
