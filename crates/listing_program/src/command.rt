@@ -24,12 +24,12 @@ fn requested_by(argument: &[u8]) -> Request
     ensures { result ≡ request_of_one argument.now }
 {
     if argument == b"--help".as_slice() {
-        return Request::Help;
+        Request::Help
+    } else if argument == b"--version".as_slice() {
+        Request::Version
+    } else {
+        Request::Usage
     }
-    if argument == b"--version".as_slice() {
-        return Request::Version;
-    }
-    Request::Usage
 }
 
 /// What is asked for, by the number of words that the program is started with, its own name among

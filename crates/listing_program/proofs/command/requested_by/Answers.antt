@@ -19,8 +19,8 @@ same_pointwise (x ∷ xs) (y ∷ ys) =
     rw (same_pointwise xs ys) (both (nat_eq x y) (pointwise nat_eq xs ys))
 
 -- neither text is the argument
-pub returns : goal.returns
-returns c =
+pub returns-else-eq-2 : goal.returns-else-eq-2
+returns-else-eq-2 c =
     let argument = c.args.argument.now in
     let no_help : same argument (ascii "--help") ≡ false =
     same_pointwise argument (ascii "--help")
@@ -28,6 +28,6 @@ returns c =
     ∙ sym c.eq.ensures ∙ c.if-eq.false in
     let no_version : same argument (ascii "--version") ≡ false =
     same_pointwise argument (ascii "--version")
-    ∙ ap (λ (ys : List ℕ). pointwise nat_eq argument ys) (sym c.as_slice-2.ensures)
-    ∙ sym c.eq-2.ensures ∙ c.if-eq-2.false in
+    ∙ ap (λ (ys : List ℕ). pointwise nat_eq argument ys) (sym c.as_slice-else-eq.ensures)
+    ∙ sym c.eq-else-eq.ensures ∙ c.if-eq-2.false in
     rw (no_help, no_version) refl
