@@ -1,4 +1,5 @@
 -- The structs and enums that definitions and laws of this crate name: those of the crates below.
+pub use Rattle.std.specs.Prelude.{Option}
 pub use Rattle.std.specs.declared.cmp.Ordering.{Ordering}
 pub use Rattle.std.specs.declared.cmp.Ordering.TheVariants.{Less, Equal, Greater}
 pub use Rattle.linalg.specs.declared.vector3.Vector3.{Vector3}
@@ -9,7 +10,7 @@ pub use Rattle.frames.specs.declared.world.World.{World}
 pub use Rattle.polynomial.specs.declared.Roots.{Roots}
 pub use Rattle.polynomial.specs.declared.Roots.TheVariants.{Refused}
 pub use Rattle.lambdatwist.specs.declared.solve.Answer.{Answer}
-pub use Rattle.choice.specs.declared.choose.Choice.{Choice}
+pub use Rattle.choice.specs.declared.choose.Best.{Best}
 pub use Rattle.about.specs.declared.solve_about.AnswerAbout.{AnswerAbout}
 pub use Rattle.plates.specs.declared.plate.Plate.{Plate}
 pub use Rattle.plates.specs.declared.outcome.Outcome.{Outcome}

@@ -1,4 +1,4 @@
-// The solve about the first target and its choice, over lent arrays (document 02, §1).
+//! The solve about the first target and its choice, over lent arrays (document 02, §1).
 ghost use Rattle.std.specs.Prelude.{◌≡◌};
 ghost use Rattle.choice.specs.Answer.{number};
 ghost use Rattle.lent_answers.specs.Solved.{poses_after, updates_after, lifted_after, count_after};
@@ -14,17 +14,18 @@ use lent_answers::solved::write_answer;
 use linalg::vector3::Vector3;
 
 // Writes the point that was subtracted, unless the answer is refused.
+#[tactic(auto, unfolding(crate::specs::AboutLent::point_after))]
 fn write_origin(refusal: u32, p0: Vector3, origin: &mut [f64; 3])
     ensures { origin.new ≡ point_after refusal p0 origin.old }
 {
-    if refusal != 0 {
-        return;
+    if refusal == 0 {
+        *origin = [p0.x, p0.y, p0.z];
     }
-    *origin = [p0.x, p0.y, p0.z];
 }
 
-// The poses, about the first, of three world points and the bearings to them. Returns 0, or the
-// refusal number with nothing written.
+/// The poses, about the first, of three world points and the bearings to them. Returns 0, or the
+/// refusal number with nothing written.
+#[tactic(auto, unfolding(crate::specs::AboutLent::solved_about, crate::specs::AboutLent::origin_after, crate::specs::AboutLent::point_after, about::specs::SolveAbout::solve_about, about::specs::SolveAbout::with_origin))]
 #[unsafe(no_mangle)]
 pub extern "C" fn p3p_solve_about(
     input: &[f64; 18],
@@ -53,8 +54,9 @@ pub extern "C" fn p3p_solve_about(
     write_answer(answer, poses, updates, lifted, count)
 }
 
-// The choice among poses about a point, as p3p_choose otherwise. Returns 0, or the refusal number
-// with nothing written.
+/// The choice among poses about a point, as p3p_choose otherwise. Returns 0, or the refusal number
+/// with nothing written.
+#[tactic(auto, unfolding(crate::specs::AboutLent::chosen_about))]
 #[unsafe(no_mangle)]
 pub extern "C" fn p3p_choose_about(
     poses: &[f64; 48],

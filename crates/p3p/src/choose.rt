@@ -1,4 +1,4 @@
-// The choice of a pose by a fourth target, over lent arrays.
+//! The choice of a pose by a fourth target, over lent arrays.
 ghost use Rattle.std.specs.Prelude.{◌≡◌};
 ghost use Rattle.choice.specs.Answer.{number};
 ghost use Rattle.lent_answers.specs.Chosen.{best_after, score_after};
@@ -7,8 +7,9 @@ ghost use Rattle.p3p.specs.ChooseLent.{chosen};
 use frames::lent::vector_at;
 use lent_answers::chosen::{poses_in, write_choice};
 
-// The number from 1 of the pose under which the target lies before the camera and nearest to its
-// bearing, and its score. Returns 0, or the refusal number with nothing written.
+/// The number from 1 of the pose under which the target lies before the camera and nearest to its
+/// bearing, and its score. Returns 0, or the refusal number with nothing written.
+#[tactic(auto, unfolding(crate::specs::ChooseLent::chosen))]
 #[unsafe(no_mangle)]
 pub extern "C" fn p3p_choose(
     poses: &[f64; 48],

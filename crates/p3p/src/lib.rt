@@ -1,5 +1,5 @@
-// The functions of this repository for C and Rust to link (`rt lib` here), each under a plain name
-// with the prefix p3p_. include/p3p.h declares them.
+//! The functions of this repository for C and Rust to link (`rt lib` here), each under a plain name
+//! with the prefix p3p_. include/p3p.h declares them.
 #![tactic(auto)]
 
 pub mod about_first;

@@ -1,7 +1,7 @@
-// A plate, the operations on it and the solve with it, over lent memory (document 02, §4): nine
-// doubles of points, the squared edges 01, 02 and 12, nine of the inverse by columns, and beside
-// these 21 whether there is an inverse. Targets have the numbers 0, 1 and 2. A refusal writes
-// nothing, of a making too.
+//! A plate, the operations on it and the solve with it, over lent memory (document 02, §4): nine
+//! doubles of points, the squared edges 01, 02 and 12, nine of the inverse by columns, and beside
+//! these 21 whether there is an inverse. Targets have the numbers 0, 1 and 2. A refusal writes
+//! nothing, of a making too.
 ghost use Rattle.std.specs.Prelude.{◌≡◌};
 ghost use Rattle.lent_answers.specs.Solved.{poses_after, updates_after, lifted_after, count_after};
 ghost use Rattle.lent_answers.specs.Plated.{plate_after, inverse_after};
@@ -16,7 +16,8 @@ use plates::replace::replace;
 use plates::solve_plate::solve_plate;
 use plates::times_power::times_power;
 
-// The plate of three points. Returns 0 or 1.
+/// The plate of three points. Returns 0 or 1.
+#[tactic(auto, unfolding(crate::specs::PlateLent::made))]
 #[unsafe(no_mangle)]
 pub extern "C" fn p3p_plate_make(
     points: &[f64; 9],
@@ -32,7 +33,8 @@ pub extern "C" fn p3p_plate_make(
     write_plate(make(world), plate, has_inverse)
 }
 
-// The plate with one target moved to a point. Returns 0, 1 or 11.
+/// The plate with one target moved to a point. Returns 0, 1 or 11.
+#[tactic(auto, unfolding(crate::specs::PlateLent::replaced))]
 #[unsafe(no_mangle)]
 pub extern "C" fn p3p_plate_replace(
     plate: &mut [f64; 21],
@@ -60,7 +62,8 @@ pub extern "C" fn p3p_plate_replace(
     write_plate(replace(old, target, moved), plate, has_inverse)
 }
 
-// The plate with each of two targets in the other's place. Returns 0 or 11.
+/// The plate with each of two targets in the other's place. Returns 0 or 11.
+#[tactic(auto, unfolding(crate::specs::PlateLent::exchanged))]
 #[unsafe(no_mangle)]
 pub extern "C" fn p3p_plate_exchange(
     plate: &mut [f64; 21],
@@ -84,7 +87,8 @@ pub extern "C" fn p3p_plate_exchange(
     write_plate(exchange(old, first, second), plate, has_inverse)
 }
 
-// The plate with all coordinates multiplied by 2^k. Returns 0, 12 or 13.
+/// The plate with all coordinates multiplied by 2^k. Returns 0, 12 or 13.
+#[tactic(auto, unfolding(crate::specs::PlateLent::scaled))]
 #[unsafe(no_mangle)]
 pub extern "C" fn p3p_plate_scale(plate: &mut [f64; 21], has_inverse: &mut u32, k: i32) -> u32
     ensures value { result
@@ -103,7 +107,8 @@ pub extern "C" fn p3p_plate_scale(plate: &mut [f64; 21], has_inverse: &mut u32, 
     write_plate(times_power(old, k), plate, has_inverse)
 }
 
-// The poses of a plate and the bearings to its targets. Returns 0, or the refusal number.
+/// The poses of a plate and the bearings to its targets. Returns 0, or the refusal number.
+#[tactic(auto, unfolding(crate::specs::PlateLent::solved_plate))]
 #[unsafe(no_mangle)]
 pub extern "C" fn p3p_plate_solve(
     plate: &[f64; 21],

@@ -1,6 +1,6 @@
-// What a moved target would do, over lent memory (document 02, §5). The plate is only read. The
-// squared edges are always written: plus zeros where the replacement is refused, else those that
-// would be stored.
+//! What a moved target would do, over lent memory (document 02, §5). The plate is only read. The
+//! squared edges are always written: plus zeros where the replacement is refused, else those that
+//! would be stored.
 ghost use Rattle.std.specs.Prelude.{◌≡◌};
 ghost use Rattle.lent_answers.specs.Solved.{poses_after, updates_after, lifted_after, count_after};
 ghost use Rattle.p3p.specs.PreviewLent.{previewed, edge_entries};
@@ -8,8 +8,8 @@ ghost use Rattle.p3p.specs.PreviewLent.{previewed, edge_entries};
 use crate::plate::{p3p_plate_replace, p3p_plate_solve};
 use lent_answers::plate::{plate_entries, plate_in};
 
-// The poses of a plate with one target moved to a point, and the squared edges that would be
-// stored. Returns 0, or the refusal number: the replacement's, then the solve's.
+/// The poses of a plate with one target moved to a point, and the squared edges that would be
+/// stored. Returns 0, or the refusal number: the replacement's, then the solve's.
 #[unsafe(no_mangle)]
 pub extern "C" fn p3p_plate_preview(
     plate: &[f64; 21],

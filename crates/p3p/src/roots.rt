@@ -1,4 +1,4 @@
-// The root finders. Each returns 0, or the refusal number of document 01 with nothing written.
+//! The root finders. Each returns 0, or the refusal number of document 01 with nothing written.
 ghost use Rattle.std.specs.Prelude.{◌≡◌, [], ◌∷◌};
 ghost use Rattle.polynomial.specs.Answer.{number};
 ghost use Rattle.cubic_parts.specs.FastCbrt.{fast_cbrt};
@@ -7,9 +7,11 @@ ghost use Rattle.polynomial.specs.Quadratic.{quadratic_real_monic};
 ghost use Rattle.p3p.specs.RootsLent.{roots_after, kind_after};
 
 use polynomial::Roots;
+use polynomial::cubic::polished_cubic_root;
+use polynomial::quadratic::quadratic_real_monic;
 
-// The two roots of x^2 + b*x + c, not sorted, and their kind: 0 for two roots, 1 for a discriminant
-// of zero, 2 for one that was lifted to zero.
+/// The two roots of x^2 + b*x + c, not sorted, and their kind: 0 for two roots, 1 for a discriminant
+/// of zero, 2 for one that was lifted to zero.
 #[unsafe(no_mangle)]
 pub extern "C" fn p3p_quadratic_kind(
     b: f64,
@@ -24,8 +26,7 @@ pub extern "C" fn p3p_quadratic_kind(
         (first.old ∷ second.old ∷ []) }
     ensures kind_after { kind.new ≡ kind_after (quadratic_real_monic b c).value kind.old }
 {
-    let roots = polynomial::quadratic::quadratic_real_monic(b, c);
-    match roots {
+    match quadratic_real_monic(b, c) {
         Roots::Two(x, y) => {
             *first = x;
             *second = y;
@@ -50,7 +51,7 @@ pub extern "C" fn p3p_quadratic_kind(
     }
 }
 
-// The two roots alone.
+/// The two roots alone.
 #[unsafe(no_mangle)]
 pub extern "C" fn p3p_quadratic(b: f64, c: f64, first: &mut f64, second: &mut f64) -> u32
     ensures value { result ≡ number (quadratic_real_monic b c).value }
@@ -62,15 +63,14 @@ pub extern "C" fn p3p_quadratic(b: f64, c: f64, first: &mut f64, second: &mut f6
     p3p_quadratic_kind(b, c, first, second, &mut kind)
 }
 
-// One real root of x^3 + b*x^2 + c*x + d.
+/// One real root of x^3 + b*x^2 + c*x + d.
 #[unsafe(no_mangle)]
 pub extern "C" fn p3p_cubic(b: f64, c: f64, d: f64, root: &mut f64) -> u32
     ensures value { result ≡ number (polished_cubic_root b c d).value }
     ensures root_after { root.new ∷ []
         ≡ roots_after (polished_cubic_root b c d).value (root.old ∷ []) }
 {
-    let roots = polynomial::cubic::polished_cubic_root(b, c, d);
-    match roots {
+    match polished_cubic_root(b, c, d) {
         Roots::One(x) => {
             *root = x;
             0
@@ -81,7 +81,7 @@ pub extern "C" fn p3p_cubic(b: f64, c: f64, d: f64, root: &mut f64) -> u32
     }
 }
 
-// The cube root of Cardano's formula.
+/// The cube root of Cardano's formula.
 #[unsafe(no_mangle)]
 pub extern "C" fn p3p_fast_cbrt(x: f64) -> f64
     ensures { result ≡ (fast_cbrt x).value }

@@ -1,4 +1,4 @@
-// The single operations.
+//! The single operations.
 ghost use Rattle.std.specs.Prelude.{◌≡◌};
 ghost use Rattle.ieee754.specs.CopySign as CopySign;
 ghost use Rattle.ieee754.specs.Fma as Fma;
@@ -44,13 +44,12 @@ pub extern "C" fn p3p_max(x: f64, y: f64) -> f64
     ieee754::max::max(x, y)
 }
 
-// -1, 0 or 1: x is below y, equal to it, or above it.
+/// -1, 0 or 1: x is below y, equal to it, or above it.
 #[unsafe(no_mangle)]
 pub extern "C" fn p3p_total_cmp(x: f64, y: f64) -> i32
     ensures { result ≡ ordering (total_cmp x y) }
 {
-    let order = ieee754::total_cmp::total_cmp(x, y);
-    match order {
+    match ieee754::total_cmp::total_cmp(x, y) {
         Ordering::Less => -1,
         Ordering::Equal => 0,
         Ordering::Greater => 1,

@@ -1,4 +1,4 @@
-// The solve of eighteen doubles over lent arrays.
+//! The solve of eighteen doubles over lent arrays.
 ghost use Rattle.std.specs.Prelude.{◌≡◌};
 ghost use Rattle.lent_answers.specs.Solved.{poses_after, updates_after, lifted_after, count_after};
 ghost use Rattle.p3p.specs.SolveLent.{solved};
@@ -6,8 +6,9 @@ ghost use Rattle.p3p.specs.SolveLent.{solved};
 use frames::lent::{bearings_at, world_at};
 use lent_answers::solved::write_answer;
 
-// The poses of three world points and the bearings to them. Returns 0, or the refusal number with
-// nothing written.
+/// The poses of three world points and the bearings to them. Returns 0, or the refusal number with
+/// nothing written.
+#[tactic(auto, unfolding(crate::specs::SolveLent::solved))]
 #[unsafe(no_mangle)]
 pub extern "C" fn p3p_solve(
     input: &[f64; 18],

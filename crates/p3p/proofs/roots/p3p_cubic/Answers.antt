@@ -13,6 +13,6 @@ returns-in-Refused-clause-root_after c =
 
 pub returns-in_default : goal.returns-in_default
 returns-in_default c =
-    let found = c.polished_cubic_root-roots in
+    let found = c.polished_cubic_root in
     let one = count_at (cubic-one _ _ _) (sym found.ensures) in
     absurd (no-cubic-pair found.result c.in_default.not-One c.in_default.not-Refused one)
