@@ -1,4 +1,4 @@
-//! The solve about the first target and its choice, over lent arrays (document 02, §1).
+//! The solve about the first target and its choice, over lent arrays.
 ghost use Rattle.std.specs.Prelude.{◌≡◌};
 ghost use Rattle.choice.specs.Answer.{number};
 ghost use Rattle.lent_answers.specs.Solved.{poses_after, updates_after, lifted_after, count_after};

@@ -1,4 +1,4 @@
-//! A plate, the operations on it and the solve with it, over lent memory (document 02, §4): nine
+//! A plate, the operations on it and the solve with it, over lent memory: nine
 //! doubles of points, the squared edges 01, 02 and 12, nine of the inverse by columns, and beside
 //! these 21 whether there is an inverse. Targets have the numbers 0, 1 and 2. A refusal writes
 //! nothing, of a making too.

@@ -1,4 +1,4 @@
-//! What a moved target would do, over lent memory (document 02, §5). The plate is only read. The
+//! What a moved target would do, over lent memory. The plate is only read. The
 //! squared edges are always written: plus zeros where the replacement is refused, else those that
 //! would be stored.
 ghost use Rattle.std.specs.Prelude.{◌≡◌};

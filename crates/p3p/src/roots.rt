@@ -1,4 +1,4 @@
-//! The root finders. Each returns 0, or the refusal number of document 01 with nothing written.
+//! The root finders. Each returns 0, or its refusal number with nothing written.
 ghost use Rattle.std.specs.Prelude.{◌≡◌, [], ◌∷◌};
 ghost use Rattle.polynomial.specs.Answer.{number};
 ghost use Rattle.cubic_parts.specs.FastCbrt.{fast_cbrt};
@@ -10,8 +10,8 @@ use polynomial::Roots;
 use polynomial::cubic::polished_cubic_root;
 use polynomial::quadratic::quadratic_real_monic;
 
-/// The two roots of x^2 + b*x + c, not sorted, and their kind: 0 for two roots, 1 for a discriminant
-/// of zero, 2 for one that was lifted to zero.
+/// The two roots of x^2 + b*x + c, not sorted, and their kind: 0 for two roots, 1 for a
+/// discriminant of zero, 2 for one that was lifted to zero.
 #[unsafe(no_mangle)]
 pub extern "C" fn p3p_quadratic_kind(
     b: f64,

@@ -212,7 +212,7 @@ class Expressions(Marks):
         if "::".join(path) in CONSTANTS:
             return path[0]
         if path[-1] == "from" and path[0] in INTEGERS | {"f64"}:
-            return self.given([], path[0])
+            return self.given([], path[0]) if self.sees("(") else "closure"
         if len(path) == 1 and path[0] in visible and not self.sees("("):
             self.mark_operand(visible[path[0]], path[0], start, end)
             return visible[path[0]]

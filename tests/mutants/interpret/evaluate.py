@@ -86,6 +86,8 @@ class Evaluate:
             return NONE
         if "::".join(path) in CONSTANTS:
             return CONSTANTS["::".join(path)]
+        if len(path) > 1 and built_in(path):
+            return built_in(path)
         target = self.named(path)
         if target in self.world.consts:
             return self.constant(target)
