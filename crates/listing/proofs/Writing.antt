@@ -2,29 +2,28 @@
 -- nothing.
 use Rattle.std.proofs.Common.{◌≡◌, ℕ, ◌+◌, ◌-◌, ◌<◌, ◌≤◌, List, ◌++◌, length, arith}
 use borrow.Author.Tests.{le-leb, lt-leb}
-use Rattle.listing.specs.Bytes.{capacity}
 use Rattle.listing.specs.Lines.{Written}
 
-pub not_written : (room : ℕ) (before text : List ℕ)
+pub not_written : (capacity room : ℕ) (before text : List ℕ)
     → capacity - length before < room
-    → Written room before text before
-not_written room before text short =
+    → Written capacity room before text before
+not_written capacity room before text short =
     let no = lt-leb room (capacity - length before) short in
     record { holds = rw no; fits = omega arith }
 
-pub written : (room : ℕ) (before text after : List ℕ)
+pub written : (capacity room : ℕ) (before text after : List ℕ)
     → length before + room ≤ capacity
     → after ≡ before ++ text
     → length after ≤ length before + room
-    → Written room before text after
-written room before text after left e short =
+    → Written capacity room before text after
+written capacity room before text after left e short =
     let yes = le-leb room (capacity - length before) (omega arith) in
     record { holds = rw yes e; fits = short }
 
 -- with room the text is put
-pub appended : {room : ℕ} {before text after : List ℕ}
-    → Written room before text after
+pub appended : {capacity room : ℕ} {before text after : List ℕ}
+    → Written capacity room before text after
     → length before + room ≤ capacity
     → after ≡ before ++ text
-appended {room} {before} w left =
+appended {capacity} {room} {before} w left =
     let yes = le-leb room (capacity - length before) (omega arith) in rw yes at w.holds

@@ -1,4 +1,4 @@
--- Text as bytes, and how many bytes of a listing can wait.
+-- Text as bytes.
 use Rattle.std.specs.Prelude.{ℕ, List, [], ◌∷◌}
 use Prim.Native.Char.{code}
 use Prim.Native.String.{String, [] as []ₛ, ◌∷◌ as ◌∷ₛ◌}
@@ -7,7 +7,3 @@ use Prim.Native.String.{String, [] as []ₛ, ◌∷◌ as ◌∷ₛ◌}
 abbrev pub ascii : String → List ℕ
 ascii []ₛ = []
 ascii (c ∷ₛ cs) = code c ∷ ascii cs
-
--- how many bytes the buffer of what waits to be written holds
-abbrev pub capacity : ℕ
-capacity = 16384

@@ -5,7 +5,7 @@ use Rattle.std.specs.Float.Ieee.{to_bits}
 use Rattle.listing.specs.Types.{Vector3, Pose, Slot, Line, Header, Refused, Accepted, PoseLine}
 use Rattle.listing.specs.Types.{Stop, End}
 use Rattle.linalg.specs.Matrices.{column0, column1, column2}
-use Rattle.listing.specs.Bytes.{ascii, capacity}
+use Rattle.listing.specs.Bytes.{ascii}
 use Rattle.listing.specs.Digits.{hexadecimal}
 
 -- a space and a double's bit pattern; that of a NaN, which no pose holds, is 7ff8000000000000
@@ -60,13 +60,13 @@ text (PoseLine n j slot) = pose_line n j slot
 text (Stop r n) = stop_line r n
 text (End n) = end_line n
 
--- whether so many bytes are left behind those that wait
-abbrev pub roomy : ℕ → List ℕ → Bool
-roomy room waiting = leb room (capacity - length waiting)
+-- whether so many bytes are left behind those that wait, of a buffer of so many
+abbrev pub roomy : (capacity room : ℕ) → List ℕ → Bool
+roomy capacity room waiting = leb room (capacity - length waiting)
 
--- What waits after a text has been put behind what waited, which is done where there is room.
--- Without room nothing is put. The room is a number of bytes that every such text fits in: 320 for
--- a line.
-pub record Written (room : ℕ) (before text after : List ℕ) : Type 0 where
-  pub holds : after ≡ cond (roomy room before) (before ++ text) before
+-- What waits after a text has been put behind what waited, which is done where there is room in a
+-- buffer of so many bytes. Without room nothing is put. The room is a number of bytes that every
+-- such text fits in: 320 for a line.
+pub record Written (capacity room : ℕ) (before text after : List ℕ) : Type 0 where
+  pub holds : after ≡ cond (roomy capacity room before) (before ++ text) before
   pub fits : length after ≤ length before + room

@@ -1,11 +1,10 @@
 //! Numbers in decimal and in hexadecimal.
 ghost use Rattle.std.specs.Prelude.{◌≡◌, ◌+◌, ◌<◌, ◌≤◌, ◌++◌, length, decimal};
-ghost use Rattle.listing.specs.Bytes.{capacity};
 ghost use Rattle.listing.specs.Digits.{hexadecimal};
 ghost use Rattle.listing.specs.Digits.{glyph as Digits·glyph};
 
-use crate::Buffer;
 use crate::put::put_text;
+use arrayvec::ArrayVec;
 
 // The character of a digit below 16.
 fn glyph(digit: u8) -> u8
@@ -20,8 +19,8 @@ fn glyph(digit: u8) -> u8
 }
 
 // Puts n in decimal, with no zero in front.
-pub(crate) fn put_number(out: &mut Buffer, n: u64)
-    requires { length out.old.items + 20 ≤ capacity }
+pub(crate) fn put_number<const N: usize>(out: &mut ArrayVec<u8, N>, n: u64)
+    requires { length out.old.items + 20 ≤ N }
     ensures text { out.new.items ≡ out.old.items ++ decimal n }
     ensures upper_bound { length out.new.items ≤ length out.old.items + 20 }
 {
@@ -30,8 +29,8 @@ pub(crate) fn put_number(out: &mut Buffer, n: u64)
 }
 
 // Puts the sixteen hexadecimal digits of a word.
-pub(crate) fn put_word(out: &mut Buffer, word: u64)
-    requires { length out.old.items + 16 ≤ capacity }
+pub(crate) fn put_word<const N: usize>(out: &mut ArrayVec<u8, N>, word: u64)
+    requires { length out.old.items + 16 ≤ N }
     ensures text { out.new.items ≡ out.old.items ++ hexadecimal 16 word }
     ensures value { length out.new.items ≡ length out.old.items + 16 }
 {

@@ -1,12 +1,11 @@
 //! The lines of the listing.
 ghost use Rattle.std.specs.Prelude.{◌≡◌, ◌+◌, ◌≤◌, ◌++◌, length};
-ghost use Rattle.listing.specs.Bytes.{capacity};
 ghost use Rattle.listing.specs.Lines.{Written, text};
 
-use crate::Buffer;
 use crate::digits::put_number;
 use crate::put::put_text;
 use crate::words::put_words;
+use arrayvec::ArrayVec;
 use frames::pose::Pose;
 
 // A line has at most so many bytes.
@@ -41,8 +40,8 @@ pub enum Line {
 
 // Puts a line for which there is room.
 #[tactic(auto, unfolding(crate::specs::Lines::header_line, crate::specs::Lines::refused_line, crate::specs::Lines::accepted_line, crate::specs::Lines::mark_text, crate::specs::Lines::pose_line, crate::specs::Lines::stop_line, crate::specs::Lines::end_line))]
-fn put(out: &mut Buffer, line: Line)
-    requires { length out.old.items + 320 ≤ capacity }
+fn put<const N: usize>(out: &mut ArrayVec<u8, N>, line: Line)
+    requires { length out.old.items + 320 ≤ N }
     ensures text { out.new.items ≡ out.old.items ++ text line }
     ensures upper_bound { length out.new.items ≤ length out.old.items + 320 }
 {
@@ -103,8 +102,8 @@ fn put(out: &mut Buffer, line: Line)
 /// Puts a line behind what waits, or nothing where fewer than 320 bytes are left, which every line
 /// fits in.
 #[tactic(auto, using(crate::proofs::Writing::written, crate::proofs::Writing::not_written))]
-pub fn put_line(out: &mut Buffer, line: Line)
-    ensures { Written 320 out.old.items (text line) out.new.items }
+pub fn put_line<const N: usize>(out: &mut ArrayVec<u8, N>, line: Line)
+    ensures { Written N 320 out.old.items (text line) out.new.items }
 {
     if out.remaining_capacity() >= LINE {
         put(out, line);

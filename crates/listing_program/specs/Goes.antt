@@ -58,10 +58,10 @@ Goes size Closed state put waiting (Some after) = ⊥
 Goes size Closed state put waiting None = put
 
 -- one turn, of a buffer `input` of which so much as the state says has been read, and of a listing
--- of which `out` waits before it and `out'` after
-abbrev pub Steps : (input out out' : List ℕ) → State → Option State → Type 0
-Steps input out out' state turn =
+-- of which `out` waits before it and `out'` after, in a buffer of so many bytes
+abbrev pub Steps : (capacity : ℕ) → (input out out' : List ℕ) → State → Option State → Type 0
+Steps capacity input out out' state turn =
     let found = record_at (take (min state.filled (length input)) input) state.next in
     let lines = turn_lines state.ended state.listed ((state.listed + 1) % 2 ^ 64) found in
-    Goes (length input) (course_of (roomy 1600 out) state.ended found) state
-    (Written 1600 out lines out') out' turn
+    Goes (length input) (course_of (roomy capacity 1600 out) state.ended found) state
+    (Written capacity 1600 out lines out') out' turn

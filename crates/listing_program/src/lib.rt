@@ -8,7 +8,7 @@ pub mod command;
 mod run;
 pub mod stream;
 
-use listing::Buffer;
+use arrayvec::ArrayVec;
 use std::io::{Read, Write};
 use stream::Streams;
 
@@ -16,6 +16,7 @@ use stream::Streams;
 pub fn list<R: Read, W: Write, E: Write>(streams: &mut Streams<R, W, E>) {
     // 64 records, so that a record never lies across the buffer's end.
     let mut input = [0u8; 12480];
-    let mut out = Buffer::new();
+    // Some ten frames' lines.
+    let mut out = ArrayVec::<u8, 16384>::new();
     run::run(streams, &mut input, &mut out);
 }

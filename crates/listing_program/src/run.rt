@@ -4,7 +4,7 @@ ghost use Rattle.std.specs.Prelude.{◌≡◌, ◌%◌, length, take};
 ghost use Rattle.listing_program.specs.Goes.{Reads, Steps};
 
 use crate::stream::{Filling, Streams, fill, flush};
-use listing::Buffer;
+use arrayvec::ArrayVec;
 use listing::line::{Line, put_line};
 use listing_records::record::{Course, put_record};
 use std::io::{Read, Write};
@@ -55,13 +55,13 @@ fn read_on<R: Read, W, E: Write>(
 
 // One turn: what stands next in the input is listed, and the run goes on as that asks for. `None`
 // where it is over.
-fn step<R: Read, W: Write, E: Write>(
+fn step<R: Read, W: Write, E: Write, const N: usize>(
     streams: &mut Streams<R, W, E>,
     input: &mut [u8],
-    out: &mut Buffer,
+    out: &mut ArrayVec<u8, N>,
     state: State,
 ) -> Option<State>
-    ensures steps { Steps input.old out.old.items out.new.items state result }
+    ensures steps { Steps N input.old out.old.items out.new.items state result }
     ensures filled_kept { take state.filled input.new ≡ take state.filled input.old }
 {
     let State {
@@ -101,10 +101,10 @@ fn used_up<E: Write>(errors: &mut E) {
 
 // A proved loop has to end, and nothing says that the input does: the turns are counted, up to a
 // number that no run uses up. A record never lies across the end of the input's buffer.
-pub(crate) fn run<R: Read, W: Write, E: Write>(
+pub(crate) fn run<R: Read, W: Write, E: Write, const N: usize>(
     streams: &mut Streams<R, W, E>,
     input: &mut [u8],
-    out: &mut Buffer,
+    out: &mut ArrayVec<u8, N>,
 )
     requires { length input.old % 195 ≡ 0 }
 {

@@ -3,7 +3,6 @@ use Rattle.std.proofs.Common.{◌≡◌, ℕ, ◌+◌, ◌<◌, ◌≤◌, Bool,
 use Rattle.frames.proofs.Entries.{inside-same}
 use Rattle.frames.specs.Poses.{zero_pose}
 use Rattle.listing_records.specs.Types.{Pose}
-use Rattle.listing.specs.Bytes.{capacity}
 use Rattle.listing.specs.Lines.{Written, pose_line}
 use Rattle.listing.proofs.Writing.{appended}
 use Rattle.listing_records.specs.FrameLines.{pose_lines}
@@ -23,13 +22,13 @@ module _ (n : ℕ) (poses : List Pose) (updates : List ℕ) (lifted : List Bool)
   one_more k d h = rw (add-one, inside-same poses k d zero_pose h)
 
   -- after the first k lines the next one is put, for which there is room
-  pub next_put : (l l' l'' : List ℕ) (k : ℕ) (d : Pose)
+  pub next_put : (capacity : ℕ) (l l' l'' : List ℕ) (k : ℕ) (d : Pose)
       → k < length poses
       → length l' + 320 ≤ capacity
       → l' ≡ l ++ lines k
-      → Written 320 l' (line_at k d) l''
+      → Written capacity 320 l' (line_at k d) l''
       → l'' ≡ l ++ lines (k + 1)
-  next_put l l' l'' k d h room e w =
+  next_put capacity l l' l'' k d h room e w =
       appended w room
       ∙ ap (λ (x : List ℕ). x ++ line_at k d) e
       ∙ append_assoc l (lines k) (line_at k d)

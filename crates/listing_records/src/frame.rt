@@ -1,15 +1,14 @@
 //! The lines of a frame: its solve, the choice of a pose and the poses.
 ghost use Rattle.std.specs.Prelude.{◌≡◌, ◌+◌, ◌≤◌, ◌++◌, min, length};
 ghost use Rattle.choice.specs.Answer.{place};
-ghost use Rattle.listing.specs.Bytes.{capacity};
 ghost use Rattle.listing.specs.Lines.{Written};
 ghost use Rattle.listing_records.specs.FrameLines.{pose_lines, answer_lines, frame_lines};
 
+use arrayvec::ArrayVec;
 use choice::choose::{Best, choose};
 use frames::frame::Frame;
 use lambdatwist::solve::{Answer, solve};
 use linalg::vector3::Vector3;
-use listing::Buffer;
 use listing::line::{Line, Slot, put_line};
 
 // A frame has at most five lines, of at most 320 bytes.
@@ -23,8 +22,8 @@ fn place_of(choice: Option<Best>) -> u32
 }
 
 // Puts a line for each pose of an answer.
-fn put_poses(out: &mut Buffer, number: u64, answer: Answer)
-    requires { length out.old.items + 1280 ≤ capacity }
+fn put_poses<const N: usize>(out: &mut ArrayVec<u8, N>, number: u64, answer: Answer)
+    requires { length out.old.items + 1280 ≤ N }
     ensures text { out.new.items
         ≡ out.old.items
         ++ pose_lines number answer.poses answer.updates answer.lifted (min answer.count 4) }
@@ -49,8 +48,14 @@ fn put_poses(out: &mut Buffer, number: u64, answer: Answer)
 
 // Puts the lines of an answer of the solver, with the choice by the checking target.
 #[tactic(auto, using(listing::proofs::Writing::appended), unfolding(crate::specs::FrameLines::answer_lines))]
-fn put_answer(out: &mut Buffer, number: u64, answer: Answer, target: Vector3, bearing: Vector3)
-    requires { length out.old.items + 1600 ≤ capacity }
+fn put_answer<const N: usize>(
+    out: &mut ArrayVec<u8, N>,
+    number: u64,
+    answer: Answer,
+    target: Vector3,
+    bearing: Vector3,
+)
+    requires { length out.old.items + 1600 ≤ N }
     ensures text { out.new.items
         ≡ out.old.items ++ answer_lines number answer target bearing }
     ensures upper_bound { length out.new.items ≤ length out.old.items + 1600 }
@@ -80,8 +85,8 @@ fn put_answer(out: &mut Buffer, number: u64, answer: Answer, target: Vector3, be
 /// Puts the lines of a frame: its solve, and the answer. Where fewer than 1,600 bytes are left,
 /// which every frame's lines fit in, it puts nothing.
 #[tactic(auto, using(listing::proofs::Writing::written, listing::proofs::Writing::not_written), unfolding(crate::specs::FrameLines::frame_lines))]
-pub fn put_frame(out: &mut Buffer, number: u64, frame: Frame)
-    ensures { Written 1600 out.old.items (frame_lines number frame) out.new.items }
+pub fn put_frame<const N: usize>(out: &mut ArrayVec<u8, N>, number: u64, frame: Frame)
+    ensures { Written N 1600 out.old.items (frame_lines number frame) out.new.items }
 {
     if out.remaining_capacity() >= FRAME {
         let Frame {

@@ -2,12 +2,11 @@
 //! is cut short stop it, the rest go on to the next record.
 ghost use Rattle.std.specs.Prelude.{◌≡◌, ◌+◌, ◌≤◌, ◌++◌, length};
 ghost use Rattle.records.specs.Record.{record_at};
-ghost use Rattle.listing.specs.Bytes.{capacity};
 ghost use Rattle.listing.specs.Lines.{Written, roomy};
 ghost use Rattle.listing_records.specs.RecordLines.{turn_lines, turn_course, course_of};
 
 use crate::frame::{FRAME, put_frame};
-use listing::Buffer;
+use arrayvec::ArrayVec;
 use listing::line::{Line, put_line};
 use records::record::{Record, read};
 use records::refusal::RecordRefusal;
@@ -28,8 +27,14 @@ pub enum Course {
 // Puts the lines of what stands next in the input: the record `number`, after `listed` others.
 // Where more may still come, the input's end and a record that is cut short wait.
 #[tactic(auto, using(listing::proofs::Writing::appended), unfolding(crate::specs::RecordLines::turn_lines, crate::specs::RecordLines::turn_course, crate::specs::RecordLines::waits, crate::specs::RecordLines::record_lines, crate::specs::RecordLines::following))]
-fn put_found(out: &mut Buffer, ended: bool, listed: u64, number: u64, found: Record) -> Course
-    requires { length out.old.items + 1600 ≤ capacity }
+fn put_found<const N: usize>(
+    out: &mut ArrayVec<u8, N>,
+    ended: bool,
+    listed: u64,
+    number: u64,
+    found: Record,
+) -> Course
+    requires { length out.old.items + 1600 ≤ N }
     ensures text { out.new.items ≡ out.old.items ++ turn_lines ended listed number found }
     ensures upper_bound { length out.new.items ≤ length out.old.items + 1600 }
     ensures result_value { result ≡ turn_course ended found }
@@ -63,18 +68,18 @@ fn put_found(out: &mut Buffer, ended: bool, listed: u64, number: u64, found: Rec
 /// Puts the lines of what stands at `start` in the input, of which `input` is what has been read.
 /// Where fewer than 1,600 bytes are left, it puts nothing.
 #[tactic(auto, using(listing::proofs::Writing::written, listing::proofs::Writing::not_written), unfolding(crate::specs::RecordLines::course_of))]
-pub fn put_record(
+pub fn put_record<const N: usize>(
     input: &[u8],
     start: usize,
     ended: bool,
-    out: &mut Buffer,
+    out: &mut ArrayVec<u8, N>,
     listed: u64,
     number: u64,
 ) -> Course
-    ensures written { Written 1600 out.old.items
+    ensures written { Written N 1600 out.old.items
         (turn_lines ended listed number (record_at input.now start)) out.new.items }
     ensures result_value { result
-        ≡ course_of (roomy 1600 out.old.items) ended (record_at input.now start) }
+        ≡ course_of (roomy N 1600 out.old.items) ended (record_at input.now start) }
 {
     if out.remaining_capacity() < FRAME {
         return Course::Write;

@@ -4,7 +4,7 @@ use Rattle.listing_records.specs.FrameLines.{pose_lines}
 use Rattle.listing_records.proofs.frame.put_poses.Given as goal
 
 abbrev pub invariant-loop-index : goal.invariant-loop-index
-invariant-loop-index l = record {
+invariant-loop-index g l = record {
   placed :
       l.out.items
       ≡ l.initial.out.items
