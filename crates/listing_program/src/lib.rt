@@ -17,6 +17,6 @@ pub fn list<R: Read, W: Write, E: Write>(streams: &mut Streams<R, W, E>) {
     // 64 records, so that a record never lies across the buffer's end.
     let mut input = [0u8; 12480];
     // Some ten frames' lines.
-    let mut out = ArrayVec::<u8, 16384>::new();
+    let mut out: ArrayVec<u8, 16384> = ArrayVec::new();
     run::run(streams, &mut input, &mut out);
 }

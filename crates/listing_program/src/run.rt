@@ -1,6 +1,6 @@
 //! The run: records are listed one after another, what waits is written, and the input is read on,
 //! as each turn asks for.
-ghost use Rattle.std.specs.Prelude.{◌≡◌, ◌%◌, length, take};
+ghost use Rattle.std.specs.Prelude.{◌≡◌, ◌%◌, ◌≤◌, length, take};
 ghost use Rattle.listing_program.specs.Goes.{Reads, Steps};
 
 use crate::stream::{Filling, Streams, fill, flush};
@@ -100,13 +100,14 @@ fn used_up<E: Write>(errors: &mut E) {
 }
 
 // A proved loop has to end, and nothing says that the input does: the turns are counted, up to a
-// number that no run uses up. A record never lies across the end of the input's buffer.
+// number that no run uses up. A record never lies across the end of the input's buffer, and a
+// frame's lines always fit the listing's.
 pub(crate) fn run<R: Read, W: Write, E: Write, const N: usize>(
     streams: &mut Streams<R, W, E>,
     input: &mut [u8],
     out: &mut ArrayVec<u8, N>,
 )
-    requires { length input.old % 195 ≡ 0 }
+    requires { (length input.old % 195 ≡ 0) × (1600 ≤ N) }
 {
     put_line(out, Line::Header);
     let mut state = State::default();

@@ -22,13 +22,13 @@ module _ (n : ℕ) (poses : List Pose) (updates : List ℕ) (lifted : List Bool)
   one_more k d h = rw (add-one, inside-same poses k d zero_pose h)
 
   -- after the first k lines the next one is put, for which there is room
-  pub next_put : (capacity : ℕ) (l l' l'' : List ℕ) (k : ℕ) (d : Pose)
+  pub next_put : {capacity : ℕ} (l l' l'' : List ℕ) (k : ℕ) (d : Pose)
       → k < length poses
       → length l' + 320 ≤ capacity
       → l' ≡ l ++ lines k
       → Written capacity 320 l' (line_at k d) l''
       → l'' ≡ l ++ lines (k + 1)
-  next_put capacity l l' l'' k d h room e w =
+  next_put l l' l'' k d h room e w =
       appended w room
       ∙ ap (λ (x : List ℕ). x ++ line_at k d) e
       ∙ append_assoc l (lines k) (line_at k d)

@@ -28,6 +28,9 @@ class Any:
     """Stands for any value."""
 
 
+AMPLE = 1 << 14  # of a capacity that is a parameter, as much as an input needs
+
+
 class Prefix(list):
     """Stands for an array that begins so."""
 
@@ -65,7 +68,7 @@ class Notation(Cursor):
             out = self.array(kind[1])
             if len(kind) > 3 and not isinstance(out, Prefix):
                 out = Bounded(out)
-                out.capacity = int(kind[3])
+                out.capacity = int(kind[3]) if kind[3].isdecimal() else AMPLE
             return out
         if kind[0] == "tuple":
             return tuple(self.fields(dict(enumerate(kind[1]))).values())

@@ -14,8 +14,8 @@ loop-index-preserved g c =
     let four : length c.args.answer.poses ≡ 4 = search rules in
     let inside : loop.index < length c.args.answer.poses =
     omega (arith, min-le_right c.args.answer.count 4) in
-    let room : length loop.out.items + 320 ≤ g.N = omega arith in
+    let room : length loop.out.items + 320 ≤ g.row.N = omega arith in
     record {
-      placed = next_put _ c.args.number _ _ _ _ _ _ loop.index _ inside room loop.invariant.placed c.put_line.ensures;
+      placed = next_put c.args.number _ _ _ _ _ _ loop.index _ inside room loop.invariant.placed c.put_line.ensures;
       bound = omega (arith, c.put_line.ensures.fits);
     }
