@@ -92,8 +92,14 @@ pub(crate) fn poses(
     ensures filled { held result slots.new updates.new lifted.new
         ≡ (poses input measured world_inverse found).value }
 {
+    // the count and the slots apart: a copy of all of `found` would link memcpy
+    let Candidates {
+        count: depth_count,
+        slots: candidates,
+        ..
+    } = found;
     let mut count = 0;
-    for candidate in &found.slots[..found.count] {
+    for candidate in &candidates[..depth_count] {
         if let Some(kept) = pose_turn(input, measured, world_inverse, candidate.depths) {
             store(kept, candidate.lifted, count, slots, updates, lifted);
             count += 1;
