@@ -41,8 +41,8 @@ impl Candidates {
     /// The depths of a root appended, where it has some and there is room; `lifted` says it of the
     /// pair of depth ratios.
     #[tactic(auto, unfolding(crate::specs::Pushed::pushed, crate::specs::DepthSlots::candidate))]
-    pub fn push(mut self, depths: Option<Vector3>, lifted: bool) -> Self
-        ensures { result ≡ pushed self depths lifted }
+    pub fn push(&mut self, depths: Option<Vector3>, lifted: bool)
+        ensures { self.new ≡ pushed self.old depths lifted }
     {
         if let Some(depths) = depths {
             if self.count < 4 {
@@ -53,6 +53,5 @@ impl Candidates {
                 self.count += 1;
             }
         }
-        self
     }
 }

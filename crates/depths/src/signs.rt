@@ -30,15 +30,16 @@ pub fn sign_turn(
 }
 
 /// What a chart gives, appended.
-fn push_both(found: Candidates, both: ChartDepths) -> Candidates
-    ensures { result ≡ pushed_both found both }
+fn push_both(found: &mut Candidates, both: ChartDepths)
+    ensures { found.new ≡ pushed_both found.old both }
 {
     let ChartDepths {
         lifted,
         first,
         second,
     } = both;
-    found.push(first, lifted).push(second, lifted)
+    found.push(first, lifted);
+    found.push(second, lifted);
 }
 
 /// `lifted` says it of the eigenvalues.
@@ -59,5 +60,8 @@ pub fn candidates(
     let triangle = Triangle { squares, factors };
     let plus = sign_turn(triangle, first_column, second_column, ratio);
     let minus = sign_turn(triangle, first_column, second_column, -ratio);
-    push_both(push_both(Candidates::none(lifted), plus), minus)
+    let mut found = Candidates::none(lifted);
+    push_both(&mut found, plus);
+    push_both(&mut found, minus);
+    found
 }
