@@ -12,8 +12,8 @@
 - The code of p3p itself, which is in no such library, has no / and no %.
 
 Each of the four must find fault with something: with a function of C that divides numbers of 128
-bits, with one that divides words, with crate listing_records, over listing, which writes decimal
-numbers, and with the code of listing.
+bits, with one that divides words, with the first division of crate ieee754_parts made one by ten,
+and with the code of listing.
 
 Run it at the repository's root, after `rt lib` in crates/p3p and `rt check` in crates/poses. Needs
 cc, nm and objdump."""
@@ -59,26 +59,27 @@ def below(crate):
     return sorted(found)
 
 
-def divisors(crates):
-    """Of each division of whole numbers in the libraries of these crates, its function and
-    divisor."""
-    found = []
-    for crate in crates:
-        path = f"crates/{crate}/out/rlib/{crate}.rlib/toolchain/mir.json"
-        with open(path, encoding="utf-8") as f:
-            rest = [(json.load(f), crate)]
-        while rest:
-            node, function = rest.pop()
-            if isinstance(node, list):
-                if node and isinstance(node[0], str) and "::" in node[0]:
-                    function = node[0]
-                rest += [(part, function) for part in node]
-            elif isinstance(node, dict):
-                kind = node.get("Op2", [None])[0]
-                if isinstance(kind, dict) and {*kind} & {"Div", "Rem"}:
-                    found.append((function, node["Op2"][2]))
-                rest += [(part, function) for part in node.values()]
-    return found
+def program(crate):
+    """What is compiled of a crate, as its library holds it."""
+    path = f"crates/{crate}/out/rlib/{crate}.rlib/toolchain/mir.json"
+    with open(path, encoding="utf-8") as f:
+        return json.load(f)
+
+
+def divisions(tree, crate):
+    """Each division of whole numbers in what is compiled of a crate, with its function."""
+    rest = [(tree, crate)]
+    while rest:
+        node, function = rest.pop()
+        if isinstance(node, list):
+            if node and isinstance(node[0], str) and "::" in node[0]:
+                function = node[0]
+            rest += [(part, function) for part in node]
+        elif isinstance(node, dict):
+            kind = node.get("Op2", [None])[0]
+            if isinstance(kind, dict) and {*kind} & {"Div", "Rem"}:
+                yield function, node["Op2"]
+            rest += [(part, function) for part in node.values()]
 
 
 def is_power_of_two(divisor):
@@ -86,8 +87,18 @@ def is_power_of_two(divisor):
     return "Int" in divisor and int(divisor["Int"]["value"]).bit_count() == 1
 
 
-def other_divisors(crates):
-    return [each for each in divisors(crates) if not is_power_of_two(each[1])]
+def other_divisors(trees):
+    """The divisors that are no powers of two, by crate's name and what is compiled of it."""
+    found = [each for crate, tree in trees.items() for each in divisions(tree, crate)]
+    return [(function, parts[2]) for function, parts in found if not is_power_of_two(parts[2])]
+
+
+def by_ten(crate):
+    """What is compiled of a crate, with its first division made one by ten."""
+    tree = program(crate)
+    _, parts = next(divisions(tree, crate))
+    parts[2] = {"Int": {"width": 64, "value": 10}}
+    return {crate: tree}
 
 
 def own_divisions(crate):
@@ -119,7 +130,10 @@ def main():
         looks = {
             "nm": (linked(library) - LINKED, linked(dividing) - LINKED),
             "objdump": (dividing_instructions(library), dividing_instructions(dividing)),
-            "mir.json": (other_divisors(below("p3p")), other_divisors(below("listing_records"))),
+            "mir.json": (
+                other_divisors({crate: program(crate) for crate in below("p3p")}),
+                other_divisors(by_ten("ieee754_parts")),
+            ),
             "src": (own_divisions("p3p"), own_divisions("listing")),
         }
     faults = [f"{tool}: {each}" for tool, (found, _) in looks.items() for each in found]
