@@ -36,7 +36,8 @@ def functions():
         for m in form.finditer(text):
             at = end_of(text, m.end() - 1)
             parameters = text[m.end():at - 1]
-            body = re.compile(r'\n *\{\n|\{ ?\}|;').search(text, at)
+            body = re.compile(r'(\s*->\s*[^{};\n]+?)? \{\n').match(text, at)
+            body = body or re.compile(r'\n *\{\n|\{ ?\}|;').search(text, at)
             if not body or body.group() == ';':
                 continue
             begin = body.start() + body.group().index('{')
