@@ -121,21 +121,25 @@ fn compare<R: Files + Print, E: Write, S: Replayed>(
     replay_words::report::report(&mut io::writer(rt), path.as_bytes(), compared, differ)
 }
 
-// An error is that of the first read or write that fails: what was written before stays written,
-// and nothing after it is done. No other error comes.
-fn main(rt: HostRuntime) -> io::Result<()> {
-    let mut errors = rt.stderr();
-    compare(&rt, &mut errors, Operation::Sqrt, "control/sqrt.bin")?;
-    compare(&rt, &mut errors, Stage::Frame, "control/frame.bin")?;
-    compare(&rt, &mut errors, SolvedAbout, "control/about.bin")?;
-    compare(&rt, &mut errors, ChosenAbout, "control/choice_about.bin")?;
+// The files of records that must differ. An error is that of the first read or write that fails:
+// what was written before stays written, and nothing after it is done. No other error comes.
+fn control<R: Files + Print, E: Write>(rt: &R, errors: &mut E) -> io::Result<()> {
+    compare(rt, errors, Operation::Sqrt, "control/sqrt.bin")?;
+    compare(rt, errors, Stage::Frame, "control/frame.bin")?;
+    compare(rt, errors, SolvedAbout, "control/about.bin")?;
+    compare(rt, errors, ChosenAbout, "control/choice_about.bin")?;
     for (handling, path) in [
         (Handling::Scale, "control/plate_scale.bin"),
         (Handling::Solve, "control/plate_solve.bin"),
         (Handling::Preview, "control/plate_preview.bin"),
     ] {
-        compare(&rt, &mut errors, handling, path)?;
+        compare(rt, errors, handling, path)?;
     }
+    Ok(())
+}
+
+// The files of the answers of exact arithmetic. Of errors the same holds as of `control`.
+fn exact<R: Files + Print, E: Write>(rt: &R, errors: &mut E) -> io::Result<()> {
     for (operation, path) in [
         (Operation::Abs, "exact/abs.bin"),
         (Operation::Copysign, "exact/copysign.bin"),
@@ -148,14 +152,19 @@ fn main(rt: HostRuntime) -> io::Result<()> {
         (Operation::Cbrt, "exact/cbrt.bin"),
         (Operation::Fma, "exact/fma.bin"),
     ] {
-        compare(&rt, &mut errors, operation, path)?;
+        compare(rt, errors, operation, path)?;
     }
+    Ok(())
+}
+
+// The files of the Rust's answers, and of reference/'s. Of errors the same holds as of `control`.
+fn rust<R: Files + Print, E: Write>(rt: &R, errors: &mut E) -> io::Result<()> {
     for (finder, path) in [
         (Finder::Quadratic, "rust/quadratic.bin"),
         (Finder::Cubic, "rust/cubic.bin"),
         (Finder::FastCbrt, "rust/fast_cbrt.bin"),
     ] {
-        compare(&rt, &mut errors, finder, path)?;
+        compare(rt, errors, finder, path)?;
     }
     for (piece, path) in [
         (Piece::Refine, "rust/refine.bin"),
@@ -166,7 +175,7 @@ fn main(rt: HostRuntime) -> io::Result<()> {
         (Piece::Edges, "rust/edges.bin"),
         (Piece::Push, "rust/push.bin"),
     ] {
-        compare(&rt, &mut errors, piece, path)?;
+        compare(rt, errors, piece, path)?;
     }
     for (stage, path) in [
         (Stage::Eig, "rust/eig.bin"),
@@ -174,11 +183,11 @@ fn main(rt: HostRuntime) -> io::Result<()> {
         (Stage::Condition, "rust/condition.bin"),
         (Stage::Frame, "rust/frame.bin"),
     ] {
-        compare(&rt, &mut errors, stage, path)?;
+        compare(rt, errors, stage, path)?;
     }
-    compare(&rt, &mut errors, Chosen, "rust/choice.bin")?;
-    compare(&rt, &mut errors, SolvedAbout, "rust/about.bin")?;
-    compare(&rt, &mut errors, ChosenAbout, "rust/choice_about.bin")?;
+    compare(rt, errors, Chosen, "rust/choice.bin")?;
+    compare(rt, errors, SolvedAbout, "rust/about.bin")?;
+    compare(rt, errors, ChosenAbout, "rust/choice_about.bin")?;
     for (handling, path) in [
         (Handling::Make, "rust/plate_make.bin"),
         (Handling::Replace, "rust/plate_replace.bin"),
@@ -187,7 +196,15 @@ fn main(rt: HostRuntime) -> io::Result<()> {
         (Handling::Solve, "rust/plate_solve.bin"),
         (Handling::Preview, "rust/plate_preview.bin"),
     ] {
-        compare(&rt, &mut errors, handling, path)?;
+        compare(rt, errors, handling, path)?;
     }
     Ok(())
+}
+
+// Of errors the same holds as of `control`.
+fn main(rt: HostRuntime) -> io::Result<()> {
+    let mut errors = rt.stderr();
+    control(&rt, &mut errors)?;
+    exact(&rt, &mut errors)?;
+    rust(&rt, &mut errors)
 }
