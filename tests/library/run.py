@@ -1,6 +1,6 @@
 #!/usr/bin/env python3
 """What the library asks of others: the functions that it links, and no division of whole numbers
-(document 02, §3).
+(docs/changes/03-cube-root-start.md).
 
     tests/library/run.py LIBRARY     LIBRARY: the path of libp3p.a
 
