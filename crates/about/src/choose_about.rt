@@ -2,7 +2,7 @@
 ghost use Rattle.std.specs.Prelude.{◌≡◌};
 ghost use Rattle.about.specs.ChooseAbout.{choose_about};
 
-use choice::choose::{Best, choose};
+use choice::choose::{Choice, choose};
 use frames::pose::Pose;
 use linalg::vector3::Vector3;
 
@@ -15,7 +15,7 @@ pub fn choose_about(
     origin: Vector3,
     target: Vector3,
     bearing: Vector3,
-) -> Option<Best>
+) -> Choice
     ensures { result ≡ (choose_about poses count origin target bearing).value }
 {
     choose(poses, count, target - origin, bearing)

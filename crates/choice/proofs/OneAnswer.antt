@@ -19,7 +19,7 @@ use Rattle.choice.specs.Choose.{lower, better, choose_among, choose}
 use Rattle.choice.specs.OneAnswer.{Each, stated, depth, squared_tangent}
 use Rattle.choice.specs.OneAnswer.{HasFiniteScore, NoFiniteScore, Above, NotBelow, Lowest}
 use Rattle.choice.specs.OneAnswer.{OneAnswer, refused-10, chosen}
-use Rattle.choice.specs.Types.{Vector3, Pose, Best, Option, Some, None}
+use Rattle.choice.specs.Types.{Vector3, Pose, Best, Option, Result, Ok, Err}
 
 -- ---- what holds of each
 pub each-also : (P Q : Pose → Type 0)
@@ -36,7 +36,7 @@ each_append P (x ∷ xs) ys h k = (h.0, each_append P xs ys h.1 k)
 
 module _ (target bearing : Vector3) where
   -- ---- a pose has a finite score, which is taken up, or it has none
-  scored-either : (P : Option Best → Type 0) (pose : Pose) (best : Option Best) (place : ℕ)
+  scored-either : (P : Result Best ℕ → Type 0) (pose : Pose) (best : Result Best ℕ) (place : ℕ)
       → ((x : Float) → HasFiniteScore target bearing pose x → P (lower best place x))
       → (NoFiniteScore target bearing pose → P best)
       → P (better best place (score pose target bearing).value)
@@ -56,9 +56,9 @@ module _ (target bearing : Vector3) where
       (λ n. g (not-ahead n))
 
   -- ---- the choice among the poses passed so far
-  abbrev Among : List Pose → Option Best → Type 0
-  Among passed None = Each (NoFiniteScore target bearing) passed
-  Among passed (Some best) = Lowest target bearing passed best.place best.score
+  abbrev Among : List Pose → Result Best ℕ → Type 0
+  Among passed (Err n) = (n ≡ 10) × Each (NoFiniteScore target bearing) passed
+  Among passed (Ok best) = Lowest target bearing passed best.place best.score
 
   module _ (passed : List Pose) (pose : Pose) where
     abbrev more : List Pose
@@ -124,29 +124,29 @@ module _ (target bearing : Vector3) where
         (best, after))
 
     -- with a finite score, from the choice so far
-    with-score : (best : Option Best) (x : Float)
+    with-score : (best : Result Best ℕ) (x : Float)
         → HasFiniteScore target bearing pose x
         → Among passed best
         → Among more (lower best (length passed + 1) x)
     unfolding lower
-    with-score None x s h =
+    with-score (Err n) x s h =
         takes x s
         (each-also (NoFiniteScore target bearing) (Above target bearing x)
-        (λ _ none y t. absurd (none y t)) passed h)
-    with-score (Some held) x s w =
+        (λ _ none y t. absurd (none y t)) passed h.1)
+    with-score (Ok held) x s w =
         either_way (Among more) (lt x held.score) (λ l. takes x s (below_each x s.score-finite w l))
         (λ n. stays w (λ y t.
         subst (λ (z : Float). T (not (lt z held.score))) (s.score-is ∙ sym t.score-is) n))
 
-    without : (best : Option Best)
+    without : (best : Result Best ℕ)
         → NoFiniteScore target bearing pose
         → Among passed best
         → Among more best
-    without None none h =
-        each_append (NoFiniteScore target bearing) passed (pose ∷ []) h (none, tt)
-    without (Some held) none w = stays w (λ y t. absurd (none y t))
+    without (Err n) none h =
+        (h.0, each_append (NoFiniteScore target bearing) passed (pose ∷ []) h.1 (none, tt))
+    without (Ok held) none w = stays w (λ y t. absurd (none y t))
 
-    with-one : (best : Option Best)
+    with-one : (best : Result Best ℕ)
         → Among passed best
         → Among more (better best (length passed + 1) (score pose target bearing).value)
     with-one best h =
@@ -154,7 +154,7 @@ module _ (target bearing : Vector3) where
         (λ none. without best none h)
 
   -- ---- all poses
-  with_all : (poses passed : List Pose) (best : Option Best)
+  with_all : (poses passed : List Pose) (best : Result Best ℕ)
       → Among passed best
       → Among (passed ++ poses) (choose_among poses (length passed) target bearing best).value
   unfolding choose_among
@@ -167,11 +167,11 @@ module _ (target bearing : Vector3) where
       rw (append_assoc passed (pose ∷ []) poses, longer) at rest
 
   -- what held of all the poses, of the answer's number, place and score
-  concluded : (poses : List Pose) (count : ℕ) (answer : Option Best)
+  concluded : (poses : List Pose) (count : ℕ) (answer : Result Best ℕ)
       → Among (stated poses count) answer
       → OneAnswer target bearing poses count answer
-  concluded poses count None h = refused-10 h refl refl refl
-  concluded poses count (Some best) w =
+  concluded poses count (Err n) h = refused-10 h.1 h.0 refl refl
+  concluded poses count (Ok best) w =
       let n = min count 4 in
       let among : length w.before + length (w.best ∷ w.after) ≡ min n (length poses) =
       sym (length-append w.before (w.best ∷ w.after))
@@ -186,4 +186,4 @@ module _ (target bearing : Vector3) where
       → OneAnswer target bearing poses count (choose poses count target bearing).value
   unfolding choose
   one_answer poses count =
-      concluded poses count _ (with_all (take (min count 4) poses) [] None tt)
+      concluded poses count _ (with_all (take (min count 4) poses) [] (Err 10) (refl, tt))

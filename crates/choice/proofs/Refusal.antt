@@ -1,6 +1,6 @@
 -- Number 10 is given exactly where no pose has a finite score, so where all poses lie behind. It
 -- follows from `one_answer`. Assumes nothing.
-use mathlib.Core.Path.{◌≡◌, refl, subst}
+use mathlib.Core.Path.{◌≡◌, ap, subst}
 use mathlib.Core.List.{List, [], ◌∷◌, ◌++◌}
 use Prim.Native.Nat.{ℕ}
 use native.Mathlib.Omega.{arith}
@@ -11,7 +11,7 @@ use Rattle.choice.specs.Answer.{number, no_score}
 use Rattle.choice.specs.Choose.{choose}
 use Rattle.choice.specs.OneAnswer.{Each, stated, depth, NoFiniteScore, IsBehind}
 use Rattle.choice.specs.OneAnswer.{OneAnswer, refused-10, chosen}
-use Rattle.choice.specs.Types.{Vector3, Pose, Best, Option, Some, None}
+use Rattle.choice.specs.Types.{Vector3, Pose, Best, Result, Ok, Err}
 use Rattle.choice.proofs.OneAnswer.{each-also, one_answer}
 
 -- what holds of each holds of the one between
@@ -22,17 +22,17 @@ each-between P [] y zs h = h.0
 each-between P (x ∷ xs) y zs h = each-between P xs y zs h.1
 
 module _ (target bearing : Vector3) (poses : List Pose) (count : ℕ) where
-  only-10 : (answer : Option Best)
+  only-10 : (answer : Result Best ℕ)
       → OneAnswer target bearing poses count answer
       → Each (NoFiniteScore target bearing) (stated poses count)
       → answer ≡ no_score
-  only-10 None (refused-10 h is-10 p v) none = refl
-  only-10 (Some best) (refused-10 h is-10 p v) none = absurd (omega (arith, is-10))
+  only-10 (Err n) (refused-10 h is-10 p v) none = ap Err is-10
+  only-10 (Ok best) (refused-10 h is-10 p v) none = absurd (omega (arith, is-10))
   only-10 answer (chosen lowest w n a b c v) none =
       absurd (each-between (NoFiniteScore target bearing) w.before w.best w.after
       (subst (Each (NoFiniteScore target bearing)) w.poses-are none) lowest w.has-score)
 
-  none-has-score : (answer : Option Best)
+  none-has-score : (answer : Result Best ℕ)
       → OneAnswer target bearing poses count answer
       → number answer ≡ 10
       → Each (NoFiniteScore target bearing) (stated poses count)

@@ -6,9 +6,9 @@ use lib.ListN.{length, get_or, drop}
 use Rattle.std.proofs.lemmas.List.{drop_more}
 use Rattle.choice.specs.Score.{score}
 use Rattle.choice.specs.Choose.{better, choose_among}
-use Rattle.choice.specs.Types.{Vector3, Pose, Best, Option}
+use Rattle.choice.specs.Types.{Vector3, Pose, Best, Result}
 
-pub turn : (poses : List Pose) (at : ℕ) (d : Pose) (target bearing : Vector3) (best : Option Best)
+pub turn : (poses : List Pose) (at : ℕ) (d : Pose) (target bearing : Vector3) (best : Result Best ℕ)
     → at < length poses
     → let next = better best (at + 1) (score (get_or poses at d) target bearing).value in
     (choose_among (drop (at + 1) poses) (at + 1) target bearing next).value

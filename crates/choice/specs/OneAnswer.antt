@@ -9,7 +9,7 @@ use Rattle.ieee754.specs.Literal.{plus_zero}
 use Rattle.linalg.specs.Vectors.{dot, norm_squared, cross}
 use Rattle.frames.specs.Poses.{camera_point}
 use Rattle.choice.specs.Answer.{number, place, values}
-use Rattle.choice.specs.Types.{Vector3, Pose, Best, Option}
+use Rattle.choice.specs.Types.{Vector3, Pose, Best, Result}
 
 -- what holds of each pose
 abbrev pub Each : (Pose → Type 0) → List Pose → Type 0
@@ -69,7 +69,7 @@ module _ (target bearing : Vector3) where
   -- ---- number 10, with no place and no score, where no pose has a finite score, and only there;
   --      otherwise the place of the lowest, which is one of the poses and at most four, and that
   --      score
-  pub data OneAnswer (poses : List Pose) (count : ℕ) (answer : Option Best) : Type 0 where
+  pub data OneAnswer (poses : List Pose) (count : ℕ) (answer : Result Best ℕ) : Type 0 where
     refused-10 : Each NoFiniteScore (stated poses count)
         → number answer ≡ 10
         → place answer ≡ 0

@@ -18,19 +18,22 @@ pub struct Best {
     pub score: f64,
 }
 
-/// The refusal number of a choice: 10 where no pose has a finite score, and 0 where one is chosen.
-pub fn number(choice: Option<Best>) -> u32
+/// The chosen pose, or the number of the refusal.
+pub type Choice = Result<Best, u32>;
+
+/// The refusal number of a choice, and 0 where a pose is chosen.
+pub fn number(choice: Choice) -> u32
     ensures { result ≡ Answer.number choice }
 {
     match choice {
-        Some(_) => 0,
-        None => 10,
+        Ok(_) => 0,
+        Err(refusal) => refusal,
     }
 }
 
 /// A finite score beside the choice so far: the lower one, and the earlier on a tie.
 #[tactic(auto, unfolding(crate::specs::Choose::lower))]
-pub fn lower(best: Option<Best>, place: u32, value: f64) -> Option<Best>
+pub fn lower(best: Choice, place: u32, value: f64) -> Choice
     ensures { result ≡ Choose.lower best place value }
 {
     let next = Best {
@@ -38,14 +41,14 @@ pub fn lower(best: Option<Best>, place: u32, value: f64) -> Option<Best>
         score: value,
     };
     match best {
-        None => Some(next),
-        Some(held) => Some(if value < held.score { next } else { held }),
+        Err(_) => Ok(next),
+        Ok(held) => Ok(if value < held.score { next } else { held }),
     }
 }
 
 /// The choice so far with one pose more, which takes it where its score is finite and the lowest.
 #[tactic(auto, unfolding(crate::specs::Choose::better))]
-pub fn better(best: Option<Best>, place: u32, scored: Option<f64>) -> Option<Best>
+pub fn better(best: Choice, place: u32, scored: Option<f64>) -> Choice
     ensures { result ≡ Choose.better best place scored }
 {
     match scored {
@@ -54,13 +57,13 @@ pub fn better(best: Option<Best>, place: u32, scored: Option<f64>) -> Option<Bes
     }
 }
 
-/// The choice among the first `count` poses, and `None` where none of them has a finite score.
+/// The choice among the first `count` poses, and `Err(10)` where none of them has a finite score.
 #[tactic(auto, using(crate::proofs::Turns::turn), unfolding(crate::specs::Choose::choose, crate::specs::Choose::choose_among))]
-pub fn choose(poses: [Pose; 4], count: u32, target: Vector3, bearing: Vector3) -> Option<Best>
+pub fn choose(poses: [Pose; 4], count: u32, target: Vector3, bearing: Vector3) -> Choice
     ensures { result ≡ (Choose.choose poses count target bearing).value }
 {
     let n = at_most_four(count) as usize;
-    let mut best = None;
+    let mut best = Err(10);
     for (at, pose) in poses[..n].iter().enumerate() {
         best = better(best, at as u32 + 1, score(*pose, target, bearing));
     }

@@ -58,7 +58,7 @@ fn main(rt: HostRuntime) -> io::Result<()> {
     // poses put the target behind the camera.
     let target = point(0.5, 0.375, 0.125);
     let bearing = seen(0.075, 0.25, 2.4);
-    let Some(best) = choose(answer.poses, answer.count, target, bearing) else {
+    let Ok(best) = choose(answer.poses, answer.count, target, bearing) else {
         return println!(rt; "no pose chosen");
     };
     if !confirmed(best.score) {

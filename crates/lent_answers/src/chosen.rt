@@ -3,7 +3,7 @@ ghost use Rattle.std.specs.Prelude.{◌≡◌};
 ghost use Rattle.choice.specs.Answer.{number};
 ghost use Rattle.lent_answers.specs.Chosen.{poses_in, best_after, score_after};
 
-use choice::choose::{Best, number};
+use choice::choose::{Choice, number};
 use frames::lent::pose_at;
 use frames::pose::Pose;
 
@@ -21,12 +21,12 @@ pub fn poses_in(xs: &[f64; 48]) -> [Pose; 4]
 }
 
 /// Writes a choice. Returns its refusal number, 0 where it was written.
-pub fn write_choice(choice: Option<Best>, best: &mut u32, score: &mut f64) -> u32
+pub fn write_choice(choice: Choice, best: &mut u32, score: &mut f64) -> u32
     ensures value { result ≡ number choice }
     ensures best_after { best.new ≡ best_after choice best.old }
     ensures score_after { score.new ≡ score_after choice score.old }
 {
-    if let Some(chosen) = choice {
+    if let Ok(chosen) = choice {
         *best = chosen.place;
         *score = chosen.score;
     }

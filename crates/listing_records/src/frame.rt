@@ -5,7 +5,7 @@ ghost use Rattle.listing.specs.Lines.{Written};
 ghost use Rattle.listing_records.specs.FrameLines.{pose_lines, answer_lines, frame_lines};
 
 use arrayvec::ArrayVec;
-use choice::choose::{Best, choose};
+use choice::choose::{Choice, choose};
 use frames::frame::Frame;
 use lambdatwist::solve::{Answer, solve};
 use linalg::vector3::Vector3;
@@ -15,7 +15,7 @@ use listing::line::{Line, Slot, put_line};
 pub(crate) const FRAME: usize = 1600;
 
 // The place of the chosen pose, from 1, or 0 where none is chosen.
-fn place_of(choice: Option<Best>) -> u32
+fn place_of(choice: Choice) -> u32
     ensures { result ≡ place choice }
 {
     choice.map_or(0, |best| best.place)

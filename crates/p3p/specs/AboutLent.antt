@@ -6,7 +6,7 @@ use Rattle.frames.specs.Lent.{vector_at, world_at, bearings_at}
 use Rattle.about.specs.SolveAbout.{solve_about}
 use Rattle.about.specs.ChooseAbout.{choose_about}
 use Rattle.lent_answers.specs.Chosen.{poses_in}
-use Rattle.p3p.specs.Types.{Vector3, Best, Option, AnswerAbout}
+use Rattle.p3p.specs.Types.{Vector3, Best, Result, AnswerAbout}
 
 -- the input: three world points and then three bearings
 unfoldable pub solved_about : List Float → AnswerAbout
@@ -20,7 +20,7 @@ unfoldable pub origin_after : AnswerAbout → List Float → List Float
 origin_after about held = point_after about.answer.refusal about.origin held
 
 unfoldable pub chosen_about : List Float → ℕ → List Float → List Float → List Float
-    → Option Best
+    → Result Best ℕ
 chosen_about poses count origin target bearing =
     (choose_about (poses_in poses) count (vector_at origin 0) (vector_at target 0) (vector_at bearing 0)
     ).value

@@ -4,8 +4,8 @@ use Rattle.std.specs.Prelude.{ℕ, List, Float}
 use Rattle.frames.specs.Lent.{vector_at}
 use Rattle.choice.specs.Choose.{choose}
 use Rattle.lent_answers.specs.Chosen.{poses_in}
-use Rattle.p3p.specs.Types.{Best, Option}
+use Rattle.p3p.specs.Types.{Best, Result}
 
-unfoldable pub chosen : List Float → ℕ → List Float → List Float → Option Best
+unfoldable pub chosen : List Float → ℕ → List Float → List Float → Result Best ℕ
 chosen poses count target bearing =
     (choose (poses_in poses) count (vector_at target 0) (vector_at bearing 0)).value

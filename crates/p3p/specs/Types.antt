@@ -1,5 +1,5 @@
 -- The structs and enums that definitions and laws of this crate name: those of the crates below.
-pub use Rattle.std.specs.Prelude.{Option}
+pub use Rattle.std.specs.Prelude.{Result}
 pub use Rattle.std.specs.declared.cmp.Ordering.{Ordering}
 pub use Rattle.std.specs.declared.cmp.Ordering.TheVariants.{Less, Equal, Greater}
 pub use Rattle.linalg.specs.declared.vector3.Vector3.{Vector3}

@@ -7,15 +7,15 @@ use Rattle.choice.specs.Choose.{choose}
 use Rattle.replay_words.specs.Words.{word_at}
 use Rattle.replay_records.specs.Contents.{narrow, vector_at, poses_at}
 use Rattle.replay_records.specs.Agreement.{number_agrees, double_agrees}
-use Rattle.replay_pieces.specs.Types.{Best, Option, Some, None}
+use Rattle.replay_pieces.specs.Types.{Best, Result, Ok, Err}
 
 -- the number, the place and the score begin at `at`
-abbrev pub choice_agrees : Option Best → List ℕ → ℕ → Bool
-choice_agrees (Some best) s at =
-    number_agrees (number (Some best)) s at
+abbrev pub choice_agrees : Result Best ℕ → List ℕ → ℕ → Bool
+choice_agrees (Ok best) s at =
+    number_agrees (number (Ok best)) s at
     && number_agrees best.place s (at + 8)
     && double_agrees best.score s (at + 16)
-choice_agrees None s at = number_agrees (number None) s at
+choice_agrees (Err n) s at = number_agrees (number (Err n)) s at
 
 unfoldable pub choice_holds : List ℕ → Bool
 choice_holds s =

@@ -4,7 +4,7 @@
 ghost use Rattle.std.specs.Prelude.{◌≡◌, ◌≤◌};
 ghost use Rattle.replay_pieces.specs.ChoiceRecords.{choice_agrees, choice_holds, choice_words};
 
-use choice::choose::{Best, choose, number};
+use choice::choose::{Best, Choice, choose, number};
 use frames::pose::Pose;
 use linalg::vector3::Vector3;
 use replay_records::Record;
@@ -14,14 +14,14 @@ use replay_records::replayed::Replayed;
 
 /// Whether the refusal number, the place and the score, which begin at `at`, are the choice's: the
 /// records of the choice about a point have them too.
-pub fn choice_agrees(choice: Option<Best>, s: &Record, at: usize) -> bool
+pub fn choice_agrees(choice: Choice, s: &Record, at: usize) -> bool
     requires { at ≤ 744 }
     ensures { result ≡ choice_agrees choice s.now at }
 {
     let refusal = number(choice).agrees(s, at);
     match choice {
-        Some(Best { place, score }) => refusal & place.agrees(s, at + 8) & score.agrees(s, at + 16),
-        None => refusal,
+        Ok(Best { place, score }) => refusal & place.agrees(s, at + 8) & score.agrees(s, at + 16),
+        Err(_) => refusal,
     }
 }
 

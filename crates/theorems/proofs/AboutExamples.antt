@@ -20,7 +20,7 @@ use Rattle.theorems.specs.GridPlates.{grid_target_bearing, grid_answer, wide_pla
 use Rattle.theorems.specs.GridPlates.{overflow_plate}
 use Rattle.theorems.specs.ScalingRule.{TimesWorld, DoubleWorld}
 use Rattle.theorems.specs.ScalingRuleAbout.{AlikeAbout, ScalingRuleAbout}
-use Rattle.theorems.specs.Types.{Some}
+use Rattle.theorems.specs.Types.{Ok}
 use Rattle.theorems.proofs.ScalingExamples.{RegularAnd, rule-applies}
 use Rattle.theorems.proofs.ScalingRuleAbout.{scaling-rule-about}
 use Rattle.theorems.proofs.WorldTests.{double-world, times-world}
@@ -33,7 +33,7 @@ grid-answer = refl
 pub grid-choice :
     (choose_about grid_answer.answer.poses 2 grid_answer.origin grid_target grid_target_bearing
     ).value
-    ≡ Some (record { place = 2; score = double 0x3988_9553_0baa_e54d })
+    ≡ Ok (record { place = 2; score = double 0x3988_9553_0baa_e54d })
 unfolding evaluated grid_in_metres grid_answer grid_target grid_target_bearing vector_at pose_at
 grid-choice = refl
 

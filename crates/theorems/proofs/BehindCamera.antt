@@ -14,14 +14,14 @@ use Rattle.choice.proofs.Evaluated.{evaluated as choice-evaluated}
 use Rattle.theorems.specs.BehindCamera.{behind_plate, behind_bearings, behind_target}
 use Rattle.theorems.specs.BehindCamera.{behind_bearing, pose_behind, true_pose, behind_answer}
 use Rattle.theorems.specs.BehindCamera.{choice_before}
-use Rattle.theorems.specs.Types.{Some}
+use Rattle.theorems.specs.Types.{Ok}
 
 pub behind-answer : (solve behind_plate behind_bearings).value ≡ behind_answer
 unfolding evaluated behind_plate behind_bearings behind_answer pose_behind true_pose vector_at pose_at
 behind-answer = refl
 
 pub choice-before :
-    choice_before ≡ Some (record { place = 1; score = double 0x3ddc_b322_3cc3_0a37 })
+    choice_before ≡ Ok (record { place = 1; score = double 0x3ddc_b322_3cc3_0a37 })
 unfolding choice-evaluated choice_before behind_target behind_bearing pose_behind true_pose vector_at
     pose_at
 choice-before = refl
@@ -32,7 +32,7 @@ target-behind = tt
 
 pub choice-now :
     (choose behind_answer.poses behind_answer.count behind_target behind_bearing).value
-    ≡ Some (record { place = 2; score = double 0x3df1_7d2a_6a1a_02fc })
+    ≡ Ok (record { place = 2; score = double 0x3df1_7d2a_6a1a_02fc })
 unfolding choice-evaluated behind_answer behind_target behind_bearing pose_behind true_pose vector_at
     pose_at
 choice-now = refl

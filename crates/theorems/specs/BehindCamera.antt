@@ -4,7 +4,7 @@
 -- a camera's is. The answer is the Rust's (reference/inputs/theorems.txt): the second pose is the
 -- one that the frame was made with, the first puts the target 0.55 metres behind the camera. What
 -- the choices among the two take is proofs/BehindCamera.
-use Rattle.std.specs.Prelude.{false, [], ◌∷◌, Float}
+use Rattle.std.specs.Prelude.{ℕ, false, [], ◌∷◌, Float}
 use Rattle.ieee754.specs.Literal.{double}
 use Rattle.linalg.specs.Vectors.{vector}
 use Rattle.frames.specs.Points.{points, rays}
@@ -14,7 +14,7 @@ use Rattle.choice.specs.Choose.{better}
 use Rattle.choice.specs.OneAnswer.{squared_tangent}
 use Rattle.theorems.specs.Answers.{bit_pose}
 use Rattle.theorems.specs.Types.{Vector3, World, Bearings, Pose, Answer}
-use Rattle.theorems.specs.Types.{Best, Option, Some}
+use Rattle.theorems.specs.Types.{Best, Option, Some, Result}
 
 -- (640, 1456, 28), (860, -1383, -18), (-670, -1162, 14)
 unfoldable pub behind_plate : World
@@ -80,7 +80,7 @@ behind_answer = record {
 }
 
 -- document 01's choice among the two: each has a score, wherever it puts the target
-unfoldable pub choice_before : Option Best
+unfoldable pub choice_before : Result Best ℕ
 choice_before =
     let score : Pose → Option Float
     = λ pose. Some (squared_tangent behind_target behind_bearing pose) in

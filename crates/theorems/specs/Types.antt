@@ -1,6 +1,6 @@
 -- The structs and enums that definitions and laws of this crate name: those of std and of the
 -- crates below.
-pub use Rattle.std.specs.Prelude.{Option, Some, None}
+pub use Rattle.std.specs.Prelude.{Option, Some, None, Result, Ok}
 pub use Rattle.linalg.specs.declared.matrix3.Matrix3.{Matrix3}
 pub use Rattle.linalg.specs.declared.vector3.Vector3.{Vector3}
 pub use Rattle.frames.specs.declared.bearings.Bearings.{Bearings}

@@ -153,6 +153,7 @@ NAMES = {
         "◌&&◌": (2, both), "◌||◌": (2, lambda a, b: bool(a) or bool(b)),
         "[]": (0, ()), "◌∷◌": (2, lambda x, xs: (x, *xs)),
         "Some": (1, lambda x: ("Some", x)), "None": (0, ("None",)),
+        "Ok": (1, lambda x: ("Ok", x)), "Err": (1, lambda e: ("Err", e)),
         **NATURAL,
     },
     "Rattle.std.specs.declared.cmp.Ordering.TheVariants": {
