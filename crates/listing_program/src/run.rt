@@ -6,7 +6,7 @@ ghost use Rattle.listing_program.specs.Goes.{Reads, Steps};
 use crate::stream::{Filling, Streams, fill, flush};
 use arrayvec::ArrayVec;
 use listing::line::{Line, put_line};
-use listing_records::record::{Course, put_record};
+use listing_records::record::{Course, append_record};
 use std::io::{Read, Write};
 
 /// How far the run has come.
@@ -72,7 +72,7 @@ fn step<R: Read, W: Write, E: Write, const N: usize>(
     } = state;
     let number = listed.wrapping_add(1);
     let ready = filled.min(input.len());
-    match put_record(&input[..ready], next, ended, out, listed, number) {
+    match append_record(&input[..ready], next, ended, out, listed, number) {
         Course::Write => {
             flush(streams, out.as_slice())?;
             out.clear();

@@ -2,3 +2,4 @@
 pub mod Types
 pub mod FrameLines
 pub mod RecordLines
+pub mod Places

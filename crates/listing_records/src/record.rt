@@ -4,6 +4,7 @@ ghost use Rattle.std.specs.Prelude.{◌≡◌, ◌+◌, ◌≤◌, ◌++◌, len
 ghost use Rattle.records.specs.Record.{record_at};
 ghost use Rattle.listing.specs.Lines.{Written, roomy};
 ghost use Rattle.listing_records.specs.RecordLines.{turn_lines, turn_course, course_of};
+ghost use Rattle.listing_records.specs.Places.{Stored, WrittenAt, roomy_at};
 
 use crate::frame::{FRAME, put_frame};
 use arrayvec::ArrayVec;
@@ -23,6 +24,10 @@ pub enum Course {
     /// The closing line was put: the run is over.
     Closed,
 }
+
+/// The position after what was put, and how the run goes on.
+#[derive(Clone, Copy, Debug, PartialEq, Eq)]
+pub struct Listed(pub usize, pub Course);
 
 // Puts the lines of what stands next in the input: the record `number`, after `listed` others.
 // Where more may still come, the input's end and a record that is cut short wait.
@@ -65,10 +70,10 @@ fn put_found<const N: usize>(
     }
 }
 
-/// Puts the lines of what stands at `start` in the input, of which `input` is what has been read.
-/// Where fewer than 1,600 bytes are left, it puts nothing.
+/// Puts the lines of what stands at `start` in the input, of which `input` is what has been read,
+/// behind what `out` holds. Where fewer than 1,600 bytes are left, it puts nothing.
 #[tactic(auto, using(listing::proofs::Writing::written, listing::proofs::Writing::not_written), unfolding(crate::specs::RecordLines::course_of))]
-pub fn put_record<const N: usize>(
+pub fn append_record<const N: usize>(
     input: &[u8],
     start: usize,
     ended: bool,
@@ -85,4 +90,41 @@ pub fn put_record<const N: usize>(
         return Course::Write;
     }
     put_found(out, ended, listed, number, read(input, start))
+}
+
+// Stores bytes from a position on, and returns the next one.
+#[tactic(auto, using(crate::proofs::Places::stored))]
+fn store(out: &mut [u8], at: usize, bytes: &[u8]) -> usize
+    requires { at + length bytes.now ≤ length out.old }
+    ensures { Stored out.old at bytes.now result out.new }
+{
+    let end = at + bytes.len();
+    out[at..end].copy_from_slice(bytes);
+    end
+}
+
+/// Puts the lines that `append_record` puts into a slice of any length, from `at` on; its other
+/// bytes stay. Where fewer than 1,600 bytes are left from `at` on, it puts nothing and returns
+/// `at`.
+#[tactic(auto, using(crate::proofs::Places::not_written_at), unfolding(crate::specs::RecordLines::course_of))]
+pub fn put_record(
+    input: &[u8],
+    start: usize,
+    ended: bool,
+    out: &mut [u8],
+    at: usize,
+    listed: u64,
+    number: u64,
+) -> Listed
+    ensures written { WrittenAt 1600 out.old at
+        (turn_lines ended listed number (record_at input.now start)) result.0 out.new }
+    ensures result_value { result.1
+        ≡ course_of (roomy_at 1600 out.old at) ended (record_at input.now start) }
+{
+    if out.len().saturating_sub(at) < FRAME {
+        return Listed(at, Course::Write);
+    }
+    let mut lines: ArrayVec<u8, FRAME> = ArrayVec::new();
+    let course = append_record(input, start, ended, &mut lines, listed, number);
+    Listed(store(out, at, lines.as_slice()), course)
 }
