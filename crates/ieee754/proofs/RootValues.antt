@@ -1,12 +1,12 @@
 -- Laws of `round_root`, `sqrt` and `cbrt` as functions of a value: at the degree 1 `round_root` is
 -- `round` (`round_root-one`), only the value of its fraction counts (`round_root-same`), and so the
--- cube root of a double goes by the double's value (`cbrt-zero`, `cbrt-of`, `cbrt-neg`). Assumes
--- nothing.
+-- root of a double goes by the double's value (`sqrt-zero`, `sqrt-of`, `sqrt_negative`,
+-- `cbrt-zero`, `cbrt-of`, `cbrt-neg`). Assumes nothing.
 use Prim.Native.Nat.compare
 use Prim.Native.Nat.{ℕ, zero, suc, ◌+◌, ◌-◌, ◌*◌, ◌/◌, ◌%◌, ◌^◌, ◌<◌, compare}
 use Prim.Native.Nat.{Ordering}
 use mathlib.Core.Path.{◌≡◌, refl, sym, ap, ◌∙◌}
-use mathlib.Core.Bool.{Bool, true, false, not, cond}
+use mathlib.Core.Bool.{Bool, true, false, not, cond, true≢false, false≢true}
 use native.Mathlib.Nat.{add-zero, add-suc, mul_assoc, mul_right_comm, one-mul, zero-lt-suc, mul-pos}
 use native.Mathlib.Nat.{div-add-mod', div-one}
 use native.Mathlib.Omega.{arith}
@@ -18,7 +18,7 @@ use lib.Ieee.{units, round, neg}
 use lib.Ieee.Fits.{up_pos, down_pos, round_is}
 use lib.Ieee.Exact.{HasValue}
 use lib.Ieee.Nearest.{div_same}
-use Rattle.ieee754.specs.Root.{root, round_root, cbrt}
+use Rattle.ieee754.specs.Root.{root, round_root, sqrt, cbrt}
 use Rattle.ieee754_parts.proofs.Nearest.{compare_same}
 use Rattle.ieee754.proofs.PowerLaws.{pow-one}
 use Rattle.ieee754.proofs.RootLaws.{dropped, dropped-drops, kept, core, round_root-is}
@@ -121,9 +121,34 @@ by_zero op z (fin t (suc m) e) s a c A C v = absurd (no-digits m e a c A C v.1)
 by_zero op z nan s a c A C v = elim v [ ]
 by_zero op z (inf _) s a c A C v = elim v [ ]
 
+pub sqrt-zero : (x : Float) (s : Bool) (a c : ℕ) → a ≡ 0 → 0 < c → HasValue x s a c → x ≡ sqrt x
+unfolding sqrt
+sqrt-zero = by_zero sqrt (λ t e. refl)
+
 pub cbrt-zero : (x : Float) (s : Bool) (a c : ℕ) → a ≡ 0 → 0 < c → HasValue x s a c → x ≡ cbrt x
 unfolding cbrt
 cbrt-zero = by_zero cbrt (λ t e. refl)
+
+pub sqrt-of : (x : Float) (a c : ℕ)
+    → 0 < a
+    → 0 < c
+    → HasValue x false a c
+    → sqrt x ≡ round_root 2 binary64 false a c
+unfolding sqrt
+sqrt-of (fin true m e) a c A C v = absurd (true≢false v.0)
+sqrt-of (fin false zero e) a c A C v = absurd (no_zero e a c A v.1)
+sqrt-of (fin false (suc m) e) a c A C v =
+    round_root-same 2 binary64 false (suc m * up e) (down e) a c (down_pos e) C v.1
+sqrt-of nan a c A C v = elim v [ ]
+sqrt-of (inf _) a c A C v = elim v [ ]
+
+pub sqrt_negative : (x : Float) (a c : ℕ) → 0 < a → HasValue x true a c → sqrt x ≡ nan
+unfolding sqrt
+sqrt_negative (fin true zero e) a c A v = absurd (no_zero e a c A v.1)
+sqrt_negative (fin true (suc m) e) a c A v = refl
+sqrt_negative (fin false m e) a c A v = absurd (false≢true v.0)
+sqrt_negative nan a c A v = elim v [ ]
+sqrt_negative (inf _) a c A v = elim v [ ]
 
 pub cbrt-of : (x : Float) (s : Bool) (a c : ℕ)
     → 0 < a
