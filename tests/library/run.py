@@ -6,14 +6,19 @@
 
 - It links memset alone (nm).
 - No instruction of it divides whole numbers (objdump).
-- In the programs that are compiled, the crates below p3p as their libraries hold them (out/rlib of
-  each: toolchain/mir.json), each divisor of whole numbers is a power of two, so that the compiler
-  makes a shift or a mask of it.
+- In the programs that are compiled, the crates below p3p by crates.txt as their libraries hold them
+  (out/rlib of each: toolchain/mir.json), each divisor of whole numbers is a power of two, so that
+  the compiler makes a shift or a mask of it. Each crate of the repository of which LIBRARY has a
+  function by name is among them.
 - The code of p3p itself, which is in no such library, has no / and no %.
+
+Of the language's crates that the library holds, byteorder below records, the out folders have no
+compiled program: of these the instructions alone are looked at.
 
 Each of the four must find fault with something: with a function of C that divides numbers of 128
 bits, with one that divides words, with the first division of crate ieee754_parts made one by ten,
-and with the code of listing.
+there alone among all that are below p3p, whose line of crates.txt does not name it, and with the
+code of listing.
 
 Run it at the repository's root, after `rt lib` in crates/p3p and `rt check` in crates/poses. Needs
 cc, nm and objdump."""
@@ -25,6 +30,8 @@ import sys
 import tempfile
 
 LINKED = {"memset"}
+FAR = "ieee754_parts"  # a crate that p3p rests on by others
+TEN = {"Int": {"width": 64, "value": 10}}
 DIVIDING = """
 unsigned __int128 wide(unsigned __int128 a, unsigned __int128 b) { return a / b; }
 unsigned long word(unsigned long a, unsigned long b) { return a / b; }
@@ -47,11 +54,21 @@ def dividing_instructions(path):
     return re.findall(r"^.*\sidiv.*$|^.*\sdiv[bwlq]?\s.*$", output("objdump", "-d", path), re.M)
 
 
-def below(crate):
-    """The repository's libraries that a crate rests on, by crates.txt."""
+def named(path):
+    """The crates of which a library has a function by name."""
+    return set(re.findall(r" (\w+)::", output("nm", path)))
+
+
+def lines():
+    """What crates.txt says that each crate uses."""
     with open("crates.txt", encoding="utf-8") as f:
         rows = re.findall(r"^(\w+)(?: staticlib)?:(.*)$", f.read(), re.M)
-    uses, found, rest = {name: row.split() for name, row in rows}, set(), [crate]
+    return {name: row.split() for name, row in rows}
+
+
+def below(crate):
+    """The repository's libraries that a crate rests on, by crates.txt."""
+    uses, found, rest = lines(), set(), [crate]
     while rest:
         new = [each for each in uses.get(rest.pop(), []) if each in uses and each not in found]
         found.update(new)
@@ -93,12 +110,15 @@ def other_divisors(trees):
     return [(function, parts[2]) for function, parts in found if not is_power_of_two(parts[2])]
 
 
-def by_ten(crate):
-    """What is compiled of a crate, with its first division made one by ten."""
-    tree = program(crate)
-    _, parts = next(divisions(tree, crate))
-    parts[2] = {"Int": {"width": 64, "value": 10}}
-    return {crate: tree}
+def planted(trees):
+    """The divisors that are found with the first division of FAR, if it is among these, made one by
+    ten, where that is all that is found."""
+    for _, parts in divisions(trees.get(FAR, []), FAR):
+        parts[2] = TEN
+        break
+    found = other_divisors(trees)
+    is_all = len(found) == 1 and found[0][0].startswith(FAR + "::")
+    return found if is_all and FAR not in lines()["p3p"] else []
 
 
 def own_divisions(crate):
@@ -126,14 +146,13 @@ def main():
     library = sys.argv[1]
     with tempfile.TemporaryDirectory() as folder:
         dividing = compiled(DIVIDING, folder)
+        trees = {crate: program(crate) for crate in below("p3p")}
+        unread = (named(library) & {*lines()}) - {*trees, "p3p"}
         # what each finds in the library, and what it must find elsewhere
         looks = {
             "nm": (linked(library) - LINKED, linked(dividing) - LINKED),
             "objdump": (dividing_instructions(library), dividing_instructions(dividing)),
-            "mir.json": (
-                other_divisors({crate: program(crate) for crate in below("p3p")}),
-                other_divisors(by_ten("ieee754_parts")),
-            ),
+            "mir.json": (other_divisors(trees) + sorted(unread), planted(trees)),
             "src": (own_divisions("p3p"), own_divisions("listing")),
         }
     faults = [f"{tool}: {each}" for tool, (found, _) in looks.items() for each in found]
