@@ -12,7 +12,8 @@ proofs/ stay as they are.
                                      differ (interpret/witness.py)
   tests/mutants/run.py --list CRATE  print the mutants and try none
   tests/mutants/run.py --edits       see that each must-fail edit changes an answer, at the input
-                                     that its comment names (check/edits.py)
+                                     that its comment names, and that no two functions have one
+                                     path (check/edits.py)
   tests/mutants/run.py --refusals    see that each was refused for a fact, by what was said of it:
                                      `rt must-fail > target/must-fail.txt` before it
                                      (check/refusals.py)
@@ -20,11 +21,15 @@ proofs/ stay as they are.
 Run it at the repository's root, after `rt check` in the crates' folders, with whose work it begins
 on the same machine. `RT` in the environment is the command for rt.
 
-A change is of an operator (+ to -, < to <=, a `!` left out), of an operand (another local or field
-of its type, two arguments or a receiver and an argument exchanged; a literal where there is no
-other of the type), of a constant (the next number or double, another variant of the same parts),
-and, when those are used up, of a called function (another of the same type). What is chosen follows
-from SEED.
+A change is of an operator (+ to -, < to <=, a `!` left out; of structs to one of the same types),
+of an operand (another local or field of its type, another field before the `..` of a struct, two
+arguments, a receiver and an argument or the two structs of an operator exchanged; a literal where
+there is no other of the type), of a constant (the next number or double, another variant of the
+same parts), and, when those are used up, of a called function (another of the same type). What is
+chosen follows from SEED.
+
+Functions go by the paths that `rt check` prints of them, of a trait's impl too
+(`linalg::matrix3::Matrix3MulVector3::mul`). A check of the unchanged crate must speak of each.
 
 Each function is proved against the contracts of those that it calls, so one check tries a mutant in
 every function of a crate at once. A function that calls a refused one is not proved either; what

@@ -52,7 +52,7 @@ class Body(Expressions):
         if self.passes("let"):
             return self.let()
         if self.passes("use"):
-            self.used()
+            self.brought.update({path[-1]: path for path in self.used()})
             return "()"
         if self.passes("return"):
             if not self.sees(";"):
@@ -142,8 +142,11 @@ class Body(Expressions):
         return {name: t for p, k in found for name, t in self.bound(p, k).items()}
 
     def kinds_of(self, pattern, kind):
-        """The types of what a tuple, a struct or a variant holds, as far as they are known."""
+        """The types of what a tuple, an array, a struct or a variant holds, as far as they are
+        known."""
         if pattern[0] == "tuple":
+            if isinstance(kind, tuple) and kind[0] == "array":
+                return [kind[1]] * len(pattern[1])
             return kind[1] if isinstance(kind, tuple) and kind[0] == "tuple" else []
         name, parts, path = pattern[1:]
         if name in ("Some", "Ok", "Err"):
@@ -153,7 +156,8 @@ class Body(Expressions):
         if len(path) > 1:
             above = self.file.named(path[:-1], self.owner)
             return self.world.enums.get(above, {}).get(name, none)
-        return self.world.structs.get(self.file.named(path, self.owner), none)
+        declared = self.world.structs if isinstance(parts, dict) else self.world.tuples
+        return declared.get(self.file.named(path, self.owner), none)
 
     def conditional(self):
         """The rest of an `if`."""

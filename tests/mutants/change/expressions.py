@@ -24,26 +24,31 @@ class Expressions(Marks):
     def binary(self, level):
         if level == len(LEVELS):
             return self.cast()
+        first = self.start()
         kind = self.binary(level + 1)
         while self.kind() == "op" and self.word() in LEVELS[level]:
-            op, start, end = self.word(), self.start(), self.end()
+            op, start, end, left = self.word(), self.start(), self.end(), (first, self.done())
             self.next()
+            second = self.start()
             other = self.binary(level + 1)
             if "<<" not in LEVELS[level]:
                 join(kind, other)
             if bare(kind) in self.world.structs:
-                kind = self.operated(bare(kind), OPERATORS[op], bare(other))
+                self.mark_exchanges([left, (second, self.done())], [bare(kind), bare(other)])
+                kind = self.operated(bare(kind), op, start, end, bare(other))
                 continue
             self.mark_operator(op, start, end, level, kind)
             if "<" in LEVELS[level]:
                 kind = "bool"
         return kind
 
-    def operated(self, owner, name, other):
+    def operated(self, owner, op, start, end, other):
         """What an operator of a struct gives."""
-        found = self.world.overloads.get((*owner[:2], f"{owner[2]}::{name}"), [])
-        of_type = [f for f in found if bare(f.params[1][1]) == other]
-        return (of_type or found)[0].result if found else None
+        found = self.overloads(owner, op)
+        own = [f for f in found if bare(f.params[1][1]) == other]
+        if own:
+            self.mark_overloaded(own[0], owner, op, start, end)
+        return (own or found)[0].result if found else None
 
     def cast(self):
         kind = self.unary()
@@ -82,7 +87,7 @@ class Expressions(Marks):
                 if self.sees("("):
                     kind = self.method(owner, name, start, at)
                 else:
-                    fields = self.world.structs.get(owner, {}) if isinstance(owner, tuple) else {}
+                    fields = self.world.parts(owner) if owner in self.world.structs else {}
                     kind = fields.get(name)
                     self.mark_field(fields, name, start, at, end)
             elif self.sees("["):
@@ -111,11 +116,9 @@ class Expressions(Marks):
         return owner[1] if isinstance(owner, tuple) and owner[0] == "array" else None
 
     def method(self, owner, name, start, at):
-        f = (
-            self.world.functions.get(owner[:2] + (owner[2] + "::" + name,))
-            if owner in self.world.structs
-            else None
-        )
+        world = self.world
+        declared = isinstance(owner, str) or owner in world.structs or owner in world.enums
+        f = world.functions.get(of_type(owner, name)) if declared else None
         spans, kinds = self.arguments([t for _, t in f.params[1:]] if f else [])
         if f:
             self.mark_method(f, owner, name, at)
@@ -204,6 +207,8 @@ class Expressions(Marks):
         path = self.names()
         end = self.done()
         visible = self.visible()
+        if len(path) == 1:
+            path = self.brought.get(path[0], path)
         if self.passes("!"):  # a macro: a proof's or a test's
             self.skip("(", ")")
             return "()"
@@ -243,6 +248,8 @@ class Expressions(Marks):
 
     def call(self, target, name, start, end):
         f = self.world.functions.get(target)
+        if target in self.world.tuples:
+            return self.given(self.world.tuples[target], target)
         if f is None and name.startswith("wrapping_"):
             word = name.split("_")[-1]
             return self.given([word, word], word)
@@ -265,12 +272,15 @@ class Expressions(Marks):
         """The fields of a struct, or of a variant."""
         self.expect("{")
         kept, self.structs = self.structs, True
+        given = {}
         for _ in self.each("}"):
             if self.passes(".."):
                 self.expression()
+                self.mark_given_fields(fields, given)
                 continue
             start, end = self.start(), self.end()
             field, visible = self.take(), self.visible()
+            given[field] = (start, end, "" if self.sees(":") else f": {field}")
             if self.passes(":"):
                 join(self.expression(), fields.get(field))
             elif field in visible:

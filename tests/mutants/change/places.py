@@ -3,8 +3,9 @@ replaced only by another of its type."""
 import re
 
 from change.changes import OPERATORS, near_floats, near_numbers
+from syntax import library
 from syntax.grammar import Grammar
-from syntax.types import INTEGERS, bare, settled
+from syntax.types import INTEGERS, bare, of_type, settled
 
 
 class Place:
@@ -29,6 +30,7 @@ class Marks(Grammar):
         super().__init__(file, file.tokens, body)
         self.world, self.f, self.owner = file.world, f, owner
         self.scopes, self.raw = [dict(f.params)], []
+        self.brought = {}  # the path of each name that a `use` within the body brings
 
     def mark(self, kind, start, end, options, late=lambda: False):
         self.raw.append(
@@ -53,6 +55,19 @@ class Marks(Grammar):
             "operator", start, end, list(OPERATORS[op]), lambda: whole and settled(kind) != "f64"
         )
 
+    def overloads(self, owner, op):
+        """The functions of an operator of a struct."""
+        return self.world.overloads.get(of_type(owner, library.OPERATORS.get(op)), [])
+
+    def mark_overloaded(self, f, owner, op, start, end):
+        """An operator of a struct: those that take and give the same types."""
+        same = [
+            o
+            for o in OPERATORS[op]
+            if any(signature(g) == signature(f) for g in self.overloads(owner, o))
+        ]
+        self.mark("operator", start, end, same)
+
     def mark_assignment(self, op, kind):
         self.mark(
             "operator",
@@ -67,17 +82,20 @@ class Marks(Grammar):
         visible = self.visible()
 
         def others():
-            own = settled(kind)
-            if own in (None, "integer", "()") or self.assigned(end):
-                return []
-            same = [n for n, t in visible.items() if n != name and settled(t) == own]
-            if not same and isinstance(own, str):
-                same = {"f64": ["0.0"], "bool": ["true", "false"]}.get(
-                    own, ["0", "1"] if own in INTEGERS else []
-                )
-            return same
+            return [] if self.assigned(end) else self.others(visible, name, settled(kind))
 
         self.mark("operand", start, end, others)
+
+    def others(self, visible, name, own):
+        """The other locals of a type; where there is none, a literal."""
+        if own in (None, "integer", "()"):
+            return []
+        same = [n for n, t in visible.items() if n != name and settled(t) == own]
+        if not same and isinstance(own, str):
+            same = {"f64": ["0.0"], "bool": ["true", "false"]}.get(
+                own, ["0", "1"] if own in INTEGERS else []
+            )
+        return same
 
     def assigned(self, end):
         return re.match(r"\s*[-+*/%|&^]?=[^=>]", self.text[end:]) is not None
@@ -91,17 +109,20 @@ class Marks(Grammar):
             self.mark_operand(kind, None, start, end)
 
     def mark_short_field(self, field, visible, start, end):
-        """A field that is given by a local of its name: the other locals of its type."""
+        """A field that is given by a local of its name: the other locals of its type; where there
+        is none, a literal."""
 
         def others():
-            own = settled(visible[field])
-            if own in (None, "integer"):
-                return []
-            return [
-                field + ": " + n for n, t in visible.items() if n != field and settled(t) == own
-            ]
+            return [f"{field}: {n}" for n in self.others(visible, field, settled(visible[field]))]
 
         self.mark("operand", start, end, others)
+
+    def mark_given_fields(self, fields, given):
+        """The fields that stand before the `..` of a struct: another of a field's type that is not
+        given, with the same value. given: where each stands, and what has to follow it."""
+        for field, (start, end, value) in given.items():
+            same = [f for f, t in fields.items() if t == fields.get(field) and f not in given]
+            self.mark("operand", start, end, [f + value for f in same])
 
     def mark_exchanges(self, spans, kinds):
         """Two arguments of one type exchanged."""
@@ -133,11 +154,12 @@ class Marks(Grammar):
 
     def mark_method(self, f, owner, name, at):
         """Another method of the same type."""
+        crate, module, own = of_type(owner, name)
         same = [
             n
             for (c, m, n), g in self.world.functions.items()
-            if (c, m) == owner[:2]
-            and n.startswith(owner[2] + "::")
+            if (c, m) == (crate, module)
+            and n.startswith(own.removesuffix(name))
             and g is not f
             and g is not self.f
             and signature(g) == signature(f)

@@ -7,6 +7,7 @@ import sys
 import tempfile
 
 from check.crates import PARTS
+from check.verdicts import states
 
 RT = os.environ.get("RT", "rt").split()
 TIME_LIMIT = 900
@@ -43,12 +44,17 @@ class Bench:
             return None
         return run.stdout + run.stderr
 
-    def begin(self):
+    def begin(self, functions):
         """The check of the unchanged crate, behind those below it where they are not proved yet;
-        what it leaves is kept for the others to begin with."""
+        what it leaves is kept for the others to begin with. It must speak of each function, or no
+        mutant of that could be called survived."""
         text = self.check(None)
         if "\nlogic=proved" not in text:
             sys.exit(f"{self.crate} is not proved as it stands:\n{text[-3000:]}")
+        said = states(text)
+        missing = [f.path for f in functions if said.get(f.path) != "proved"]
+        if missing:
+            sys.exit(f"{self.crate}: the check does not say that it proved {', '.join(missing)}")
         shutil.copytree(self.cache, self.clean)
 
     def trial(self, mutants):

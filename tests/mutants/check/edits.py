@@ -12,7 +12,9 @@ definition or a contract, the right answer is computed, and the other is worked 
   # at CALL: ANSWER, by hand ANSWER
 
 An edit of which nothing can be run (a statement; a crate that reads and writes) is worked by hand
-whole: `# by hand: ..`. A comment goes on in lines that are indented."""
+whole: `# by hand: ..`. A comment goes on in lines that are indented.
+
+With the edits it is seen that no two functions have one path, by which their mutants are kept."""
 import copy
 import os
 import re
@@ -191,7 +193,8 @@ def words(v):
 
 
 def try_edits():
-    """Whether every edit changes an answer as it says; prints those that do not."""
+    """Whether every edit changes an answer as it says, and every function has a path of its own;
+    prints those that do not."""
     world, found, wrong = World(".", CRATES), edits(), 0
     for edit in found:
         try:
@@ -201,4 +204,7 @@ def try_edits():
             print(f"{edit.name}: {e}")
     by_hand = sum(edit.by_hand for edit in found)
     print(f"{len(found)} edits, {len(found) - wrong} differ ({by_hand} of them worked by hand)")
-    return wrong == 0
+    shared = world.shared_paths()
+    if shared:
+        print(f"more than one function has the path {', '.join(shared)}")
+    return wrong == 0 and not shared

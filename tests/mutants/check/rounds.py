@@ -87,7 +87,7 @@ def try_crate(root, crate, world, rounds):
     queues = Queues(root, crate, world)
     queues.resume()
     bench = Bench(root, crate)
-    bench.begin()
+    bench.begin(queues.functions)
     while rounds:
         rounds -= 1
         turn = queues.turn()

@@ -25,10 +25,14 @@ WORDS = [
 FOLLOWS = re.compile(r"was not admitted|which (was|were) rejected, (was|were) not checked")
 
 
+def states(said):
+    """What is said of each function, by its path."""
+    return dict(re.findall(r"^fn (\S+): (.*)$", said, re.M))
+
+
 def read(said, mutants):
     """Gives each mutant its verdict, or None where another run must tell."""
-    errors = errors_by_folder(said)
-    status = dict(re.findall(r"^fn (\S+): (.*)$", said, re.M))
+    errors, status = errors_by_folder(said), states(said)
     for m in mutants:
         f, state = m.function, status.get(m.function.path, "")
         own = [words for words in errors.get(f.proof, []) if not FOLLOWS.search(words)]

@@ -1,8 +1,8 @@
 """The value of an expression of trees.py. `on_X` is for the tuples that begin with X; env has the
 values of the locals."""
 from interpret.operations import built_in, cast, method, operate
-from interpret.values import NONE, OPTION, RESULT, Cell, Outside, Return, Struct, Trap, Variant
-from interpret.values import held, taken
+from interpret.values import AMPLE, NONE, OPTION, RESULT, Cell, Outside, Return, Struct, Trap
+from interpret.values import Variant, held, taken
 from syntax.library import CONSTANTS, OPERATORS
 from syntax.types import of_type
 
@@ -107,6 +107,12 @@ class Evaluate:
             self.constants[target] = float(value) if kind == "f64" else value
         return self.constants[target]
 
+    def capacity(self, size):
+        """Of a declared type: a number, a constant, or a parameter, which stands for enough."""
+        if size in self.world.consts:
+            return self.constant(size)
+        return int(size) if size.isdecimal() else AMPLE
+
     def on_field(self, env, e, name):
         return held(self.run(e, env)).fields[name]
 
@@ -117,12 +123,25 @@ class Evaluate:
         return xs[at]
 
     def on_part(self, env, e, low, high):
+        xs, first, last = self.part(env, e, low, high)
+        return xs[first:last]
+
+    def part(self, env, e, low, high):
+        """A slice, and where a part of it begins and ends."""
         xs = held(self.run(e, env))
-        first = 0 if low is None else self.run(low, env)
-        last = len(xs) if high is None else self.run(high, env)
+        first = 0 if low is None else held(self.run(low, env))
+        last = len(xs) if high is None else held(self.run(high, env))
         if not 0 <= first <= last <= len(xs):
             raise Trap("index")
-        return xs[first:last]
+        return xs, first, last
+
+    def copied(self, env, target, source):
+        """Replaces the entries of a slice, or of a part of it, by as many others."""
+        place = target[1:] if target[0] == "part" else (target, None, None)
+        (xs, first, last), more = self.part(env, *place), held(self.run(source, env))
+        if len(more) != last - first:
+            raise Trap("slices of two lengths")
+        xs[first:last] = more
 
     def on_range(self, env, low, high):
         return range(held(self.run(low, env)), held(self.run(high, env)))
@@ -228,6 +247,8 @@ class Evaluate:
         raise Outside()
 
     def on_method(self, env, e, name, args):
+        if name == "copy_from_slice":
+            return self.copied(env, e, *args)
         own = self.run(e, env)
         values = [self.run(a, env) for a in args]
         for kind in types_of(held(own)):

@@ -3,7 +3,7 @@ import math
 import random
 import re
 
-from interpret.values import Cell, Struct, Variant
+from interpret.values import NONE, RESULT, Cell, Outside, Struct, Variant, some
 from syntax.types import settled
 
 SPECIAL = [
@@ -91,7 +91,18 @@ class Inputs:
             return inner if isinstance(inner, list) else Cell(inner) if len(kind) > 2 else inner
         if kind[0] == "array":
             return self.array(kind[1], kind[2])
-        return self.struct(kind) if kind in self.world.structs else self.variant(kind)
+        if kind[0] == "tuple":
+            return tuple(self.make(t) for t in kind[1])
+        if kind[0] == "option":
+            return some(self.make(kind[1])) if self.rng.random() < 0.7 else NONE
+        if kind[0] == "result":
+            name = self.rng.choice(["Ok", "Err"])
+            return Variant(RESULT, name, [self.make(kind[1 + (name == "Err")])])
+        if kind in self.world.structs:
+            return self.struct(kind)
+        if kind not in self.world.enums:
+            raise Outside()
+        return self.variant(kind)
 
     def double(self):
         r = self.rng
@@ -138,7 +149,7 @@ class Inputs:
         return [self.make(inner) for _ in range(n)]
 
     def struct(self, kind):
-        fields = self.world.structs[kind]
+        fields = self.world.parts(kind)
         if self.mode == "frame" and kind[2] in ("World", "Bearings"):
             part = self.frame[kind[2] == "Bearings"]
             return Struct(

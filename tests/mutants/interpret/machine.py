@@ -2,7 +2,7 @@
 is for the statements that begin with X."""
 from interpret.evaluate import Evaluate, fits
 from interpret.trees import Parser
-from interpret.values import Break, Return, Trap, held, taken
+from interpret.values import Bounded, Break, Return, Trap, held, taken
 
 STEPS = 20000
 
@@ -74,8 +74,10 @@ class Machine(Evaluate):
                 env[name] = inner[name]
         return value
 
-    def do_let(self, env, pattern, e, other):
+    def do_let(self, env, pattern, kind, e, other):
         value = taken(held(self.run(e, env))) if e[0] != "lend" else self.run(e, env)
+        if isinstance(value, Bounded) and kind is not None:
+            value.capacity = self.capacity(kind[3])
         bound = fits(pattern, value)
         if bound is None:
             self.run(other, env)
@@ -104,7 +106,8 @@ class Machine(Evaluate):
 
     def do_for(self, env, pattern, over, body):
         try:
-            for turn, value in enumerate(list(held(self.run(over, env)))):
+            values = held(self.run(over, env))
+            for turn, value in enumerate(values if isinstance(values, range) else list(values)):
                 if turn > STEPS:
                     raise Trap("too many turns")
                 inner = {**env, **fits(pattern, value)}

@@ -4,7 +4,8 @@
   2^52 + 1, 1 - 2^-53     an exact number, for a double or a whole number
   (1, 2, 3)               a struct, its fields in the order in which they are declared
   [1, 2, 0; 46], b"ab"    an array or a slice; `0; 46` is a 0 46 times
-  Made((1, 0, 0), zero)   a variant; Stop {refusal: 9}, where its parts have names; Some(1), None
+  Made((1, 0, 0), zero)   a variant; Stop {refusal: 9}, where its parts have names; Some(1), None,
+                          Ok(1), Err(7)
   zero                    a struct or an array of zeros
   frame[17]               what the stored frame 17 (from 0) has of this type
 
@@ -17,7 +18,8 @@ import struct
 from fractions import Fraction
 
 from interpret.operations import NAN
-from interpret.values import OPTION, RESULT, Bounded, Cell, Struct, Variant, held, plain, taken
+from interpret.values import AMPLE, OPTION, RESULT, Bounded, Cell, Struct, Variant
+from interpret.values import held, plain, taken
 from syntax.tokens import Cursor, literal, tokens
 from syntax.types import settled
 
@@ -26,9 +28,6 @@ FRAMES, WORDS = os.path.join("crates", "replay", "data", "rust", "frame.bin"), 8
 
 class Any:
     """Stands for any value."""
-
-
-AMPLE = 1 << 14  # of a capacity that is a parameter, as much as an input needs
 
 
 class Prefix(list):

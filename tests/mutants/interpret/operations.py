@@ -3,7 +3,7 @@ in."""
 import math
 import struct
 
-from interpret.values import NONE, RESULT, Outside, Trap, Variant, some
+from interpret.values import NONE, RESULT, Bounded, Outside, Trap, Variant, some
 
 NAN = float("nan")
 
@@ -105,6 +105,7 @@ BUILT_IN = {
     "BigEndian::read_u64": lambda s: int.from_bytes(bytes(s[:8]), "big"),
     "BigEndian::read_u16": lambda s: int.from_bytes(bytes(s[:2]), "big"),
     "itoa::Buffer::new": list,
+    "ArrayVec::new": Bounded,
     "u8::try_from": narrowed(8),
     "u32::try_from": narrowed(32),
     "i32::try_from": lambda n: Variant(RESULT, "Ok", [n])

@@ -61,13 +61,12 @@ class Parser(Grammar):
     def let(self):
         self.passes("mut")
         pattern = self.pattern()
-        if self.passes(":"):
-            self.type(self.owner)
+        kind = self.type(self.owner) if self.passes(":") else None
         self.expect("=")
         value = self.expression()
         other = self.block() if self.passes("else") else None
         self.expect(";")
-        return ("let", pattern, value, other)
+        return ("let", pattern, kind, value, other)
 
     def expression(self, structs=True):
         kept, self.structs = self.structs, structs

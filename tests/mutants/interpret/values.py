@@ -31,6 +31,9 @@ class Variant:
         self.key, self.name, self.parts = key, name, parts
 
 
+AMPLE = 1 << 14  # of a capacity that is a parameter, as much as an input needs
+
+
 class Bounded(list):
     """An array with a capacity, and as many entries as it holds."""
 

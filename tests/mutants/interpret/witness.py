@@ -32,8 +32,8 @@ def differs(machine, function, text):
         if time.monotonic() - began > SECONDS:
             break
         inputs.begin()
-        args = inputs.arguments(function)
         try:
+            args = inputs.arguments(function)
             expected = outcome(machine, function, copy.deepcopy(args), None)
             if expected != "trap" and outcome(machine, function, args, changed) != expected:
                 return True

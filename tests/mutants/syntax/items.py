@@ -4,7 +4,8 @@ from syntax.types import Types, of_type
 
 
 class Function:
-    """A function of a crate; places is filled by functions_of (change/bodies.py)."""
+    """A function of a crate; path is the name that rt prints of it, which no other one has. places
+    is filled by functions_of (change/bodies.py)."""
 
     def __init__(self, path, public, file, start):
         self.path, self.public, self.file, self.start, self.end = path, public, file, start, 0
@@ -19,14 +20,15 @@ class Items(Types):
 
     def declare(self):
         while self.kind() != "end":
-            self.item(None)
+            self.item(None, (self.file.module,))
 
-    def item(self, owner):
-        """An item; owner is the type whose `impl` it stands in."""
-        public = self.attributes()
+    def item(self, owner, above, public=False):
+        """An item; owner is the type whose `impl` it stands in, above what the name that rt prints
+        of a function has between its crate and itself. public: whether it is so without `pub`."""
+        public = self.attributes() or public
         word = self.word()
         if word == "fn":
-            self.function(public, owner)
+            self.function(public, owner, above)
         elif word in ("ghost", "mod") or word == "type" and owner:
             self.pass_line()
         elif word == "trait":
@@ -181,16 +183,24 @@ class Items(Types):
         return [self.type_at(at) for at in parts]
 
     def impl_item(self):
-        """The functions of a type, or a trait's for it."""
+        """The functions of a type, or a trait's for it. rt prints those of a type by the module
+        that declares it, and a trait's by the module of the `impl` and a name of that: the type's
+        words before the trait's, `Matrix3MulVector3`. A trait's are as public as it is, which all
+        are."""
         if self.sees("<"):
             self.skip("<", ">")
+        first = self.at
         name = self.implemented()
-        if self.passes("for"):
+        above = self.file.names.get(name, self.file.key(name))[1:]
+        of_trait = self.passes("for")
+        if of_trait:
+            second = self.at
             name = self.implemented()
+            above = (self.file.module, self.joined_at(second) + self.joined_at(first))
         while not self.passes("{"):
             self.next()
         while not self.passes("}"):
-            self.item(name)
+            self.item(name, above, of_trait)
 
     def implemented(self):
         """The name of a trait or of a type, or an array's text."""
@@ -204,11 +214,32 @@ class Items(Types):
             self.skip("<", ">")
         return name
 
-    def function(self, public, owner):
+    def joined_at(self, at):
+        kept, self.at = self.at, at
+        words = self.joined()
+        self.at = kept
+        return words
+
+    def joined(self):
+        """The words of a type or a trait with its arguments, as rt joins them: ArrayPose4 of
+        `[Pose; 4]`."""
+        if self.passes("&"):
+            return "Ref" + self.joined()
+        if self.passes("["):
+            inner = self.joined()
+            self.expect(";")
+            length = self.take()
+            self.expect("]")
+            return f"Array{inner}{length}"
+        name = self.names()[-1]
+        given = [self.joined() for _ in self.each(">")] if self.passes("<") else []
+        return name[0].upper() + name[1:] + "".join(given)
+
+    def function(self, public, owner, above):
         start = self.start()
         self.next()
         name = self.take()
-        path = "::".join(p for p in (self.file.crate, self.file.module, owner, name) if p)
+        path = "::".join(p for p in (self.file.crate, *above, name) if p)
         f = Function(path, public, self.file, start)
         if self.sees("<"):
             f.generic = True

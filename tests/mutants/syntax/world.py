@@ -1,6 +1,7 @@
 """The crates' files, and the types, constants and functions that they declare."""
 import os
 import re
+from collections import Counter
 
 from syntax.items import Items
 from syntax.tokens import tokens
@@ -38,6 +39,11 @@ class World:
         if f not in found:
             found.append(f)
         self.functions[key] = f
+
+    def shared_paths(self):
+        """The paths that more than one function has."""
+        counts = Counter(f.path for file in self.files for f, _, _ in file.bodies)
+        return [path for path, count in counts.items() if count > 1]
 
     def parts(self, kind):
         """The types of a struct's fields, which are numbers from 0 where they have no names."""
