@@ -1,6 +1,6 @@
 -- The solve about the first target and its choice over lent arrays: what is read, and what the
--- origin holds when the solve returns. A refused solve leaves it as it was: document 01,
--- "Questions, in order".
+-- origin holds when the solve returns. A refused solve leaves it as it was, since a refusal writes
+-- nothing.
 use Rattle.std.specs.Prelude.{ℕ, List, [], ◌∷◌, eqb, Float, if◌then◌else◌}
 use Rattle.frames.specs.Lent.{vector_at, world_at, bearings_at}
 use Rattle.about.specs.SolveAbout.{solve_about}

@@ -1,6 +1,6 @@
--- The frame of specs/BehindCamera: its answer; document 01's choice took the pose that puts the
--- checking target behind the camera; the choice takes the other, with a higher score. They compute.
--- Assumes nothing.
+-- The frame of specs/BehindCamera: its answer; the choice that gives each pose a score takes the
+-- one that puts the checking target behind the camera; the choice takes the other, with a higher
+-- score. They compute. Assumes nothing.
 use mathlib.Core.Path.{◌≡◌, refl}
 use lib.Dec.{T}
 use lib.Ieee.{lt}

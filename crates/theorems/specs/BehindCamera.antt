@@ -1,9 +1,10 @@
--- A frame whose checking target one pose puts behind the camera, and that pose won document 01's
--- choice: document 02, §2. A plate in counts of 4,096 to the metre with a checking target beside
--- it, 1.5 metres before the camera; the bearing to the target is off by some hundred-thousandth, as
--- a camera's is. The answer is the Rust's (reference/inputs/theorems.txt): the second pose is the
--- one that the frame was made with, the first puts the target 0.55 metres behind the camera. What
--- the choices among the two take is proofs/BehindCamera.
+-- A frame whose checking target one pose puts behind the camera, and that pose won the choice while
+-- each pose had a score (docs/changes/02-target-behind.md). A plate in counts of 4,096 to the metre
+-- with a checking target beside it, 1.5 metres before the camera; the bearing to the target is off
+-- by some hundred-thousandth, as a camera's is. The answer is the Rust's
+-- (reference/inputs/theorems.txt): the second pose is the one that the frame was made with, the
+-- first puts the target 0.55 metres behind the camera. What the choices among the two take is
+-- proofs/BehindCamera.
 use Rattle.std.specs.Prelude.{ℕ, false, [], ◌∷◌, Float}
 use Rattle.ieee754.specs.Literal.{double}
 use Rattle.linalg.specs.Vectors.{vector}
@@ -79,7 +80,7 @@ behind_answer = record {
   lifted = false ∷ false ∷ false ∷ false ∷ [];
 }
 
--- document 01's choice among the two: each has a score, wherever it puts the target
+-- the choice among the two while each had a score, wherever it put the target
 unfoldable pub choice_before : Result Best ℕ
 choice_before =
     let score : Pose → Option Float
